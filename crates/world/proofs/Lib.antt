@@ -10,3 +10,4 @@ pub mod Returned
 pub mod Few
 pub mod NodeSlot
 pub mod ActorSteps
+pub mod NodeStates

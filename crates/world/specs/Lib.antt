@@ -6,4 +6,5 @@ pub mod Homes
 pub mod Worlds
 pub mod Moves
 pub mod Outcomes
+pub mod NodeStates
 pub mod Actors

@@ -1,11 +1,11 @@
 -- What a program's outcome says.
-use Rattle.std.specs.Prelude.{◌≡◌, ℕ, ◌<◌, true, ◌&&◌, nat_le, List, ◌++◌, ◌∷◌, Ok, map}
+use Rattle.std.specs.Prelude.{◌≡◌, ℕ, suc, ◌<◌, Bool, true, not, ◌&&◌, nat_le, List, ◌++◌, ◌∷◌, Ok, map}
 use Rattle.volume_model.specs.Plan.{Plan}
-use Rattle.volume_model.specs.Lists.{IsIn, IsBeginningOf}
+use Rattle.volume_model.specs.Lists.{IsIn, IsBeginningOf, each_below}
 use Rattle.volume_model.specs.Redo.{Redo, up_to}
-use Rattle.volume_model.specs.Client.{has_cut}
+use Rattle.volume_model.specs.Client.{Stage, has_cut, is_born}
 use Rattle.volume_model.specs.ClientPoints.{is_consistency_point}
-use Rattle.volume_model.specs.World.{Event, Step, opening, run, results, step}
+use Rattle.volume_model.specs.World.{Event, Step, World, opening, run, results, step}
 use Rattle.volume_model.specs.World.Event.{Open}
 use Rattle.volume_model.specs.Headline.{KeepsCommits, SaysTruePages, StaysSo}
 use Rattle.volume_model.specs.Finds.{HasOneLineageAnEpoch, StaysFound}
@@ -16,6 +16,7 @@ use Rattle.volume_model.specs.Outcome.{writers_in, finds_in}
 use Rattle.writer_core.specs.Log.{log_in}
 use Rattle.writer_core.specs.Logs.{log_of_set}
 use Rattle.lineage.specs.Lineage.{lineage_of}
+use Rattle.world.specs.Actors.{plan_of, world_of, AreActors}
 use Rattle.world.specs.declared.outcome.RecoveryOutcome.{RecoveryOutcome}
 use Rattle.world.specs.declared.outcome.WriterOutcome.{WriterOutcome}
 use Rattle.world.specs.declared.outcome.Outcome.{Outcome}
@@ -33,6 +34,15 @@ find_of f = record {
   lineage = lineage_of
       f.found.lineage;
 }
+
+-- a recovery that hasn't cut
+abbrev pub is_reading : Stage → Bool
+is_reading stage = is_born stage && not (has_cut stage)
+
+-- the volume epochs of the recoveries that haven't cut, in growing order
+abbrev pub readers_in : World → List ℕ
+readers_in world =
+    each_below (suc world.authority.last_volume) (λ volume. is_reading (world.clients volume).stage) (λ volume. volume)
 
 -- What was acknowledged after some of the events stays so to their end, with the same log before it, and no opened
 -- writer's durable point has fallen.
@@ -56,11 +66,14 @@ OpenAtTheirCuts plan events =
     → IsAtItsCut (opened.world.clients volume)
 
 -- The outcome is exactly the model's run of these events: the result of each event, and of the world after them the
--- opened writers and the recoveries that have cut.
+-- opened writers and the recoveries that have cut. Its actors are those of the model's world.
 pub record IsOutcomeOfRun (plan : Plan) (events : List Event) (outcome : Outcome) : Type 0 where
   pub results_are : outcome.results.items ≡ results plan (opening plan) events
   pub writers_are : map opened_of outcome.writers.items ≡ writers_in (run plan (opening plan) events)
   pub finds_are : map find_of outcome.finds.items ≡ finds_in (run plan (opening plan) events)
+  pub are : AreActors outcome.actors
+  pub plan_is : plan_of outcome.actors ≡ plan
+  pub world_is : world_of outcome.actors ≡ run plan (opening plan) events
 
 -- Of the run of these events every promise of the volume holds.
 pub record KeepsPromises (plan : Plan) (events : List Event) : Type 0 where

@@ -18,9 +18,9 @@ use wire::Message;
 /// All actors, and all messages ever made, in the order of making.
 #[derive(Drop)]
 pub struct Actors {
-    plan: Arc<CheckedPlan>,
+    pub(crate) plan: Arc<CheckedPlan>,
     pub(crate) authority: Authority,
-    nodes: Vec<Option<Segment>>,
+    pub(crate) nodes: Vec<Option<Segment>>,
     /// The client of each volume epoch at its place, and none where no View has reached it. The authority assigns volume epochs one after the
     /// other, from 1 on, and a client is born only of a View of its own, so the table has at most one place an event beside its first two.
     pub(crate) clients: Vec<Option<Box<Client>>>,

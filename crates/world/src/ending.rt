@@ -2,6 +2,7 @@
 
 ghost use Rattle.std.specs.Prelude.{◌≡◌, ◌++◌, ◌∷◌, [], ◌&&◌, IfOk, Some, None, if◌then◌else◌, map, nat_lt, option_map};
 ghost use Rattle.volume_model.specs.Client.{has_cut, is_open};
+ghost use Rattle.world.specs.Outcomes.{is_reading};
 ghost use Rattle.writer_core.specs.Writers.{client_of};
 ghost use Rattle.world.specs.Clients.{seen_client};
 ghost use Rattle.volume_model.specs.Outcome.{found_client, opened_client};
@@ -54,10 +55,21 @@ fn found_by(volume: u32, client: &Client) -> Result<Option<RecoveryOutcome>, All
     Ok(Some(RecoveryOutcome { volume, found }))
 }
 
+/// Returns whether a client is a recovery that hasn't cut.
+fn is_reader(client: &Client) -> bool
+    ensures { result ≡ is_reading (seen_client client.now).stage }
+{
+    match client.state() {
+        ClientState::Recovery(recovery) => recovery.found().is_none(),
+        _ => false,
+    }
+}
+
 impl Actors {
     ghost use Rattle.volume_model.specs.Outcome.{finds_in, writers_in};
     ghost use Rattle.world.specs.Actors.{world_of};
     ghost use Rattle.world.specs.Clients.{clients_of};
+    ghost use Rattle.world.specs.Outcomes.{readers_in};
 
     /// Adds the outcome of the writer of a volume epoch, if there is one.
     fn add_writer(&self, volume: u32, ends: &mut Vec<WriterOutcome>) -> Result<(), AllocError>
@@ -116,5 +128,32 @@ impl Actors {
         }
         self.add_find(last, &mut ends)?;
         Ok(ends)
+    }
+
+    /// Adds a volume epoch, if its client is a recovery that hasn't cut.
+    fn add_reader(&self, volume: u32, readers: &mut Vec<u32>) -> Result<(), AllocError>
+        ensures { IfOk result (λ _. readers.new.items ≡ readers.old.items
+            ++ (if is_reading (clients_of self.now.clients.items volume).stage then volume ∷ [] else [])) }
+    {
+        let Some(client) = client_at(self.clients.as_slice(), volume) else {
+            return Ok(());
+        };
+        if is_reader(client) {
+            readers.push(volume)?;
+        }
+        Ok(())
+    }
+
+    /// Returns the volume epochs of the recoveries that haven't cut, in growing order.
+    pub fn readers(&self, alloc: Global) -> Result<Vec<u32>, AllocError>
+        ensures { IfOk result (λ readers. readers.items ≡ readers_in (world_of self.now)) }
+    {
+        let last = self.authority.last_volume();
+        let mut readers = Vec::new(alloc);
+        for volume in 0..last {
+            self.add_reader(volume, &mut readers)?;
+        }
+        self.add_reader(last, &mut readers)?;
+        Ok(readers)
     }
 }

@@ -1,7 +1,9 @@
 //! The outcome of a run.
 
 use crate::actors::Actors;
+use crate::node_states::{NodeState, states_of};
 use recovery::Found;
+use std::alloc::{AllocError, Global};
 use volume_model::Fault;
 use writer_core::Log;
 
@@ -40,4 +42,27 @@ pub struct Outcome {
     pub finds: Vec<RecoveryOutcome>,
     /// The actors as the run left them, and all messages: their memory is given back with the outcome, whenever that is.
     pub(crate) actors: Actors,
+}
+
+impl Outcome {
+    ghost use Rattle.std.specs.Prelude.{◌≡◌, IfOk};
+    ghost use Rattle.world.specs.Actors.{plan_of, world_of, AreActors};
+    ghost use Rattle.world.specs.NodeStates.{nodes_in};
+    ghost use Rattle.world.specs.Outcomes.{readers_in};
+
+    /// Returns the volume epochs of the recoveries that haven't cut, in growing order.
+    pub fn readers(&self, alloc: Global) -> Result<Vec<u32>, AllocError>
+        ensures { IfOk result (λ readers. readers.items ≡ readers_in (world_of self.now.actors)) }
+    {
+        self.actors.readers(alloc)
+    }
+
+    /// Returns the nodes that the plan names, by group and member. It takes the memory of one node's snapshot at a
+    /// time. The actors are those of a run, as the contract of [`run`](crate::run) says.
+    pub fn into_nodes(self, alloc: Global) -> Result<Vec<NodeState>, AllocError>
+        requires { AreActors self.actors }
+        ensures { IfOk result (λ nodes. nodes.items ≡ nodes_in (plan_of self.actors) (world_of self.actors)) }
+    {
+        states_of(alloc, self.actors)
+    }
 }
