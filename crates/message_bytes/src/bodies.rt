@@ -26,7 +26,7 @@ fn put_labelled(out: &mut Vec<u8>, group: u8, label: Label) -> Result<(), AllocE
 }
 
 /// Appends a configuration and its membership epoch.
-fn put_place(out: &mut Vec<u8>, place: Place) -> Result<(), AllocError>
+pub fn put_place(out: &mut Vec<u8>, place: Place) -> Result<(), AllocError>
     ensures text { OnOk result (out.new.items ≡ out.old.items ++ place_spelled (place_of place)) }
     ensures fits { place.epoch < 2 ^ 32 }
 {

@@ -56,6 +56,17 @@ fn put_body(alloc: Global, out: &mut Vec<u8>, message: &Message) -> Result<(), F
     Ok(())
 }
 
+/// Returns how many bytes to reserve: those of a message without a list and of the longest record, and of a list its
+/// beginning, since long lists grow seldom. A message that needs more grows.
+fn bytes_to_reserve(message: &Message) -> usize {
+    match message {
+        Message::Write(_) | Message::Gossip(_) => 120,
+        Message::Report(_) | Message::Install(_) | Message::CopyReport(_) => 512,
+        Message::Page(_) => 544,
+        _ => 32,
+    }
+}
+
 /// Returns the one spelling of a message, which [`decode`](crate::decode) reads back as that message.
 ///
 /// # Errors
@@ -64,7 +75,7 @@ pub fn encode(alloc: Global, message: &Message) -> Result<Vec<u8>, Fault>
     ensures text { IfOk result (λ text. text.items ≡ message_spelled (message_of message.now)) }
     ensures reads { IfOk result (λ text. message_in text.items ≡ Ok (message_of message.now)) }
 {
-    let mut out = Vec::new(alloc);
+    let mut out = Vec::with_capacity(alloc, bytes_to_reserve(message))?;
     out.push(VERSION)?;
     out.push(kind(message))?;
     put_body(alloc, &mut out, message)?;

@@ -13,7 +13,10 @@ mod places;
 mod reading;
 mod writing;
 
+pub use bodies::put_place;
 pub use contents::read_contents;
 pub use decoding::decode;
 pub use encoding::encode;
-pub use writing::put_contents;
+pub use numbers::{u8_at, u32_at, u64_at};
+pub use places::read_place;
+pub use writing::{put_contents, put_u32, put_u64};

@@ -10,5 +10,5 @@ returns-clause-reads c =
     let m = message_of c.args.message.now in
     let b = body_spelled m in
     let head : c.push-2.new.self.items ≡ 1 ∷ kind_of m ∷ [] =
-    c.in_ok-push-2.ensures.items ∙ ap₂ (λ (x : List ℕ) (k : ℕ). x ++ k ∷ []) (c.in_ok-push.ensures.items ∙ ap (λ (x : List ℕ). x ++ 1 ∷ []) c.new-out.ensures.items) c.kind.ensures in
+    c.in_ok-push-2.ensures.items ∙ ap₂ (λ (x : List ℕ) (k : ℕ). x ++ k ∷ []) (c.in_ok-push.ensures.items ∙ ap (λ (x : List ℕ). x ++ 1 ∷ []) c.in_ok-out.ensures.items) c.kind.ensures in
     ap message_in (c.in_ok-put_body.ensures.text ∙ ap (λ (x : List ℕ). x ++ b) head) ∙ message_again m c.in_ok-put_body.ensures.reads
