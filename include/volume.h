@@ -124,6 +124,22 @@ struct volume_points {
     uint64_t last;
 };
 
+/* The state of a segment. */
+struct volume_segment_state {
+    /* The segment complete point: the greatest LSN up to which it holds all records of its group. */
+    uint64_t complete_point;
+    /* How many records it holds. */
+    uint64_t records;
+    /* The volume epoch that it has promised. */
+    uint32_t volume_epoch;
+    /* The membership epoch of the last step that it took; 0 before the first step of a member that isn't whole. */
+    uint32_t membership_epoch;
+    /* The configuration of that step. */
+    uint32_t configuration;
+    /* 1 if it is whole, else 0. */
+    uint32_t is_whole;
+};
+
 /* Writes the next message that the actor made to out, and drops it. Each message is handed out once, in the order in
  * which the actor made them. Send it to the nodes of its group, or to the client of its label, as its kind says.
  *
@@ -137,7 +153,7 @@ uint8_t volume_fault_name(uint8_t number, uint8_t *out, size_t out_length, size_
 /* Frees what the handle holds, and leaves it empty. Does nothing to an empty handle. */
 void volume_close(struct volume_handle *handle);
 
-/* Reads a plan and checks it. out, which must be empty, holds the plan then. A plan may be closed as soon as each
+/* Reads a plan and checks it. out must be empty. On success it holds the plan. A plan may be closed as soon as each
  * actor over it was made.
  *
  * Where the plan has a fault, the fault's number is returned, as docs/FAULTS.md lists them. Its line, which says the
@@ -147,20 +163,20 @@ uint8_t volume_plan_read(const uint8_t *text, size_t text_length, struct volume_
 
 /* Makes the segment of a member of a group as it is when the volume is born: a member of the group's first
  * configuration is whole and empty, any other member waits to be made whole. Call it once in the life of a node; after
- * a restart call volume_segment_resume. out, which must be empty, holds the segment then.
+ * a restart call volume_segment_resume. out must be empty. On success it holds the segment.
  *
  * Refused 82 where the plan names no such member. */
 uint8_t volume_segment_new(struct volume_handle *plan, uint8_t group, uint8_t member, struct volume_handle *out);
 
-/* Makes a segment from the bytes that volume_segment_snapshot gave: the segment that was saved, after a restart. Then
- * give it, by volume_segment_take, each message that was logged since, in the order of the log, and drop the answers.
- * out, which must be empty, holds the segment then.
+/* Makes a segment from the bytes that volume_segment_snapshot wrote: the segment that was saved, after a restart. Then
+ * pass it, by volume_segment_take, each message that was logged since, in the order of the log, and drop the answers.
+ * out must be empty. On success it holds the segment.
  *
  * Refused 1, 2 or 3 where the bytes aren't a snapshot's, and 82 where the plan names no such member. */
 uint8_t volume_segment_resume(struct volume_handle *plan, uint8_t group, uint8_t member, const uint8_t *bytes,
     size_t bytes_length, struct volume_handle *out);
 
-/* Gives a segment a message: a StepTo, Fence, Install, Write, Gossip, CopyAsk, CopyReport or PageAsk. Its answers are
+/* Passes a segment a message: a StepTo, Fence, Install, Write, Gossip, CopyAsk, CopyReport or PageAsk. Its answers are
  * handed out by volume_next_message. Log the message before an answer leaves the node: if it can't be logged, close
  * the handle and resume the segment from the disk. A message that is refused changes nothing, and isn't logged.
  *
@@ -189,32 +205,40 @@ uint8_t volume_segment_offer(struct volume_handle *segment, uint64_t lsn);
 uint8_t volume_segment_page(struct volume_handle *segment, uint32_t block, uint64_t point, uint8_t *page,
     size_t page_length);
 
-/* Gives the segment complete point (SCL): the greatest LSN up to which the segment holds all records of its group. */
+/* Returns the segment complete point (SCL) in scl: the greatest LSN up to which the segment holds all records of its
+ * group. */
 uint8_t volume_segment_scl(struct volume_handle *segment, uint64_t *scl);
 
+/* Returns a segment's epochs, its complete point and the number of its records in state. A node has taken a step once
+ * membership_epoch is that of the step. The call may need 8 bytes of memory and some nanoseconds for each record, once
+ * after the last record that came: call it now and then, and volume_segment_scl for each message. */
+uint8_t volume_segment_state(struct volume_handle *segment, struct volume_segment_state *state);
+
 /* Writes the state of a segment, as docs/WIRE.md lays it out, and drops the pieces of copies and installs that are
- * under way, as a restart does: what the handle holds then is exactly what the bytes are resumed to. So a resumed
- * segment that takes the messages that were logged since, in order, becomes the segment that took them. needed is the
- * length, some 109 bytes a record at most.
+ * under way, as a restart does. The handle then holds exactly what the bytes are resumed to. A resumed segment that
+ * takes the messages logged since, in order, reaches the same state. needed is the length, some 109 bytes a record at
+ * most.
  *
  * Refused 92 where out is shorter than needed; 91 while there are messages to hand out. */
 uint8_t volume_segment_snapshot(struct volume_handle *segment, uint8_t *out, size_t out_length, size_t *needed);
 
 /* Makes the writer that a volume is born with: volume epoch 1, no record. Call it once in the life of the volume; each
- * later writer is what a recovery becomes. out, which must be empty, holds the writer then. */
+ * later writer is what a recovery becomes. out must be empty. On success it holds the writer. */
 uint8_t volume_writer_first(struct volume_handle *plan, struct volume_handle *out);
 
 /* Makes a recovery from a View message of the authority, as volume_authority_assign makes it. Its Fence messages, one
- * a group, are handed out by volume_next_message. out, which must be empty, holds the recovery then.
+ * a group, are handed out by volume_next_message. out must be empty. On success it holds the recovery.
  *
- * Refused 1, 2 or 3 where the bytes aren't a message's, 81 where they aren't a View's, 41 where its places aren't the
- * plan's. */
+ * Refused 1, 2 or 3 where the bytes aren't a message's; 81 where the message isn't a View; 41 where the View hasn't a
+ * place for each group of the volume's birth, has one for a group that the plan lacks, or has one that is no
+ * configuration of its group. */
 uint8_t volume_recovery_new(struct volume_handle *plan, const uint8_t *view, size_t view_length,
     struct volume_handle *out);
 
-/* Gives a recovery or a writer a message that is for it: a View, Report, Ack or Page. What it makes is handed out by
- * volume_next_message: for a later View Fences before a recovery's cut, and Installs after it. The page of a Page is
- * the engine's: the writer judges whether it is one for it, and keeps nothing.
+/* Passes a recovery or a writer a message that is for it: a View, Report, Ack or Page. What it makes is handed out by
+ * volume_next_message. A later View makes Fences before a recovery's cut, and Installs after it. Of a Page the writer
+ * only checks that it is for this writer. It keeps nothing: the engine reads the page from the message's last 512
+ * bytes.
  *
  * Refused 1, 2 or 3 where the bytes aren't a message's, 81 where the message isn't for this client, 41 where a View's
  * places aren't the plan's; 91 while there are messages to hand out. */
@@ -226,14 +250,15 @@ uint8_t volume_client_take(struct volume_handle *client, const uint8_t *bytes, s
  * where no LSNs are left. */
 uint8_t volume_recovery_cut(struct volume_handle *recovery);
 
-/* Opens a recovery: the handle holds the writer of its volume epoch then.
+/* Opens a recovery. On success the handle holds the writer of its volume epoch.
  *
  * Refused 74 before the cut, and until a write quorum of each group has acknowledged its install; 75 of a writer. */
 uint8_t volume_recovery_open(struct volume_handle *recovery);
 
-/* Issues a transaction of 1 to 32 changes: a record for each, all or none, of which the last is a consistency point.
- * The Write messages are handed out by volume_next_message, in the order of the changes; send each to all members of
- * its group. The commit is durable once volume_writer_acknowledged says so of the last record's LSN.
+/* Issues a transaction of 1 to 32 changes. Makes one record for each change; the last record is a consistency point.
+ * On a refusal it makes none. The Write messages are handed out by volume_next_message, in the order of the changes;
+ * send each to all members of its group. The commit is durable once volume_writer_acknowledged says so of the last
+ * record's LSN.
  *
  * Refused 70 of a recovery, 72 where it isn't a transaction of good changes, 77 where a group hasn't joined, 73 where
  * no LSNs are left, 71 where the log would run further ahead of the durable point than the plan allows; 94 where a
@@ -250,37 +275,37 @@ uint8_t volume_writer_resend(struct volume_handle *writer, uint64_t lsn);
  * Refused 70 of a recovery, 42 where the writer knows no such group. */
 uint8_t volume_writer_read(struct volume_handle *writer, uint8_t group, uint32_t block);
 
-/* Gives the points of a writer's log.
+/* Returns the points of a writer's log in points.
  *
  * Refused 70 of a recovery. */
 uint8_t volume_writer_points(struct volume_handle *writer, struct volume_points *points);
 
-/* Gives the LSN up to which a group's records are acknowledged by a write quorum.
+/* Returns the LSN up to which a group's records are acknowledged by a write quorum in point.
  *
  * Refused 70 of a recovery, 42 where the writer knows no such group. */
 uint8_t volume_writer_group_point(struct volume_handle *writer, uint8_t group, uint64_t *point);
 
-/* Says whether the commit at an LSN is durable: the LSN is that of a consistency point of the log, and not above the
- * durable point. No recovery will lose it then.
+/* Sets acknowledged to whether lsn is a consistency point of the log at or below the durable point. No recovery loses
+ * such a commit.
  *
  * Refused 70 of a recovery. */
 uint8_t volume_writer_acknowledged(struct volume_handle *writer, uint64_t lsn, bool *acknowledged);
 
 /* Makes the authority of a new volume: volume epoch 1 is assigned, and each group that is there at birth stands at its
- * first configuration. A volume has one authority; call it once in the life of the volume. out, which must be empty,
- * holds the authority then. */
+ * first configuration. A volume has one authority; call it once in the life of the volume. out must be empty. On
+ * success it holds the authority. */
 uint8_t volume_authority_new(struct volume_handle *plan, struct volume_handle *out);
 
-/* Makes an authority from the bytes that volume_authority_snapshot gave: the one that was saved. out, which must be
- * empty, holds the authority then.
+/* Makes an authority from the bytes that volume_authority_snapshot wrote: the one that was saved. out must be empty.
+ * On success it holds the authority.
  *
- * Refused 1, 2 or 3 where the bytes aren't a snapshot's, 2 at volume epoch 0, 42 where fewer groups have joined than
- * the plan has at birth, or more than it has. */
+ * Refused 1 or 2 where the bytes aren't an authority's snapshot, and 2 where its last volume epoch is 0; 42 where it
+ * has fewer groups than the plan has at birth, or more groups than the plan has. */
 uint8_t volume_authority_resume(struct volume_handle *plan, const uint8_t *bytes, size_t bytes_length,
     struct volume_handle *out);
 
 /* Assigns the next volume epoch, and makes the View for its recovery. Put a snapshot of the authority on the disk
- * before the View leaves; else close the handle and resume.
+ * before the View leaves. If the snapshot can't be written, close the handle and resume the authority from the disk.
  *
  * Refused 43 where no volume epoch is left. */
 uint8_t volume_authority_assign(struct volume_handle *authority);

@@ -1,5 +1,5 @@
 -- What the calls of a segment are to give.
-use Rattle.std.specs.Prelude.{◌≡◌, ℕ, List, [], Result, Ok, Err}
+use Rattle.std.specs.Prelude.{◌≡◌, ℕ, List, [], length, Result, Ok, Err}
 use Rattle.volume_model.specs.declared.fault.Fault.{Fault}
 use Rattle.volume_model.specs.Plan.{Plan}
 use Rattle.volume_model.specs.Message as model
@@ -9,7 +9,8 @@ use Rattle.segment_core.specs.Segment.{born, paged}
 use Rattle.segment_core.specs.Snapshot.{resumed}
 use Rattle.volume_c.specs.View.{View, Nothing, APlan, ANode, AClient, AnAuthority}
 use Rattle.volume_c.specs.Calls.{Step, Value, of_plan, of_node, with_value}
-use Rattle.volume_c.specs.Saved.{segment_in, segment_spelled}
+use Rattle.volume_c.specs.Saved.{flag_spelled, segment_in, segment_spelled}
+use Rattle.volume_c.specs.declared.segment_calls.VolumeSegmentState.{VolumeSegmentState}
 
 -- a node that is made has made no message
 abbrev pub node_made : Plan → ℕ → ℕ → Result Node Fault → Result (List model.Message × View) Fault
@@ -32,6 +33,27 @@ page_value block point = of_node (λ plan group member node. paged plan group me
 -- the segment complete point
 abbrev pub scl_value : View → Value ℕ
 scl_value = of_node (λ plan group member node. Ok (scl node.contents.records))
+
+-- the complete point, the number of records, the promised volume epoch, the membership epoch and the configuration of
+-- the last step, and 1 for a whole segment
+abbrev pub State : Type 0
+State = ℕ × ℕ × ℕ × ℕ × ℕ × ℕ
+
+abbrev pub state_of : VolumeSegmentState → State
+state_of s = (s.complete_point, s.records, s.volume_epoch, s.membership_epoch, s.configuration, s.is_whole)
+
+abbrev pub node_state : Node → State
+node_state node = (
+  scl node.contents.records,
+  length node.contents.records,
+  node.volume,
+  node.place.epoch,
+  node.place.configuration,
+  flag_spelled node.whole,
+)
+
+abbrev pub state_value : View → Value State
+state_value = of_node (λ plan group member node. Ok (node_state node))
 
 -- a node that drops its pieces, as at a restart
 abbrev pub dropped : Plan → ℕ → ℕ → Node → NodeAnswer

@@ -31,8 +31,8 @@ fn held_of(authority: Authority) -> Held
 }
 
 /// Makes the authority of a new volume: volume epoch 1 is assigned, and each group that is there at birth stands at its
-/// first configuration. A volume has one authority; call it once in the life of the volume. `out`, which must be empty,
-/// holds the authority then.
+/// first configuration. A volume has one authority; call it once in the life of the volume. `out` must be empty. On
+/// success it holds the authority.
 #[unsafe(no_mangle)]
 pub extern "C" fn volume_authority_new(alloc: Global, plan: &mut Handle, out: &mut Handle) -> u8
     ensures plan { plan.new.seal.held ≡ plan.old.seal.held }
@@ -51,11 +51,11 @@ pub extern "C" fn volume_authority_new(alloc: Global, plan: &mut Handle, out: &m
     }
 }
 
-/// Makes an authority from the bytes that `volume_authority_snapshot` gave: the one that was saved. `out`, which must
-/// be empty, holds the authority then.
+/// Makes an authority from the bytes that `volume_authority_snapshot` wrote: the one that was saved. `out` must be
+/// empty. On success it holds the authority.
 ///
-/// Refused 1, 2 or 3 where the bytes aren't a snapshot's, 2 at volume epoch 0, 42 where fewer groups have joined than
-/// the plan has at birth, or more than it has.
+/// Refused 1 or 2 where the bytes aren't an authority's snapshot, and 2 where its last volume epoch is 0; 42 where it
+/// has fewer groups than the plan has at birth, or more groups than the plan has.
 #[unsafe(no_mangle)]
 pub extern "C" fn volume_authority_resume(
     alloc: Global,
@@ -85,7 +85,7 @@ pub extern "C" fn volume_authority_resume(
 }
 
 /// Assigns the next volume epoch, and makes the `View` for its recovery. Put a snapshot of the authority on the disk
-/// before the View leaves; else close the handle and resume.
+/// before the View leaves. If the snapshot can't be written, close the handle and resume the authority from the disk.
 ///
 /// Refused 43 where no volume epoch is left.
 #[unsafe(no_mangle)]

@@ -61,7 +61,7 @@ fn held_of(client: Client, made: Messages) -> Held
 }
 
 /// Makes the writer that a volume is born with: volume epoch 1, no record. Call it once in the life of the volume;
-/// each later writer is what a recovery becomes. `out`, which must be empty, holds the writer then.
+/// each later writer is what a recovery becomes. `out` must be empty. On success it holds the writer.
 #[unsafe(no_mangle)]
 pub extern "C" fn volume_writer_first(alloc: Global, plan: &mut Handle, out: &mut Handle) -> u8
     ensures plan { plan.new.seal.held ≡ plan.old.seal.held }
@@ -93,10 +93,12 @@ fn born(alloc: Global, plan: Arc<CheckedPlan>, message: &Message) -> Result<Held
 }
 
 /// Makes a recovery from a `View` message of the authority, as `volume_authority_assign` makes it. Its `Fence`
-/// messages, one a group, are handed out by `volume_next_message`. `out`, which must be empty, holds the recovery then.
+/// messages, one a group, are handed out by `volume_next_message`. `out` must be empty. On success it holds the
+/// recovery.
 ///
-/// Refused 1, 2 or 3 where the bytes aren't a message's, 81 where they aren't a View's, 41 where its places aren't the
-/// plan's.
+/// Refused 1, 2 or 3 where the bytes aren't a message's; 81 where the message isn't a View; 41 where the View hasn't a
+/// place for each group of the volume's birth, has one for a group that the plan lacks, or has one that is no
+/// configuration of its group.
 #[unsafe(no_mangle)]
 pub extern "C" fn volume_recovery_new(
     alloc: Global,
@@ -124,9 +126,10 @@ pub extern "C" fn volume_recovery_new(
     }
 }
 
-/// Gives a recovery or a writer a message that is for it: a `View`, `Report`, `Ack` or `Page`. What it makes is handed
-/// out by `volume_next_message`: for a later `View` Fences before a recovery's cut, and Installs after it. The page of
-/// a `Page` is the engine's: the writer judges whether it is one for it, and keeps nothing.
+/// Passes a recovery or a writer a message that is for it: a `View`, `Report`, `Ack` or `Page`. What it makes is handed
+/// out by `volume_next_message`. A later `View` makes Fences before a recovery's cut, and Installs after it. Of a
+/// `Page` the writer only checks that it is for this writer. It keeps nothing: the engine reads the page from the
+/// message's last 512 bytes.
 ///
 /// Refused 1, 2 or 3 where the bytes aren't a message's, 81 where the message isn't for this client, 41 where a View's
 /// places aren't the plan's; 91 while there are messages to hand out.
@@ -154,7 +157,7 @@ pub extern "C" fn volume_recovery_cut(alloc: Global, recovery: &mut Handle) -> u
     client_step(alloc, recovery, ClientAction::Cut, None)
 }
 
-/// Opens a recovery: the handle holds the writer of its volume epoch then.
+/// Opens a recovery. On success the handle holds the writer of its volume epoch.
 ///
 /// Refused 74 before the cut, and until a write quorum of each group has acknowledged its install; 75 of a writer.
 #[unsafe(no_mangle)]
@@ -165,9 +168,10 @@ pub extern "C" fn volume_recovery_open(alloc: Global, recovery: &mut Handle) -> 
     client_step(alloc, recovery, ClientAction::Open, None)
 }
 
-/// Issues a transaction of 1 to 32 changes: a record for each, all or none, of which the last is a consistency point.
-/// The `Write` messages are handed out by `volume_next_message`, in the order of the changes; send each to all members
-/// of its group. The commit is durable once `volume_writer_acknowledged` says so of the last record's LSN.
+/// Issues a transaction of 1 to 32 changes. Makes one record for each change; the last record is a consistency point.
+/// On a refusal it makes none. The `Write` messages are handed out by `volume_next_message`, in the order of the
+/// changes; send each to all members of its group. The commit is durable once `volume_writer_acknowledged` says so of
+/// the last record's LSN.
 ///
 /// Refused 70 of a recovery, 72 where it isn't a transaction of good changes, 77 where a group hasn't joined, 73 where
 /// no LSNs are left, 71 where the log would run further ahead of the durable point than the plan allows; 94 where a
@@ -249,7 +253,7 @@ fn points_of_held(held: &Held, points: &mut VolumePoints) -> u8
     }
 }
 
-/// Gives the points of a writer's log.
+/// Returns the points of a writer's log in `points`.
 ///
 /// Refused 70 of a recovery.
 #[unsafe(no_mangle)]
@@ -287,7 +291,7 @@ fn point_of_held(held: &Held, group: u8, point: &mut u64) -> u8
     }
 }
 
-/// Gives the LSN up to which a group's records are acknowledged by a write quorum.
+/// Returns the LSN up to which a group's records are acknowledged by a write quorum in `point`.
 ///
 /// Refused 70 of a recovery, 42 where the writer knows no such group.
 #[unsafe(no_mangle)]
@@ -324,8 +328,8 @@ fn acknowledged_of_held(held: &Held, lsn: u64, acknowledged: &mut bool) -> u8
     }
 }
 
-/// Says whether the commit at an LSN is durable: the LSN is that of a consistency point of the log, and not above the
-/// durable point. No recovery will lose it then.
+/// Sets `acknowledged` to whether `lsn` is a consistency point of the log at or below the durable point. No recovery
+/// loses such a commit.
 ///
 /// Refused 70 of a recovery.
 #[unsafe(no_mangle)]

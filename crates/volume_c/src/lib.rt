@@ -15,7 +15,6 @@ mod constructors;
 mod handle;
 mod handle_calls;
 mod names;
-mod numbers;
 mod outbox;
 mod parts;
 mod plan_calls;
@@ -41,6 +40,7 @@ pub use handle::Handle;
 pub use handle_calls::{volume_close, volume_fault_name, volume_next_message};
 pub use plan_calls::volume_plan_read;
 pub use segment_calls::{
-    volume_segment_hydrate, volume_segment_new, volume_segment_offer, volume_segment_page,
-    volume_segment_resume, volume_segment_scl, volume_segment_snapshot, volume_segment_take,
+    VolumeSegmentState, volume_segment_hydrate, volume_segment_new, volume_segment_offer,
+    volume_segment_page, volume_segment_resume, volume_segment_scl, volume_segment_snapshot,
+    volume_segment_state, volume_segment_take,
 };

@@ -78,7 +78,7 @@ fn hold_plan(alloc: Global, plan: CheckedPlan, out: &mut Handle) -> u8
     }
 }
 
-/// Reads a plan and checks it. `out`, which must be empty, holds the plan then. A plan may be closed as soon as each
+/// Reads a plan and checks it. `out` must be empty. On success it holds the plan. A plan may be closed as soon as each
 /// actor over it was made.
 ///
 /// Where the plan has a fault, the fault's number is returned, as docs/FAULTS.md lists them. Its line, which says the

@@ -10,9 +10,10 @@ ghost use Rattle.segment_core.specs.Segment.{node_of, IsSameActor};
 ghost use Rattle.segment_core.specs.Snapshot.{node_in};
 ghost use Rattle.volume_c.specs.Saved.{head_at, flag_at, segment_in, segment_spelled, authority_in, authority_spelled};
 
-use crate::numbers::{put_place, put_u32, put_u64, read_place, u8_at, u32_at, u64_at};
 use epochs::{Authority, AuthoritySnapshot};
-use message_bytes::{put_contents, read_contents};
+use message_bytes::{
+    put_contents, put_place, put_u32, put_u64, read_contents, read_place, u8_at, u32_at, u64_at,
+};
 use segment_core::{Segment, SegmentSnapshot};
 use std::alloc::Global;
 use std::sync::Arc;

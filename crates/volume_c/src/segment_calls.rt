@@ -1,10 +1,12 @@
 //! Segments.
 
-ghost use Rattle.std.specs.Prelude.{◌≡◌, ◌≢◌, [], Some, take};
+ghost use Rattle.std.specs.Prelude.{◌≡◌, ◌≢◌, [], Some, take, IfErr, IfOk};
+ghost use Rattle.volume_model.specs.declared.fault.Fault.TheVariants.{NoMemory};
 ghost use Rattle.volume_model.specs.Node.{hydrated, offered, reaction};
+ghost use Rattle.segment_core.specs.Segment.{node_of, IsSameActor};
 ghost use Rattle.volume_c.specs.View.{seen, unsent};
 ghost use Rattle.volume_c.specs.Calls.{node_does, with_message, Does, Makes, Reads};
-ghost use Rattle.volume_c.specs.Segments.{born_step, dropped, page_value, resumed_step, scl_value, IsSaved};
+ghost use Rattle.volume_c.specs.Segments.{born_step, dropped, node_state, page_value, resumed_step, scl_value, state_of, state_value, IsSaved};
 
 use crate::actor::{Actor, Held};
 use crate::acts::{deliver_step, segment_step};
@@ -23,6 +25,24 @@ use wire::Messages;
 /// The bytes of a block.
 const BLOCK: usize = 512;
 
+/// The state of a segment.
+#[repr(C)]
+#[derive(Clone, Copy)]
+pub struct VolumeSegmentState {
+    /// The segment complete point: the greatest LSN up to which it holds all records of its group.
+    pub complete_point: u64,
+    /// How many records it holds.
+    pub records: u64,
+    /// The volume epoch that it has promised.
+    pub volume_epoch: u32,
+    /// The membership epoch of the last step that it took; 0 before the first step of a member that isn't whole.
+    pub membership_epoch: u32,
+    /// The configuration of that step.
+    pub configuration: u32,
+    /// 1 if it is whole, else 0.
+    pub is_whole: u32,
+}
+
 /// Returns what is held of a segment that has made no message.
 fn held_of(segment: Segment) -> Held
     ensures actor { result.actor ≡ Actor.Segment segment }
@@ -36,7 +56,7 @@ fn held_of(segment: Segment) -> Held
 
 /// Makes the segment of a member of a group as it is when the volume is born: a member of the group's first
 /// configuration is whole and empty, any other member waits to be made whole. Call it once in the life of a node; after
-/// a restart call `volume_segment_resume`. `out`, which must be empty, holds the segment then.
+/// a restart call `volume_segment_resume`. `out` must be empty. On success it holds the segment.
 ///
 /// Refused 82 where the plan names no such member.
 #[unsafe(no_mangle)]
@@ -64,9 +84,9 @@ pub extern "C" fn volume_segment_new(
     }
 }
 
-/// Makes a segment from the bytes that `volume_segment_snapshot` gave: the segment that was saved, after a restart.
-/// Then give it, by `volume_segment_take`, each message that was logged since, in the order of the log, and drop the
-/// answers. `out`, which must be empty, holds the segment then.
+/// Makes a segment from the bytes that `volume_segment_snapshot` wrote: the segment that was saved, after a restart.
+/// Then pass it, by `volume_segment_take`, each message that was logged since, in the order of the log, and drop the
+/// answers. `out` must be empty. On success it holds the segment.
 ///
 /// Refused 1, 2 or 3 where the bytes aren't a snapshot's, and 82 where the plan names no such member.
 #[unsafe(no_mangle)]
@@ -99,7 +119,7 @@ pub extern "C" fn volume_segment_resume(
     }
 }
 
-/// Gives a segment a message: a `StepTo`, `Fence`, `Install`, `Write`, `Gossip`, `CopyAsk`, `CopyReport` or `PageAsk`.
+/// Passes a segment a message: a `StepTo`, `Fence`, `Install`, `Write`, `Gossip`, `CopyAsk`, `CopyReport` or `PageAsk`.
 /// Its answers are handed out by `volume_next_message`. Log the message before an answer leaves the node: if it can't
 /// be logged, close the handle and resume the segment from the disk. A message that is refused changes nothing, and
 /// isn't logged.
@@ -209,7 +229,8 @@ fn scl_of_held(held: &Held, scl: &mut u64) -> u8
     }
 }
 
-/// Gives the segment complete point (SCL): the greatest LSN up to which the segment holds all records of its group.
+/// Returns the segment complete point (SCL) in `scl`: the greatest LSN up to which the segment holds all records of its
+/// group.
 #[unsafe(no_mangle)]
 pub extern "C" fn volume_segment_scl(alloc: Global, segment: &mut Handle, scl: &mut u64) -> u8
     ensures reads { Reads (scl_value (seen segment.old.seal.held)) scl.new result segment.old.seal.held
@@ -220,6 +241,67 @@ pub extern "C" fn volume_segment_scl(alloc: Global, segment: &mut Handle, scl: &
         return WRONG_HANDLE;
     };
     let status = scl_of_held(&held, scl);
+    segment.put(held);
+    status
+}
+
+/// Returns the state of a segment.
+///
+/// # Errors
+/// `NoMemory`.
+fn state(alloc: Global, segment: &mut Segment) -> Result<VolumeSegmentState, Fault>
+    ensures own { IfErr result (λ fault. fault ≡ NoMemory) }
+    ensures state { IfOk result (λ state. state_of state ≡ node_state (node_of segment.old)) }
+    ensures node { node_of segment.new ≡ node_of segment.old }
+    ensures actor { IsSameActor segment.old segment.new }
+{
+    let complete_point = segment.scl();
+    let snapshot = segment.snapshot(alloc)?;
+    Ok(VolumeSegmentState {
+        complete_point,
+        records: snapshot.contents.records.len() as u64,
+        volume_epoch: snapshot.volume,
+        membership_epoch: snapshot.place.epoch,
+        configuration: u32::from(snapshot.place.configuration),
+        is_whole: u32::from(snapshot.whole),
+    })
+}
+
+/// Reads the state of the segment that is held.
+fn state_of_held(alloc: Global, held: &mut Held, out: &mut VolumeSegmentState) -> u8
+    ensures reads { Reads (state_value (seen (Some held.old))) (state_of out.new) result (Some held.old)
+        (Some held.new) }
+    ensures out { result ≢ 0 → out.new ≡ out.old }
+{
+    match &mut held.actor {
+        Actor::Segment(segment) => match state(alloc, segment) {
+            Ok(state) => {
+                *out = state;
+                0
+            }
+            Err(fault) => fault.number(),
+        },
+        _ => WRONG_HANDLE,
+    }
+}
+
+/// Returns a segment's epochs, its complete point and the number of its records in `state`. A node has taken a step
+/// once `membership_epoch` is that of the step. The call may need 8 bytes of memory and some nanoseconds for each
+/// record, once after the last record that came: call it now and then, and `volume_segment_scl` for each message.
+#[unsafe(no_mangle)]
+pub extern "C" fn volume_segment_state(
+    alloc: Global,
+    segment: &mut Handle,
+    state: &mut VolumeSegmentState,
+) -> u8
+    ensures reads { Reads (state_value (seen segment.old.seal.held)) (state_of state.new) result
+        segment.old.seal.held segment.new.seal.held }
+    ensures state { result ≢ 0 → state.new ≡ state.old }
+{
+    let Some(mut held) = segment.take(alloc) else {
+        return WRONG_HANDLE;
+    };
+    let status = state_of_held(alloc, &mut held, state);
     segment.put(held);
     status
 }
@@ -250,9 +332,9 @@ fn save_held(alloc: Global, held: &mut Held, out: &mut [u8], needed: &mut usize)
 }
 
 /// Writes the state of a segment, as docs/WIRE.md lays it out, and drops the pieces of copies and installs that are
-/// under way, as a restart does: what the handle holds then is exactly what the bytes are resumed to. So a resumed
-/// segment that takes the messages that were logged since, in order, becomes the segment that took them. `needed` is
-/// the length, some 109 bytes a record at most.
+/// under way, as a restart does. The handle then holds exactly what the bytes are resumed to. A resumed segment that
+/// takes the messages logged since, in order, reaches the same state. `needed` is the length, some 109 bytes a record
+/// at most.
 ///
 /// Refused 92 where `out` is shorter than `needed`; 91 while there are messages to hand out.
 #[unsafe(no_mangle)]

@@ -15,8 +15,9 @@ use crate::handle::Handle;
 use crate::handle_calls::{volume_close, volume_fault_name, volume_next_message};
 use crate::plan_calls::volume_plan_read;
 use crate::segment_calls::{
-    volume_segment_hydrate, volume_segment_new, volume_segment_offer, volume_segment_page,
-    volume_segment_resume, volume_segment_scl, volume_segment_snapshot, volume_segment_take,
+    VolumeSegmentState, volume_segment_hydrate, volume_segment_new, volume_segment_offer,
+    volume_segment_page, volume_segment_resume, volume_segment_scl, volume_segment_snapshot,
+    volume_segment_state, volume_segment_take,
 };
 use std::alloc::Global;
 
@@ -91,7 +92,7 @@ const SEGMENT: &[u8] = &[
 ];
 
 /// What each call returns that is given empty handles.
-fn statuses(alloc: Global) -> [u8; 27] {
+fn statuses(alloc: Global) -> [u8; 28] {
     let mut none = Handle::empty(alloc);
     let mut out = Handle::empty(alloc);
     let mut bytes = [0u8; 512];
@@ -103,6 +104,14 @@ fn statuses(alloc: Global) -> [u8; 27] {
         durable: 0,
         start: 0,
         last: 0,
+    };
+    let mut state = VolumeSegmentState {
+        complete_point: 0,
+        records: 0,
+        volume_epoch: 0,
+        membership_epoch: 0,
+        configuration: 0,
+        is_whole: 0,
     };
     let change = VolumeChange {
         block: 0,
@@ -120,6 +129,7 @@ fn statuses(alloc: Global) -> [u8; 27] {
         volume_segment_offer(alloc, &mut none, 1),
         volume_segment_page(alloc, &mut none, 0, 0, &mut bytes),
         volume_segment_scl(alloc, &mut none, &mut number),
+        volume_segment_state(alloc, &mut none, &mut state),
         volume_segment_snapshot(alloc, &mut none, &mut bytes, &mut needed),
         volume_writer_first(alloc, &mut none, &mut out),
         volume_recovery_new(alloc, &mut none, VIEW, &mut out),
@@ -144,7 +154,7 @@ fn statuses(alloc: Global) -> [u8; 27] {
 
 #[test]
 fn empty_handles_are_refused(rt: HostRuntime) {
-    assert!(rt; statuses(rt.alloc()) == [90u8; 27]);
+    assert!(rt; statuses(rt.alloc()) == [90u8; 28]);
 }
 
 #[test]
