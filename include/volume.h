@@ -140,6 +140,14 @@ struct volume_segment_state {
     uint32_t is_whole;
 };
 
+/* What the whole members of a group allow after an advance. */
+struct volume_readiness {
+    /* Whether they satisfy the configuration's read expression. Advance only if they do. */
+    bool can_read;
+    /* Whether they satisfy its write expression. If not, commits wait until more members have hydrated. */
+    bool can_write;
+};
+
 /* Writes the next message that the actor made to out, and drops it. Each message is handed out once, in the order in
  * which the actor made them. Send it to the nodes of its group, or to the client of its label, as its kind says.
  *
@@ -331,6 +339,14 @@ uint8_t volume_authority_grow(struct volume_handle *authority);
 /* Writes the state of an authority, as docs/WIRE.md lays it out: 23 bytes at most. needed is the length; 92 where out
  * is shorter. */
 uint8_t volume_authority_snapshot(struct volume_handle *authority, uint8_t *out, size_t out_length, size_t *needed);
+
+/* Returns in readiness what the members whole of a group, those that are whole, allow after volume_authority_advance
+ * to a configuration. Advance only if can_read is true: after any other advance no later recovery may ever open the
+ * volume. A member that was whole stays whole.
+ *
+ * Refused 42 where no such group has joined, 41 where the group's configuration has no such child. */
+uint8_t volume_authority_may_advance(struct volume_handle *authority, uint8_t group, uint32_t configuration,
+    const uint8_t *whole, size_t whole_length, struct volume_readiness *readiness);
 
 #ifdef __cplusplus
 }

@@ -116,6 +116,14 @@ static uint8_t call_authority_advance(struct volume_handle *handle) {
     return volume_authority_advance(handle, 0, 1);
 }
 
+static uint8_t call_authority_may_advance(struct volume_handle *handle) {
+    static const uint8_t whole[] = {0};
+    struct volume_readiness readiness = {true, true};
+    uint8_t status = volume_authority_may_advance(handle, 0, 1, whole, sizeof whole, &readiness);
+    WANT(status == VOLUME_OK || (readiness.can_read && readiness.can_write));
+    return status;
+}
+
 static uint8_t call_authority_refresh(struct volume_handle *handle) {
     return volume_authority_refresh(handle, 1);
 }
@@ -162,6 +170,7 @@ static const struct call CALLS[] = {
     {"authority_resume", call_authority_resume, OF(PLAN)},
     {"authority_assign", volume_authority_assign, OF(AUTHORITY)},
     {"authority_advance", call_authority_advance, OF(AUTHORITY)},
+    {"authority_may_advance", call_authority_may_advance, OF(AUTHORITY)},
     {"authority_refresh", call_authority_refresh, OF(AUTHORITY)},
     {"authority_grow", volume_authority_grow, OF(AUTHORITY)},
     {"authority_snapshot", call_authority_snapshot, OF(AUTHORITY)},
@@ -437,6 +446,28 @@ static void take_copies(struct volume_handle *fresh, struct volume_handle *whole
     }
 }
 
+/* An authority says what whole members allow after the step to the joint configuration: 3 of 0 to 5 or 3 of 0 to 4 and 6
+ * read it, and 4 of each write it. 200 is no member's number. */
+static void readiness_of_members(const struct bytes *text) {
+    static const struct {
+        uint8_t count, whole[4];
+        bool can_read, can_write;
+    } rows[] = {{0, {0}, false, false}, {2, {0, 1}, false, false}, {3, {0, 1, 6}, true, false},
+        {4, {0, 1, 2, 3}, true, true}, {4, {0, 1, 2, 200}, true, false}, {4, {5, 5, 5, 5}, false, false}};
+    struct volume_handle plan = {0}, authority = {0};
+    struct volume_readiness readiness;
+    read_plan(text, &plan);
+    DO(volume_authority_new(&plan, &authority));
+    for (size_t i = 0; i < sizeof rows / sizeof *rows; i++) {
+        DO(volume_authority_may_advance(&authority, 0, 1, rows[i].whole, rows[i].count, &readiness));
+        WANT(readiness.can_read == rows[i].can_read && readiness.can_write == rows[i].can_write);
+    }
+    GIVES(VOLUME_NOT_IN_PLAN, volume_authority_may_advance(&authority, 0, 2, rows[0].whole, 0, &readiness));
+    GIVES(VOLUME_NO_GROUP, volume_authority_may_advance(&authority, 9, 1, rows[0].whole, 0, &readiness));
+    volume_close(&authority);
+    volume_close(&plan);
+}
+
 /* A snapshot that is written drops the copies that a fresh member took, and one that doesn't fit leaves them. */
 static void copies_and_snapshots(const struct bytes *text) {
     struct volume_handle plan = {0}, authority = {0}, fresh = {0}, again = {0}, whole[3] = {{0}};
@@ -548,6 +579,7 @@ int main(int count, char **words) {
     short_lines();
     names();
     grown(&growing);
+    readiness_of_members(&text);
     copies_and_snapshots(&text);
     messages_of_a_run(&text);
     free_bytes(&text);

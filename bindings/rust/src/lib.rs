@@ -366,6 +366,15 @@ pub struct Points {
     pub last: u64,
 }
 
+/// What the whole members of a group allow after an advance.
+#[derive(Clone, Copy, Debug, PartialEq, Eq)]
+pub struct Readiness {
+    /// Whether they satisfy the configuration's read expression.
+    pub can_read: bool,
+    /// Whether they satisfy its write expression. If not, commits wait until more members have hydrated.
+    pub can_write: bool,
+}
+
 /// The writer of a volume epoch.
 pub struct Writer(Handle);
 
@@ -505,6 +514,34 @@ impl Authority {
     /// 42 where no such group has joined; 41 where the group's configuration has no such child.
     pub fn advance(&mut self, group: u8, configuration: u32) -> Result<(), Fault> {
         checked(unsafe { raw::volume_authority_advance(&mut self.0 .0, group, configuration) })
+    }
+
+    /// Returns what the whole members of a group allow after an advance to a configuration. Advance only if they can
+    /// read: after any other advance no later recovery may ever open the volume.
+    ///
+    /// # Errors
+    /// Those of [`Authority::advance`].
+    pub fn may_advance(
+        &mut self,
+        group: u8,
+        configuration: u32,
+        whole: &[u8],
+    ) -> Result<Readiness, Fault> {
+        let mut found = raw::Readiness::default();
+        checked(unsafe {
+            raw::volume_authority_may_advance(
+                &mut self.0 .0,
+                group,
+                configuration,
+                whole.as_ptr(),
+                whole.len(),
+                &mut found,
+            )
+        })?;
+        Ok(Readiness {
+            can_read: found.can_read,
+            can_write: found.can_write,
+        })
     }
 
     /// Makes a View of the groups' places for the client of the last volume epoch.

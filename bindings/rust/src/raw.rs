@@ -33,6 +33,13 @@ pub struct Change {
 
 #[repr(C)]
 #[derive(Default)]
+pub struct Readiness {
+    pub can_read: bool,
+    pub can_write: bool,
+}
+
+#[repr(C)]
+#[derive(Default)]
 pub struct Points {
     pub complete: u64,
     pub durable: u64,
@@ -109,6 +116,14 @@ extern "C" {
     ) -> u8;
     pub fn volume_authority_assign(authority: *mut Handle) -> u8;
     pub fn volume_authority_advance(authority: *mut Handle, group: u8, configuration: u32) -> u8;
+    pub fn volume_authority_may_advance(
+        authority: *mut Handle,
+        group: u8,
+        configuration: u32,
+        whole: *const u8,
+        length: usize,
+        readiness: *mut Readiness,
+    ) -> u8;
     pub fn volume_authority_refresh(authority: *mut Handle, volume: u32) -> u8;
     pub fn volume_authority_grow(authority: *mut Handle) -> u8;
     pub fn volume_authority_snapshot(

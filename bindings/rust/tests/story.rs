@@ -125,6 +125,8 @@ fn a_member_is_replaced_while_the_writer_writes() {
     let mut writer = Writer::first(&mut plan).unwrap();
     let before = commit(&mut writer, &mut segments, &[0, 1, 2, 3], 1, b"one");
 
+    let ready = authority.may_advance(0, 1, &[0, 1, 2, 3, 4, 5]).unwrap();
+    assert!(ready.can_read && ready.can_write);
     authority.advance(0, 1).unwrap();
     let steps = all(authority.messages());
     for segment in &mut segments[..6] {
