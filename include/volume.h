@@ -230,6 +230,18 @@ uint8_t volume_segment_state(struct volume_handle *segment, struct volume_segmen
  * Refused 92 where out is shorter than needed; 91 while there are messages to hand out. */
 uint8_t volume_segment_snapshot(struct volume_handle *segment, uint8_t *out, size_t out_length, size_t *needed);
 
+/* Passes a segment a frame: the messages for its node in one buffer, each behind its length in 4 bytes, the greatest
+ * first. It takes them in order, as volume_segment_take does, up to the end or to the first that it refuses. taken is
+ * how many bytes that were: log them before an answer leaves the node. Bytes that were taken are a frame, which may be
+ * replayed whole or message by message. volume_next_message hands the answers out. An Ack that follows another one
+ * under the same label and says no less stands for both, so a frame of Writes makes one Ack.
+ *
+ * A number below 90 is that of the refusal of the message at taken, which isn't logged. To skip it, pass what follows
+ * it, once the answers are handed out. 1 also says that the frame ends within a message. On 90 and 91 nothing is
+ * taken. */
+uint8_t volume_segment_take_frame(struct volume_handle *segment, const uint8_t *frame, size_t frame_length,
+    size_t *taken);
+
 /* Makes the writer that a volume is born with: volume epoch 1, no record. Call it once in the life of the volume; each
  * later writer is what a recovery becomes. out must be empty. On success it holds the writer. */
 uint8_t volume_writer_first(struct volume_handle *plan, struct volume_handle *out);

@@ -15,7 +15,7 @@ import textwrap
 TOP = pathlib.Path(__file__).resolve().parent.parent
 SOURCES = TOP / "crates/volume_c/src"
 HEADER = TOP / "include/volume.h"
-FILES = ["handle_calls", "plan_calls", "segment_calls", "client_calls", "authority_calls", "advance_calls"]
+FILES = ["handle_calls", "plan_calls", "segment_calls", "frames", "client_calls", "authority_calls", "advance_calls"]
 STRUCTS = {"VolumeChange": "changes", "VolumePoints": "client_calls", "VolumeSegmentState": "segment_calls",
            "VolumeReadiness": "advance_calls"}
 NUMBERS = {"u8": "uint8_t", "u16": "uint16_t", "u32": "uint32_t", "u64": "uint64_t", "usize": "size_t", "bool": "bool"}

@@ -5,3 +5,9 @@ pub mod Did
 pub mod Back
 pub mod Made
 pub mod Amongst
+pub mod AcksLast
+pub mod Joins
+pub mod Replays
+pub mod Turns
+pub mod OwnTurns
+pub mod HeldTook

@@ -7,6 +7,10 @@ pub mod Plans
 pub mod Changes
 pub mod Saved
 pub mod Segments
+pub mod Joined
+pub mod Frames
+pub mod Turns
+pub mod Replay
 pub mod Clients
 pub mod Authorities
 pub mod Advances

@@ -12,8 +12,10 @@ mod buffer;
 mod changes;
 mod client_calls;
 mod constructors;
+mod frames;
 mod handle;
 mod handle_calls;
+mod laws;
 mod names;
 mod outbox;
 mod parts;
@@ -36,8 +38,10 @@ pub use client_calls::{
     volume_writer_group_point, volume_writer_issue, volume_writer_points, volume_writer_read,
     volume_writer_resend,
 };
+pub use frames::volume_segment_take_frame;
 pub use handle::Handle;
 pub use handle_calls::{volume_close, volume_fault_name, volume_next_message};
+pub use laws::{last_ack_suffices, replay_reaches};
 pub use plan_calls::volume_plan_read;
 pub use segment_calls::{
     VolumeSegmentState, volume_segment_hydrate, volume_segment_new, volume_segment_offer,

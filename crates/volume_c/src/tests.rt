@@ -11,6 +11,7 @@ use crate::client_calls::{
     volume_writer_group_point, volume_writer_issue, volume_writer_points, volume_writer_read,
     volume_writer_resend,
 };
+use crate::frames::volume_segment_take_frame;
 use crate::handle::Handle;
 use crate::handle_calls::{volume_close, volume_fault_name, volume_next_message};
 use crate::plan_calls::volume_plan_read;
@@ -92,7 +93,7 @@ const SEGMENT: &[u8] = &[
 ];
 
 /// What each call returns that is given empty handles.
-fn statuses(alloc: Global) -> [u8; 28] {
+fn statuses(alloc: Global) -> [u8; 29] {
     let mut none = Handle::empty(alloc);
     let mut out = Handle::empty(alloc);
     let mut bytes = [0u8; 512];
@@ -125,6 +126,7 @@ fn statuses(alloc: Global) -> [u8; 28] {
         volume_segment_new(alloc, &mut none, 0, 0, &mut out),
         volume_segment_resume(alloc, &mut none, 0, 0, SEGMENT, &mut out),
         volume_segment_take(alloc, &mut none, FENCE),
+        volume_segment_take_frame(alloc, &mut none, FENCE, &mut needed),
         volume_segment_hydrate(alloc, &mut none),
         volume_segment_offer(alloc, &mut none, 1),
         volume_segment_page(alloc, &mut none, 0, 0, &mut bytes),
@@ -154,7 +156,7 @@ fn statuses(alloc: Global) -> [u8; 28] {
 
 #[test]
 fn empty_handles_are_refused(rt: HostRuntime) {
-    assert!(rt; statuses(rt.alloc()) == [90u8; 28]);
+    assert!(rt; statuses(rt.alloc()) == [90u8; 29]);
 }
 
 #[test]

@@ -1,0 +1,88 @@
+-- Laws of what a node logs, and of the answers that it joins.
+use Rattle.std.specs.Prelude.{◌≡◌, ◌≤◌, ℕ, List, [], ◌∷◌, ◌++◌, Result, Ok, Err}
+use Rattle.volume_model.specs.Answer.{◌>>=◌}
+use Rattle.volume_model.specs.declared.fault.Fault.{Fault}
+use Rattle.volume_model.specs.Plan.{Plan}
+use Rattle.volume_model.specs.Message.{Label, Message}
+use Rattle.volume_model.specs.Message.Message.{Ack}
+use Rattle.volume_model.specs.Node.{Node, NodeStep, NodeAnswer, reaction}
+use Rattle.volume_model.specs.Client.{Client, ClientAnswer}
+use Rattle.volume_model.specs.ClientMessages.{taken}
+use Rattle.segment_core.specs.Snapshot.{resumed}
+use Rattle.volume_c.specs.Saved.{segment_in}
+use Rattle.volume_c.specs.Joined.{from_node, in_turn, joined}
+
+-- the node after a step, and as it was after a refusal
+abbrev pub node_or : Node → NodeAnswer → Node
+node_or node (Ok step) = step.node
+node_or node (Err fault) = node
+
+-- a node to which messages come in turn, of which it takes some
+abbrev pub node_after : Plan → ℕ → ℕ → Node → List Message → Node
+node_after plan group member node [] = node
+node_after plan group member node (m ∷ ms) = node_after plan group member
+    (node_or node (reaction plan group member node m)) ms
+
+-- a message that was taken goes before the others
+abbrev pub with_taken : Message → NodeAnswer → List Message → List Message
+with_taken m (Ok step) rest = m ∷ rest
+with_taken m (Err fault) rest = rest
+
+-- of messages that come in turn those that are taken
+abbrev pub logged : Plan → ℕ → ℕ → Node → List Message → List Message
+logged plan group member node [] = []
+logged plan group member node (m ∷ ms) = with_taken m (reaction plan group member node m)
+    (logged plan group member (node_or node (reaction plan group member node m)) ms)
+
+-- a node that takes each of these messages in turn, or the first refusal
+abbrev pub replayed : Plan → ℕ → ℕ → Node → List Message → Result Node Fault
+replayed plan group member node [] = Ok node
+replayed plan group member node (m ∷ ms) = reaction plan group member node m >>= λ step. replayed plan group member
+    step.node ms
+
+-- the answers of a step, and those that come after them; none after a refusal
+abbrev pub answers_and : NodeAnswer → (NodeStep → List Message) → List Message
+answers_and (Ok step) rest = step.made ++ rest step
+answers_and (Err fault) rest = []
+
+-- what the node answers to messages that it takes in turn
+abbrev pub answers_in_turn : Plan → ℕ → ℕ → Node → List Message → List Message
+answers_in_turn plan group member node [] = []
+answers_in_turn plan group member node (m ∷ ms) = answers_and (reaction plan group member node m)
+    (λ step. answers_in_turn plan group member step.node ms)
+
+-- Whatever comes to a node after a snapshot: the node that the snapshot is resumed as takes each message that was logged
+-- since, and becomes the node that logged them. The messages of a frame are taken like single ones.
+pub record ReplayReaches : Type 0 where
+  pub from_node : (plan : Plan) (group member : ℕ) (node : Node) (came : List Message)
+      → replayed plan group member node (logged plan group member node came) ≡ Ok (node_after plan group member node came)
+  pub from_snapshot : (plan : Plan) (group member : ℕ) (bytes : List ℕ) (node : Node) (came : List Message)
+      → segment_in bytes ≡ Ok node → resumed plan group member node ≡ Ok node
+      → (segment_in bytes >>= λ saved. resumed plan group member saved >>= λ own. replayed plan group member own
+      (logged plan group member node came)) ≡ Ok (node_after plan group member node came)
+  pub from_frames : (plan : Plan) (group member : ℕ) (before after : NodeStep) (ms : List Message)
+      → in_turn plan group member before ms ≡ Ok after → replayed plan group member before.node ms ≡ Ok after.node
+
+-- the client after a step, and as it was after a refusal
+abbrev pub client_or : Client → ClientAnswer → Client
+client_or client (Ok step) = step.client
+client_or client (Err fault) = client
+
+-- a client to which messages come in turn, of which it takes some
+abbrev pub client_after : Plan → ℕ → Client → List Message → Client
+client_after plan volume client [] = client
+client_after plan volume client (m ∷ ms) = client_after plan volume (client_or client (taken plan volume client m)) ms
+
+-- Of the acknowledgements of one segment under one label the last leaves a client as all do, if none before it says
+-- more. So joined answers leave each client as the answers do that they are joined from, and so do those of a frame.
+pub record LastAckSuffices : Type 0 where
+  pub last : (plan : Plan) (volume : ℕ) (client : Client) (group : ℕ) (label : Label) (from lower upper : ℕ)
+      → lower ≤ upper
+      → client_after plan volume client (Ack group label from lower ∷ Ack group label from upper ∷ [])
+      ≡ client_after plan volume client (Ack group label from upper ∷ [])
+  pub joined_answers : (plan : Plan) (volume : ℕ) (client : Client) (waiting answers : List Message)
+      → client_after plan volume client (joined waiting answers) ≡ client_after plan volume client (waiting ++ answers)
+  pub frames : (plan : Plan) (group member : ℕ) (node : Node) (ms : List Message) (after : NodeStep)
+      → in_turn plan group member (from_node node) ms ≡ Ok after → (volume : ℕ) (client : Client)
+      → client_after plan volume client after.made ≡ client_after plan volume client
+      (answers_in_turn plan group member node ms)

@@ -1,0 +1,198 @@
+//! Frames: messages for one node in one buffer, each behind its length, that a segment takes in turn.
+
+ghost use Rattle.std.specs.Prelude.{◌≡◌, ◌≢◌, ◌+◌, ◌++◌, ◌≤◌, ◌<◌, [], Some, IfOk, IfErr, length, vec_capacity, vec_len};
+ghost use Rattle.volume_model.specs.Answer.{Fails, Gives};
+ghost use Rattle.wire.specs.Listed.{listed};
+ghost use Rattle.wire.specs.Message.{message_of, messages_of};
+ghost use Rattle.segment_core.specs.Segment.{IsSameActor};
+ghost use Rattle.volume_c.specs.Joined.{covers, joined};
+ghost use Rattle.volume_c.specs.Frames.{framed, next_in, TakesFrame};
+ghost use Rattle.volume_c.specs.Turns.{own_next, own_turn, turn_of, IsNextRefusal, TookOwn};
+
+use crate::actor::{Actor, Held};
+use crate::handle::Handle;
+use crate::outbox::Outbox;
+use crate::status::{UNSENT, WRONG_HANDLE};
+use message_bytes::{decode, u32_at};
+use segment_core::Segment;
+use std::alloc::Global;
+use volume_model::Fault;
+use wire::{Message, Messages};
+
+/// Reads the first message of a frame; returns it and what follows it.
+#[tactic(auto, unfolding(crate::specs::Frames::next_in))]
+fn read_next(alloc: Global, bytes: &[u8]) -> Result<(Message, &[u8]), Fault>
+    ensures { Gives (λ x. (message_of x.0, x.1.now)) result (next_in bytes.now) }
+{
+    let (length, rest) = u32_at(bytes)?;
+    let length = length as usize;
+    if rest.len() < length {
+        return Err(Fault::Short);
+    }
+    let (front, rest) = rest.split_at(length);
+    let message = decode(alloc, front)?;
+    Ok((message, rest))
+}
+
+/// Does what [`read_next`] says. The message stands in front, behind its length.
+fn next(alloc: Global, bytes: &[u8]) -> Result<(Message, &[u8]), Fault>
+    ensures exact { Gives (λ x. (message_of x.0, x.1.now)) result (next_in bytes.now) }
+    ensures canonical { IfOk result (λ x. bytes.now ≡ framed (message_of x.0) ++ x.1.now) }
+{
+    read_next(alloc, bytes)
+}
+
+/// Returns whether a message is an acknowledgement that says what an earlier one says.
+fn covers(message: &Message, earlier: &Message) -> bool
+    ensures { result ≡ covers (message_of message.now) (message_of earlier.now) }
+{
+    let Message::Ack(ack) = message else {
+        return false;
+    };
+    let Message::Ack(old) = earlier else {
+        return false;
+    };
+    old.group == ack.group
+        && old.label.volume == ack.label.volume
+        && old.label.member == ack.label.member
+        && old.from == ack.from
+        && old.scl <= ack.scl
+}
+
+/// Drops the last of the answers that wait where the first of those that come says what it says.
+fn drop_covered(waiting: &mut Vec<Message>, answers: &Messages)
+    ensures waits { joined (messages_of waiting.old.items) (messages_of (listed answers.now)) ≡ messages_of
+        waiting.new.items ++ messages_of (listed answers.now) }
+    ensures len { vec_len waiting.new ≤ vec_len waiting.old }
+    ensures capacity { vec_capacity waiting.new ≡ vec_capacity waiting.old }
+{
+    if answers.len() == 0 {
+        return;
+    }
+    if waiting.is_empty() {
+        return;
+    }
+    let last = waiting.take_last();
+    if !covers(answers.at(0), &last) {
+        waiting.push_reserved(last);
+    }
+}
+
+/// Adds answers to those that wait, of which the last is left out where the first answer says what it says.
+fn join(waiting: &mut Vec<Message>, answers: Messages)
+    requires { vec_len waiting.old + length (listed answers) ≤ vec_capacity waiting.old }
+    ensures { messages_of waiting.new.items ≡ joined (messages_of waiting.old.items) (messages_of (listed answers)) }
+{
+    drop_covered(waiting, &answers);
+    answers.append_to(waiting);
+}
+
+/// Delivers a message to a segment, and joins what it answers to the answers that wait. On error nothing has changed.
+fn take_turn(
+    alloc: Global,
+    segment: &mut Segment,
+    waiting: &mut Vec<Message>,
+    message: &Message,
+) -> Result<(), Fault>
+    ensures turn { Gives (λ _. turn_of waiting.new.items segment.new) result (own_turn segment.old
+        (turn_of waiting.old.items segment.old) (message_of message.now)) }
+    ensures same { IfErr result (λ _. turn_of waiting.new.items segment.new ≡ turn_of waiting.old.items segment.old) }
+    ensures actor { IsSameActor segment.old segment.new }
+{
+    let prepared = segment.prepare(alloc, message)?;
+    waiting.reserve(prepared.answers().len())?;
+    let answers = segment.apply(prepared);
+    join(waiting, answers);
+    Ok(())
+}
+
+/// Takes the first message of a frame; returns what follows it. On error nothing has changed.
+fn take_next<'a>(
+    alloc: Global,
+    segment: &mut Segment,
+    waiting: &mut Vec<Message>,
+    bytes: &'a [u8],
+) -> Result<&'a [u8], Fault>
+    ensures took { IfOk result (λ rest. TookOwn segment.old bytes.now rest.now (turn_of waiting.old.items segment.old)
+        (turn_of waiting.new.items segment.new)) }
+    ensures refused { IfErr result (λ fault. Fails fault (own_next segment.old (turn_of waiting.old.items segment.old)
+        bytes.now)) }
+    ensures same { IfErr result (λ _. turn_of waiting.new.items segment.new ≡ turn_of waiting.old.items segment.old) }
+    ensures shorter { IfOk result (λ rest. length rest.now < length bytes.now) }
+    ensures actor { IsSameActor segment.old segment.new }
+{
+    let (message, rest) = next(alloc, bytes)?;
+    take_turn(alloc, segment, waiting, &message)?;
+    Ok(rest)
+}
+
+/// Takes the messages of a frame in turn, up to the first that is refused; returns what wasn't taken, and the number
+/// of the refusal.
+fn take_all<'a>(
+    alloc: Global,
+    segment: &mut Segment,
+    waiting: &mut Vec<Message>,
+    frame: &'a [u8],
+) -> (&'a [u8], u8)
+    ensures took { TookOwn segment.old frame.now result.0.now (turn_of waiting.old.items segment.old)
+        (turn_of waiting.new.items segment.new) }
+    ensures all { result.1 ≡ 0 → result.0.now ≡ [] }
+    ensures refused { result.1 ≢ 0 → IsNextRefusal result.1 (own_next segment.old (turn_of waiting.new.items segment.new)
+        result.0.now) }
+    ensures actor { IsSameActor segment.old segment.new }
+{
+    let mut rest = frame;
+    while !rest.is_empty() {
+        match take_next(alloc, segment, waiting, rest) {
+            Ok(after) => rest = after,
+            Err(fault) => return (rest, fault.number()),
+        }
+    }
+    (rest, 0)
+}
+
+/// Takes a frame for the segment that is held; returns how many of its bytes were taken, and a status.
+fn take_held(alloc: Global, held: &mut Held, frame: &[u8]) -> (usize, u8)
+    ensures { TakesFrame frame.now result.0 result.1 (Some held.old) (Some held.new) }
+{
+    if !held.outbox.is_empty() {
+        return (0, UNSENT);
+    }
+    match &mut held.actor {
+        Actor::Segment(segment) => {
+            let mut waiting = Vec::new(alloc);
+            let (rest, status) = take_all(alloc, segment, &mut waiting, frame);
+            held.outbox = Outbox::of(Messages::of(waiting));
+            (frame.len() - rest.len(), status)
+        }
+        _ => (0, WRONG_HANDLE),
+    }
+}
+
+/// Passes a segment a frame: the messages for its node in one buffer, each behind its length in 4 bytes, the greatest
+/// first. It takes them in order, as `volume_segment_take` does, up to the end or to the first that it refuses.
+/// `taken` is how many bytes that were: log them before an answer leaves the node. Bytes that were taken are a frame,
+/// which may be replayed whole or message by message. `volume_next_message` hands the answers out. An Ack that follows
+/// another one under the same label and says no less stands for both, so a frame of Writes makes one Ack.
+///
+/// A number below 90 is that of the refusal of the message at `taken`, which isn't logged. To skip it, pass what
+/// follows it, once the answers are handed out. 1 also says that the frame ends within a message. On 90 and 91 nothing
+/// is taken.
+#[unsafe(no_mangle)]
+pub extern "C" fn volume_segment_take_frame(
+    alloc: Global,
+    segment: &mut Handle,
+    frame: &[u8],
+    taken: &mut usize,
+) -> u8
+    ensures { TakesFrame frame.now taken.new result segment.old.seal.held segment.new.seal.held }
+{
+    *taken = 0;
+    let Some(mut held) = segment.take(alloc) else {
+        return WRONG_HANDLE;
+    };
+    let (count, status) = take_held(alloc, &mut held, frame);
+    segment.put(held);
+    *taken = count;
+    status
+}
