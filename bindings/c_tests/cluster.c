@@ -72,16 +72,39 @@ static struct bytes state_of(struct node *node) {
     return state;
 }
 
-void cluster_resume(struct cluster *cluster, uint8_t member) {
-    struct node *node = &cluster->nodes[member];
-    struct bytes answer, before = state_of(node), after;
-    volume_close(&node->segment);
-    DO(volume_segment_resume(&cluster->plan, 0, member, node->snapshot.at, node->snapshot.length, &node->segment));
+/* Replays a node's log message by message. */
+static void replay_singly(struct node *node) {
+    struct bytes answer;
     for (size_t i = 0; i < node->log.count; i++) {
         DO(volume_segment_take(&node->segment, node->log.at[i].at, node->log.at[i].length));
         while (next_message(&node->segment, &answer))
             free_bytes(&answer);
     }
+}
+
+/* Replays a node's log as a frame. */
+static void replay_framed(struct node *node) {
+    struct bytes answer, frame = {0};
+    size_t taken = 0;
+    for (size_t i = 0; i < node->log.count; i++)
+        append_framed(&frame, &node->log.at[i]);
+    if (frame.length > 0)
+        DO(volume_segment_take_frame(&node->segment, frame.at, frame.length, &taken));
+    WANT(taken == frame.length);
+    while (next_message(&node->segment, &answer))
+        free_bytes(&answer);
+    free_bytes(&frame);
+}
+
+void cluster_resume(struct cluster *cluster, uint8_t member) {
+    struct node *node = &cluster->nodes[member];
+    struct bytes before = state_of(node), after;
+    volume_close(&node->segment);
+    DO(volume_segment_resume(&cluster->plan, 0, member, node->snapshot.at, node->snapshot.length, &node->segment));
+    if (member % 2 == 0)
+        replay_framed(node);
+    else
+        replay_singly(node);
     after = state_of(node);
     WANT(are_same(&before, &after));
     free_bytes(&before);

@@ -52,6 +52,21 @@ static uint8_t call_segment_scl(struct volume_handle *handle) {
     return status;
 }
 
+static uint8_t call_segment_state(struct volume_handle *handle) {
+    struct volume_segment_state state = {.complete_point = 77, .records = 77};
+    uint8_t status = volume_segment_state(handle, &state);
+    WANT(status == VOLUME_OK || (state.complete_point == 77 && state.records == 77));
+    return status;
+}
+
+static uint8_t call_segment_take_frame(struct volume_handle *handle) {
+    static const uint8_t frame[] = {0, 0, 0, sizeof NO_FENCE, 1, FENCE, 0, 0, 0, 0, 2, 0, 0, 0, 1};
+    size_t taken = 77;
+    uint8_t status = volume_segment_take_frame(handle, frame, sizeof frame, &taken);
+    WANT(taken == (status == VOLUME_OK ? sizeof frame : 0));
+    return status;
+}
+
 static uint8_t call_segment_snapshot(struct volume_handle *handle) {
     uint8_t out[100];
     size_t needed;
@@ -154,6 +169,8 @@ static const struct call CALLS[] = {
     {"segment_offer", call_segment_offer, OF(SEGMENT)},
     {"segment_page", call_segment_page, OF(SEGMENT)},
     {"segment_scl", call_segment_scl, OF(SEGMENT)},
+    {"segment_state", call_segment_state, OF(SEGMENT)},
+    {"segment_take_frame", call_segment_take_frame, OF(SEGMENT)},
     {"segment_snapshot", call_segment_snapshot, OF(SEGMENT)},
     {"writer_first", call_writer_first, OF(PLAN)},
     {"recovery_new", call_recovery_new, OF(PLAN)},

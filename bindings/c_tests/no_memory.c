@@ -103,6 +103,32 @@ WRAPPED(volume_segment_take, (struct volume_handle *segment, const uint8_t *byte
     REFUSING(__real_volume_segment_take(segment, bytes, length), scl_of(segment) == scl);
 }
 
+/* A segment's state, which the test below compares; it needs memory itself. */
+WRAPPED(volume_segment_state, (struct volume_handle *segment, struct volume_segment_state *state)) {
+    uint64_t scl = scl_of(segment);
+    REFUSING(__real_volume_segment_state(segment, state), scl_of(segment) == scl);
+}
+
+/* A frame that is refused for want of memory is taken in part: what is left is passed again. */
+WRAPPED(volume_segment_take_frame, (struct volume_handle *segment, const uint8_t *frame, size_t length,
+    size_t *taken)) {
+    size_t at = 0, part = 0;
+    struct bytes dropped;
+    for (long growth = 1;; growth++) {
+        begin_refusing(growth);
+        uint8_t status = __real_volume_segment_take_frame(segment, frame + at, length - at, &part);
+        at += part;
+        if (!has_refused()) {
+            *taken = at;
+            return status;
+        }
+        WANT(status == VOLUME_NO_MEMORY && at < length);
+        while (next_message(segment, &dropped))
+            free_bytes(&dropped);
+        growth = part > 0 ? 0 : growth;
+    }
+}
+
 WRAPPED(volume_segment_hydrate, (struct volume_handle *segment)) {
     uint64_t scl = scl_of(segment);
     REFUSING(__real_volume_segment_hydrate(segment), scl_of(segment) == scl);

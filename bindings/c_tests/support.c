@@ -72,6 +72,13 @@ void free_messages(struct messages *list) {
     *list = (struct messages){0};
 }
 
+void append_framed(struct bytes *frame, const struct bytes *message) {
+    const uint32_t n = (uint32_t)message->length;
+    const uint8_t length[4] = {(uint8_t)(n >> 24), (uint8_t)(n >> 16), (uint8_t)(n >> 8), (uint8_t)n};
+    append(frame, length, sizeof length);
+    append(frame, message->at, message->length);
+}
+
 uint32_t number_at(const uint8_t *at) {
     return (uint32_t)at[0] << 24 | (uint32_t)at[1] << 16 | (uint32_t)at[2] << 8 | at[3];
 }

@@ -65,6 +65,9 @@ struct bytes read_file(const char *name);
 void add_message(struct messages *list, const uint8_t *at, size_t length);
 void free_messages(struct messages *list);
 
+/* Appends a message behind its length, as docs/WIRE.md lays a frame out. */
+void append_framed(struct bytes *frame, const struct bytes *message);
+
 /* The number of four bytes, the first one the greatest. */
 uint32_t number_at(const uint8_t *at);
 

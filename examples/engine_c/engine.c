@@ -153,22 +153,38 @@ static void save(struct node *node) {
     clear(&node->log);
 }
 
+/* The messages in one buffer, each behind its length. */
+static struct bytes frame_of(const struct letters *list) {
+    struct bytes frame = {memory(NULL, 0), 0};
+    for (size_t i = 0; i < list->count; i++) {
+        const struct bytes *message = &list->at[i].bytes;
+        const uint32_t n = (uint32_t)message->length;
+        const uint8_t length[4] = {(uint8_t)(n >> 24), (uint8_t)(n >> 16), (uint8_t)(n >> 8), (uint8_t)n};
+        frame.at = memory(frame.at, frame.length + 4 + n);
+        memcpy(frame.at + frame.length, length, 4);
+        memcpy(frame.at + frame.length + 4, message->at, n);
+        frame.length += 4 + n;
+    }
+    return frame;
+}
+
 /* The node's memory is gone, and its disk stays: the segment is what it was, but for pieces. */
 static void crash(uint8_t member) {
     struct node *node = &nodes[member];
-    uint64_t before = 0, after = 0;
-    DO(volume_segment_scl(&node->segment, &before));
+    struct volume_segment_state before = {0}, after = {0};
+    struct bytes frame = frame_of(&node->log);
+    size_t taken, needed;
+    uint8_t answer[70000];
+    DO(volume_segment_state(&node->segment, &before));
     volume_close(&node->segment);
     DO(volume_segment_resume(&plan, 0, member, node->snapshot.at, node->snapshot.length, &node->segment));
-    for (size_t i = 0; i < node->log.count; i++) {
-        size_t needed;
-        uint8_t answer[70000];
-        DO(volume_segment_take(&node->segment, node->log.at[i].bytes.at, node->log.at[i].bytes.length));
-        while (volume_next_message(&node->segment, answer, sizeof answer, &needed) == 0) {
-        }
+    DO(volume_segment_take_frame(&node->segment, frame.at, frame.length, &taken));
+    WANT(taken == frame.length);
+    while (volume_next_message(&node->segment, answer, sizeof answer, &needed) == 0) {
     }
-    DO(volume_segment_scl(&node->segment, &after));
-    WANT(before == after);
+    DO(volume_segment_state(&node->segment, &after));
+    WANT(memcmp(&before, &after, sizeof before) == 0);
+    free(frame.at);
 }
 
 /* Gives a message to whom it is for. A node logs it before its answers leave. */

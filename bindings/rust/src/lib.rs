@@ -177,6 +177,36 @@ impl Plan {
     }
 }
 
+/// Returns a frame: messages for one node in one buffer, each behind its length in 4 bytes. A message of 4 GiB or more
+/// has no place in a frame.
+pub fn frame<M: AsRef<[u8]>>(messages: impl IntoIterator<Item = M>) -> Vec<u8> {
+    let mut frame = Vec::new();
+    for message in messages {
+        let message = message.as_ref();
+        let length = u32::try_from(message.len()).expect("a message below 4 GiB");
+        frame.extend_from_slice(&length.to_be_bytes());
+        frame.extend_from_slice(message);
+    }
+    frame
+}
+
+/// The state of a segment.
+#[derive(Clone, Copy, Debug, PartialEq, Eq)]
+pub struct SegmentState {
+    /// The segment complete point: the greatest LSN up to which it holds all records of its group.
+    pub complete_point: u64,
+    /// How many records it holds.
+    pub records: u64,
+    /// The volume epoch that it has promised.
+    pub volume_epoch: u32,
+    /// The membership epoch of the last step that it took; 0 before the first step of a member that isn't whole.
+    pub membership_epoch: u32,
+    /// The configuration of that step.
+    pub configuration: u32,
+    /// Whether it is whole.
+    pub is_whole: bool,
+}
+
 /// The segment of a member of a protection group, on one node.
 pub struct Segment(Handle);
 
@@ -219,6 +249,21 @@ impl Segment {
         })
     }
 
+    /// Takes the messages of a frame in order, up to the end or to the first that is refused. Returns how many bytes were
+    /// taken, and that refusal. Log what was taken before an answer leaves the node. The message that was refused begins
+    /// at that place; to skip it, pass what follows it, once the answers are handed out. Of the Acks that say the same
+    /// the last is handed out alone.
+    ///
+    /// # Errors
+    /// Those of [`Segment::take`]; 1 also where the frame ends within a message.
+    pub fn take_frame(&mut self, frame: &[u8]) -> (usize, Result<(), Fault>) {
+        let mut taken = 0;
+        let status = unsafe {
+            raw::volume_segment_take_frame(&mut self.0 .0, frame.as_ptr(), frame.len(), &mut taken)
+        };
+        (taken, checked(status))
+    }
+
     /// Becomes whole from the copies that it took. Put a snapshot on the disk before it takes another message.
     ///
     /// # Errors
@@ -255,6 +300,23 @@ impl Segment {
         let mut scl = 0;
         checked(unsafe { raw::volume_segment_scl(&mut self.0 .0, &mut scl) })?;
         Ok(scl)
+    }
+
+    /// Returns its epochs, its complete point and the number of its records.
+    ///
+    /// # Errors
+    /// Memory ran out.
+    pub fn state(&mut self) -> Result<SegmentState, Fault> {
+        let mut state = raw::SegmentState::default();
+        checked(unsafe { raw::volume_segment_state(&mut self.0 .0, &mut state) })?;
+        Ok(SegmentState {
+            complete_point: state.complete_point,
+            records: state.records,
+            volume_epoch: state.volume_epoch,
+            membership_epoch: state.membership_epoch,
+            configuration: state.configuration,
+            is_whole: state.is_whole == 1,
+        })
     }
 
     /// Returns the state that survives a restart, as bytes.

@@ -47,6 +47,17 @@ pub struct Points {
     pub last: u64,
 }
 
+#[repr(C)]
+#[derive(Default)]
+pub struct SegmentState {
+    pub complete_point: u64,
+    pub records: u64,
+    pub volume_epoch: u32,
+    pub membership_epoch: u32,
+    pub configuration: u32,
+    pub is_whole: u32,
+}
+
 extern "C" {
     pub fn volume_next_message(
         handle: *mut Handle,
@@ -74,6 +85,12 @@ extern "C" {
         out: *mut Handle,
     ) -> u8;
     pub fn volume_segment_take(segment: *mut Handle, bytes: *const u8, length: usize) -> u8;
+    pub fn volume_segment_take_frame(
+        segment: *mut Handle,
+        frame: *const u8,
+        length: usize,
+        taken: *mut usize,
+    ) -> u8;
     pub fn volume_segment_hydrate(segment: *mut Handle) -> u8;
     pub fn volume_segment_offer(segment: *mut Handle, lsn: u64) -> u8;
     pub fn volume_segment_page(
@@ -84,6 +101,7 @@ extern "C" {
         length: usize,
     ) -> u8;
     pub fn volume_segment_scl(segment: *mut Handle, scl: *mut u64) -> u8;
+    pub fn volume_segment_state(segment: *mut Handle, state: *mut SegmentState) -> u8;
     pub fn volume_segment_snapshot(
         segment: *mut Handle,
         out: *mut u8,

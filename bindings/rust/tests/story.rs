@@ -184,3 +184,25 @@ fn refusals_say_what_is_wrong() {
     assert_eq!(writer.take(b"").unwrap_err().number(), 1);
     assert_eq!(Change::new(0, 0, 0, b"").err().map(Fault::number), Some(72));
 }
+
+/// A frame of Writes is answered by one Ack, which says what those to its messages say.
+#[test]
+fn a_frame_is_taken_like_its_messages() {
+    let mut plan = plan(SIX_COPIES);
+    let mut writer = Writer::first(&mut plan).unwrap();
+    let mut segments = segments(&mut plan, 2);
+    let change = |block| Change::new(0, block, 0, b"in a frame").unwrap();
+    writer.issue(&[change(0), change(1), change(2)]).unwrap();
+    let writes = all(writer.messages());
+    let singly = deliver(&mut segments[0], &writes);
+    let frame = volume::frame(&writes);
+    assert_eq!(segments[1].take_frame(&frame), (frame.len(), Ok(())));
+    let framed = all(segments[1].messages());
+    assert_eq!((singly.len(), framed.len()), (3, 1));
+    assert_eq!(framed[0][12..], singly[2][12..]);
+    let state = segments[1].state().unwrap();
+    assert_eq!(state, segments[0].state().unwrap());
+    assert_eq!((state.complete_point, state.records, state.is_whole), (3, 3, true));
+    let (taken, refused) = segments[1].take_frame(&frame[..frame.len() - 1]);
+    assert_eq!((taken, refused.unwrap_err().name()), (4 + writes[0].len() + 4 + writes[1].len(), "Short".to_string()));
+}
