@@ -169,15 +169,15 @@ fn take_held(alloc: Global, held: &mut Held, frame: &[u8]) -> (usize, u8)
     }
 }
 
-/// Passes a segment a frame: the messages for its node in one buffer, each behind its length in 4 bytes, the greatest
-/// first. It takes them in order, as `volume_segment_take` does, up to the end or to the first that it refuses.
-/// `taken` is how many bytes that were: log them before an answer leaves the node. Bytes that were taken are a frame,
-/// which may be replayed whole or message by message. `volume_next_message` hands the answers out. An Ack that follows
-/// another one under the same label and says no less stands for both, so a frame of Writes makes one Ack.
+/// Passes a segment a frame: messages for its node in one buffer, each behind its length, a big-endian number of 4
+/// bytes. It takes them in order, as `volume_segment_take` does, up to the end or to the first that it refuses, and sets
+/// `taken` to the number of bytes that were taken. Log these before an answer leaves the node; they are a frame too, and
+/// may be replayed whole or message by message. `volume_next_message` hands the answers out. An Ack that comes right
+/// after an Ack of the same label, and says no less, stands for both: a frame of Writes makes one Ack.
 ///
-/// A number below 90 is that of the refusal of the message at `taken`, which isn't logged. To skip it, pass what
-/// follows it, once the answers are handed out. 1 also says that the frame ends within a message. On 90 and 91 nothing
-/// is taken.
+/// A number below 90 is the refusal of the message at `taken`, and the messages before it were taken. To skip that
+/// message, hand the answers out and pass what follows it; after 9 pass it again. 1 is also returned where the frame
+/// ends within a message. On 90 and 91 nothing was taken.
 #[unsafe(no_mangle)]
 pub extern "C" fn volume_segment_take_frame(
     alloc: Global,
