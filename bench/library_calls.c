@@ -1,20 +1,22 @@
 /* Measures calls of the C library, in nanoseconds of a processor each, the least of several rounds.
  *
- *     library_calls PLAN RECORDS
+ *     library_calls PLAN RECORDS [ROUNDS]
  *
- * PLAN is examples/long_log.json. A line is a call's name and its price. bench/library_calls.py runs it. */
+ * PLAN is examples/long_log.json. A line is a call's name and its price. With ROUNDS messages of 256 records aren't
+ * measured. bench/library_calls.py runs it. */
 #define _POSIX_C_SOURCE 199309L
 
 #include "support.h"
 
 #include <time.h>
 
-enum { ROUNDS = 20, MOST_BYTES = 128, BATCH = 32, COPIES = 3, CALLS = 200000, READS = 2000 };
+enum { MOST_BYTES = 128, BATCH = 32, COPIES = 3, CALLS = 200000, READS = 2000 };
 
 static struct volume_handle plan, writer, segments[COPIES];
 static struct bytes *writes; /* the Write of each record, in order */
 static struct bytes *acks;   /* the Ack of segment 0 to each */
 static size_t records;
+static int rounds = 20;
 
 static double now(void) {
     struct timespec time;
@@ -83,6 +85,21 @@ static double take_batch(int member, size_t first) {
     return now() - start;
 }
 
+/* A segment takes a batch as one frame, and its one Ack is taken out; returns the time of the calls. */
+static double take_frame(int member, size_t first) {
+    struct bytes frame = {0};
+    size_t taken = 0;
+    for (size_t i = first; i < first + BATCH; i++)
+        append_framed(&frame, &writes[i]);
+    double start = now();
+    DO(volume_segment_take_frame(&segments[member], frame.at, frame.length, &taken));
+    take_out(&segments[member], 0);
+    double spent = now() - start;
+    WANT(taken == frame.length);
+    free_bytes(&frame);
+    return spent;
+}
+
 /* The writer takes the Acks of a batch: each of segment 0, which alone make nothing durable, and the last of
  * segment 1. Returns the time of the former. */
 static double acknowledge_batch(size_t first) {
@@ -98,7 +115,7 @@ static double acknowledge_batch(size_t first) {
 }
 
 struct prices {
-    double issued, fresh, held, acknowledged;
+    double issued, fresh, framed, held, acknowledged;
 };
 
 static void lower(double *least, double found) {
@@ -115,12 +132,13 @@ static void round_of_writes(struct prices *least) {
         spent.issued += issue_batch(first);
         spent.fresh += take_batch(0, first);
         keep(&acks[first]);
-        (void)take_batch(1, first);
+        spent.framed += take_frame(1, first);
         spent.held += take_batch(0, first);
         spent.acknowledged += acknowledge_batch(first);
     }
     lower(&least->issued, spent.issued / count);
     lower(&least->fresh, spent.fresh / count);
+    lower(&least->framed, spent.framed / count);
     lower(&least->held, spent.held / count);
     lower(&least->acknowledged, spent.acknowledged / count);
 }
@@ -130,7 +148,7 @@ static void refusals(void) {
     struct volume_handle none = {0};
     uint64_t scl = 0;
     double closed = 0, refused = 0, read = 0;
-    for (int round = 0; round < ROUNDS; round++) {
+    for (int round = 0; round < rounds; round++) {
         double start = now();
         for (int i = 0; i < CALLS; i++)
             volume_close(&none);
@@ -155,7 +173,7 @@ static void whole_segment(void) {
     struct bytes snapshot = segment_snapshot(&segments[0]);
     uint8_t page[BLOCK];
     double saved = 0, resumed = 0, paged = 0;
-    for (int round = 0; round < ROUNDS; round++) {
+    for (int round = 0; round < rounds; round++) {
         size_t needed = 0;
         double start = now();
         DO(volume_segment_snapshot(&segments[0], snapshot.at, snapshot.length, &needed));
@@ -184,14 +202,14 @@ static void full_messages(void) {
     double written = 0, read = 0;
     size_t needed = 0;
     DO(volume_segment_take(&segments[0], ask, sizeof ask));
-    for (int round = 0; round < ROUNDS; round++) {
+    for (int round = 0; round < rounds; round++) {
         double start = now();
         for (int i = 0; i < READS; i++)
             (void)volume_next_message(&segments[0], none, 0, &needed);
         lower(&written, (now() - start) / READS);
     }
     WANT(next_message(&segments[0], &piece));
-    for (int round = 0; round < ROUNDS; round++) {
+    for (int round = 0; round < rounds; round++) {
         double start = now();
         for (int i = 0; i < READS; i++)
             GIVES(VOLUME_ALREADY_WHOLE, volume_segment_take(&segments[1], piece.at, piece.length));
@@ -206,7 +224,9 @@ int main(int count, char **words) {
     struct prices least = {0};
     uint8_t line[100];
     size_t needed = 0;
-    WANT(count == 3);
+    WANT(count == 3 || count == 4);
+    if (count == 4)
+        rounds = atoi(words[3]);
     struct bytes text = read_file(words[1]);
     records = strtoull(words[2], NULL, 10) / BATCH * BATCH;
     WANT(records > 0);
@@ -215,17 +235,19 @@ int main(int count, char **words) {
     memset(writes, 0, records * sizeof *writes);
     memset(acks, 0, records * sizeof *acks);
     DO(volume_plan_read(text.at, text.length, &plan, line, sizeof line, &needed));
-    for (int round = 0; round < ROUNDS; round++) {
+    for (int round = 0; round < rounds; round++) {
         close_all();
         round_of_writes(&least);
     }
     refusals();
     price("`volume_writer_issue`, a record of 32, with its Write", least.issued);
     price("`volume_segment_take` of a record that is new, in order, with its Ack", least.fresh);
+    price("`volume_segment_take_frame` of 32 records that are new, a record, with the one Ack", least.framed);
     price("`volume_segment_take` of a record that it holds, with its Ack", least.held);
     price("`volume_client_take` of an Ack", least.acknowledged);
     whole_segment();
-    full_messages();
+    if (count == 3)
+        full_messages();
     close_all();
     volume_close(&plan);
     for (size_t i = 0; i < records; i++) {

@@ -1,5 +1,5 @@
 #!/usr/bin/env python3
-"""Measures the calls of the C library: the table of docs/EMBEDDING.md.
+"""Measures the calls of the C library: the tables of docs/EMBEDDING.md.
 
     python3 bench/library_calls.py [LIBRARY]
 
@@ -7,10 +7,16 @@ LIBRARY is a folder that `scripts/build_library` made. With none the library is 
 `bench/draft.py` drafts the program: the kit's run-time checks are taken out, functions are marked as their sources mark
 them, and the kit's clang compiles at -O3. It wants `cc`. Each price is the least of several rounds over a log of 20,000
 records of 64 bytes, in nanoseconds of a processor.
+
+A draft is also compared with the core where valgrind is: of the instructions of each call those count as the core's that
+the calls into the crates below volume_c take (`decode`, `Segment::deliver`, `encode` ..), which are kept out of line, and
+the freeing of what they returned, which each caller of the core does.
 """
 import importlib.machinery
 import importlib.util
 import pathlib
+import re
+import shutil
 import subprocess
 import sys
 import tempfile
@@ -19,6 +25,30 @@ import draft
 
 TOP = pathlib.Path(__file__).resolve().parent.parent
 RECORDS = "20000"
+CORE = [
+    ("message_bytes", "decoding", None, "decode"),
+    ("message_bytes", "encoding", None, "encode"),
+    ("message_bytes", "contents", None, "read_contents"),
+    ("message_bytes", "writing", None, "put_contents"),
+    ("segment_core", "segment", "Segment", "deliver"),
+    ("segment_core", "segment", "Segment", "prepare_any"),
+    ("segment_core", "segment::paging", "Segment", "page_at"),
+    ("segment_core", "segment::saving", "Segment", "snapshot"),
+    ("segment_core", "segment::saving", "Segment", "resumed"),
+    ("world", "client", "Client", "act"),
+    ("writer_core", "change", "Change", "new"),
+]
+FREES = "rattle_dealloc"
+COMPARED = [
+    ["volume_segment_take", "volume_next_message"],
+    ["volume_segment_take"],
+    ["volume_next_message"],
+    ["volume_client_take"],
+    ["volume_writer_issue"],
+    ["volume_segment_page"],
+    ["volume_segment_snapshot"],
+    ["volume_segment_resume"],
+]
 
 
 def script(name):
@@ -29,15 +59,83 @@ def script(name):
     return module
 
 
-def without_checks(text):
-    """The text of a module as it is about compiled over its proof."""
+def without_checks(text, apart=()):
+    """The text of a module as it is about compiled over its proof, with some functions kept out of line."""
     text = text.replace("call void @llvm.trap()\n", "\n").replace('"target-cpu"="x86-64"', '"target-cpu"="x86-64-v2"')
     for unused in draft.UNUSED:
         text = text.replace(unused, "")
     text = text.replace("= { }", "= { nounwind }")
     found = draft.marks(TOP / "crates")
+    for crate, module, owner, name in apart:
+        found[crate, name] = [(module, owner, "noinline")] + found.get((crate, name), [])
     marked = (draft.marked(line, found, set()) if line.startswith("define") else line for line in text.split("\n"))
     return "\n".join(marked)
+
+
+def crate_of(function):
+    """The crate whose work a function does; what drops a type is the work of the type's crate."""
+    crate, _, rest = function.partition("::")
+    return rest.partition("++")[0] if "++" in rest else crate
+
+
+def is_own(function):
+    """Whether a function is the library's own: an export, or one of crates/volume_c."""
+    return function.startswith("volume_") and crate_of(function).startswith("volume_") and not function.startswith("volume_model")
+
+
+def calls_of(profile):
+    """Of a profile of callgrind all instructions, and those of calls from the library's own functions into other crates."""
+    names, function, callee, total, core = {}, "", None, 0, 0
+
+    def named(text):
+        number, name = re.fullmatch(r"\((\d+)\)(?: (.*))?", text).groups()
+        if name:
+            names[number] = name
+        return names[number]
+
+    for line in profile.read_text(encoding="utf-8").splitlines():
+        if line.startswith("fn="):
+            function = named(line[3:])
+        elif line.startswith("cfn="):
+            callee = named(line[4:])
+        elif callee and line[:1] in "+-*0123456789":
+            into = is_own(function) and not is_own(callee) and ("::" in callee or callee == FREES)
+            core += int(line.split()[1]) if into else 0
+            callee = None
+        elif line.startswith(("totals:", "summary:")):
+            total = int(line.split()[1])
+    return total, core
+
+
+def compared(program, room):
+    """The instructions of calls, and how many of them are the core's."""
+    print("\n| Call | Instructions | of them the core's | Library to core |\n|---|---|---|---|")
+    profile, words = room / "callgrind", [program, TOP / "examples/long_log.json", "1024", "1"]
+    for names in COMPARED:
+        collected = [f"--toggle-collect={name}" for name in names]
+        how = ["valgrind", "-q", "--tool=callgrind", *collected, f"--callgrind-out-file={profile}"]
+        subprocess.run([*how, *words], stdout=subprocess.DEVNULL, stderr=subprocess.DEVNULL, check=True)
+        total, core = calls_of(profile)
+        print(f"| {', '.join(f'`{name}`' for name in names)} | {total:,} | {core:,} | {total / max(core, 1):.2f} |")
+
+
+def linked(library, program):
+    """Links the C program that makes the calls."""
+    tests = TOP / "bindings/c_tests"
+    sources = [TOP / "bench/library_calls.c", tests / "support.c", library / "libvolume_c.a"]
+    subprocess.run(["cc", "-std=c99", "-O2", f"-I{library}", f"-I{tests}", *sources, "-o", program], check=True)
+    return program
+
+
+def drafted(room, name, **how):
+    """The library of a module that was translated, compiled without checks."""
+    builds, library = script("unproved_library"), script("build_library")
+    out = room / name
+    out.mkdir()
+    archive = builds.compiled(library.kit(), room / "module.bc", out, level="-O3", **how)
+    library.joined([archive, library.kit() / "c/liblibc_c.a"], out / "libvolume_c.a")
+    (out / "volume.h").write_bytes((TOP / "include/volume.h").read_bytes())
+    return out
 
 
 def main():
@@ -45,17 +143,17 @@ def main():
         sys.exit(__doc__)
     with tempfile.TemporaryDirectory() as folder:
         room = pathlib.Path(folder)
-        library = pathlib.Path(sys.argv[1]).resolve() if len(sys.argv) == 2 else room / "library"
         if len(sys.argv) < 2:
-            script("unproved_library").build(library, change=without_checks, level="-O3")
-        program, tests = room / "library_calls", TOP / "bindings/c_tests"
-        sources = [TOP / "bench/library_calls.c", tests / "support.c", library / "libvolume_c.a"]
-        subprocess.run(["cc", "-std=c99", "-O2", f"-I{library}", f"-I{tests}", *sources, "-o", program], check=True)
-        words = [program, TOP / "examples/long_log.json", RECORDS]
+            script("unproved_library").translated(room / "module.bc")
+        library = pathlib.Path(sys.argv[1]).resolve() if len(sys.argv) == 2 else drafted(room, "library", change=without_checks)
+        words = [linked(library, room / "library_calls"), TOP / "examples/long_log.json", RECORDS]
         lines = subprocess.run(words, text=True, stdout=subprocess.PIPE, check=True).stdout.splitlines()
-    print("| Call | Time |\n|---|---|")
-    for name, price in (line.split("\t") for line in lines):
-        print(f"| {name} | {int(price):,} ns |")
+        print("| Call | Time |\n|---|---|")
+        for name, price in (line.split("\t") for line in lines):
+            print(f"| {name} | {int(price):,} ns |")
+        if len(sys.argv) < 2 and shutil.which("valgrind"):
+            apart = drafted(room, "apart", change=lambda text: without_checks(text, CORE))
+            compared(linked(apart, room / "compared"), room)
 
 
 if __name__ == "__main__":
