@@ -316,14 +316,23 @@ pub fn fault_words(number: u8) -> Option<&'static FaultWords>
     FAULTS.iter().find(|entry| entry.fault.number() == number)
 }
 
+/// Appends what a refusal means.
+pub fn add_meaning(
+    alloc: Global,
+    page: &mut Page,
+    entry: &FaultWords,
+) -> Result<(), AllocError> {
+    let sentence = format!(in alloc; "{}: {}", entry.of, entry.words)?;
+    page.add(4, sentence.as_str())
+}
+
 /// Returns the lines of a refusal: its number and name, and below them what it means.
 pub fn fault_lines(alloc: Global, entry: &FaultWords) -> Result<String, AllocError>
     ensures { IfOk result (λ text. (words : List ℕ)
         × (string_bytes text ≡ fault_text entry.now.fault ++ codes "\n" ++ words)) }
 {
     let mut page = Page::new(alloc);
-    let sentence = format!(in alloc; "{}: {}", entry.of, entry.words)?;
-    page.add(4, sentence.as_str())?;
+    add_meaning(alloc, &mut page, entry)?;
     let words = page.into_text();
     let fault = entry.fault;
     let mut text = String::new(alloc);
