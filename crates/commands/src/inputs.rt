@@ -17,9 +17,9 @@ use crate::Job;
 use crate::fallible::FallibleRead;
 use crate::files::{ReadFault, Source};
 use crate::reply::Stop;
+use drivers::{Script, read_script};
 use json::Scratch;
 use plan::{CheckedPlan, Plan, TapedPlan, check_plan};
-use drivers::{Script, read_script};
 use std::alloc::Global;
 use std::sync::Arc;
 

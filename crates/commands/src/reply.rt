@@ -2,8 +2,8 @@
 
 ghost use Rattle.std.specs.Prelude.{◌≤◌};
 
-use plan::PlanFault;
 use drivers::ScriptFault;
+use plan::PlanFault;
 use std::alloc::{AllocError, AllocFailed};
 use std::fmt;
 use volume_model::Fault;
