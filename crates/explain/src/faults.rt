@@ -317,11 +317,7 @@ pub fn fault_words(number: u8) -> Option<&'static FaultWords>
 }
 
 /// Appends what a refusal means.
-pub fn add_meaning(
-    alloc: Global,
-    page: &mut Page,
-    entry: &FaultWords,
-) -> Result<(), AllocError> {
+pub fn add_meaning(alloc: Global, page: &mut Page, entry: &FaultWords) -> Result<(), AllocError> {
     let sentence = format!(in alloc; "{}: {}", entry.of, entry.words)?;
     page.add(4, sentence.as_str())
 }
