@@ -1,5 +1,5 @@
 -- What is answered where the word behind `explain` is the number of a refusal.
-use Rattle.std.specs.Prelude.{◌≡◌, ◌<◌, ◌^◌, ℕ, List, ◌++◌, true, Option, Some, codes}
+use Rattle.std.specs.Prelude.{◌≡◌, ◌<◌, ◌^◌, ℕ, List, ◌++◌, true, Option, Some, None, codes}
 use Rattle.std.specs.Fmt.{decimal}
 use Rattle.volume_model.specs.Names.{fault_text}
 use Rattle.volume_model.specs.Numbers.{number_of}

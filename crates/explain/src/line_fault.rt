@@ -184,20 +184,21 @@ fn word_fault<'a>(word: &'a str, kind: &'static str, line: u64) -> Option<LineFa
 /// Returns what is wrong with the words of line `line` behind its first word, of which this is the form.
 fn words_fault<'a>(line: u64, text: &'a str, form: &'static str) -> Option<LineFault<'a>> {
     let mut words = text.split(' ');
-    let mut last = "";
+    let mut is_first = true;
     for kind in form.split(' ') {
         let Some(word) = words.next() else {
             return Some(LineFault::TooFew(form));
         };
-        if !last.is_empty() {
+        if !is_first {
             if let Some(fault) = word_fault(word, kind, line) {
                 return Some(fault);
             }
         }
-        last = kind;
+        is_first = false;
     }
+    let repeats = form.ends_with("G:B:O:HEX");
     for word in words {
-        if last != "G:B:O:HEX" {
+        if !repeats {
             return Some(LineFault::TooMany(word, form));
         }
         if let Some(fault) = change_fault(word) {
