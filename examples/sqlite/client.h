@@ -1,0 +1,38 @@
+/* The writer of a volume: it asks for a volume epoch, recovers, and then writes and reads, over sockets to the cluster's
+ * processes. It has no thread: each call drives the sockets until it has what it waits for. */
+#ifndef CLIENT_H
+#define CLIENT_H
+
+#include "cluster.h"
+
+enum client_result {
+    CLIENT_OK,
+    CLIENT_FENCED,    /* a later writer took over: this one commits nothing more */
+    CLIENT_FULL,      /* a segment holds as many records as it may */
+    CLIENT_TIMEOUT,   /* no write quorum, or nobody with a page, answered in time */
+    CLIENT_NO_MEMORY,
+    CLIENT_FAULT,     /* a refusal that shouldn't be */
+};
+
+struct client;
+
+/* Takes the volume over by a new volume epoch and a recovery. Each wait ends after `timeout` milliseconds without
+ * progress. NULL where it can't, and `fault` says why. */
+struct client *client_open(const char *cluster, uint64_t timeout, char fault[FAULT_LINE]);
+
+/* How many groups had joined at the opening. */
+uint32_t client_groups(const struct client *client);
+
+/* Issues a transaction of 1 to 32 changes, and sends it. */
+enum client_result client_issue(struct client *client, const struct volume_change *changes, size_t count);
+
+/* Waits until all that was issued is durable. */
+enum client_result client_sync(struct client *client);
+
+/* Reads a block as it is at the durable point, from a full segment. */
+enum client_result client_read(struct client *client, uint8_t group, uint32_t block, uint8_t out[BLOCK]);
+
+/* Gives slow members a moment to take what was sent, and closes. */
+void client_close(struct client *client);
+
+#endif

@@ -1,0 +1,112 @@
+"""A cluster of real processes in a folder, for the tests of this folder."""
+import os
+import pathlib
+import re
+import signal
+import subprocess
+import time
+
+HERE = pathlib.Path(__file__).resolve().parent
+SIX = 6
+
+
+def build(library, out, *goals):
+    """Builds the programs."""
+    words = ["make", "-s", "-j2", "-C", HERE, f"LIBRARY={pathlib.Path(library).resolve()}", f"OUT={out}", *goals]
+    subprocess.run([str(word) for word in words], check=True)
+
+
+class Cluster:
+    """The processes of a cluster, each with its folder and the output that it wrote."""
+
+    def __init__(self, folder, programs, members=SIX, environment=None, under=()):
+        self.folder, self.programs = pathlib.Path(folder), pathlib.Path(programs)
+        self.environment = {**os.environ, **(environment or {})}
+        self.under = list(under)
+        self.nodes, self.authority, self.born = {}, None, set()
+        self.file = self.folder / "cluster"
+        (self.folder / "plan.json").write_bytes((HERE / "plan.json").read_bytes())
+        rows = ['plan = "plan.json"', 'authority = "unix:a.sock"']
+        rows += [f'node.{member} = "unix:n{member}.sock"' for member in range(members)]
+        self.file.write_text("\n".join(rows) + "\n", encoding="utf-8")
+        self.log = open(self.folder / "output", "ab")
+
+    def uri(self, timeout=30000):
+        """The name of the database, for SQLite."""
+        return f"file:app.db?vfs=volume&cluster={self.file}&timeout={timeout}"
+
+    def spawn(self, program, *words, **how):
+        """Starts a program of the cluster."""
+        how = {"stdout": self.log, "stderr": self.log, "env": self.environment, **how}
+        return subprocess.Popen([*self.under, str(self.programs / program), *map(str, words)], **how)
+
+    def start_authority(self, fresh=False):
+        folder = self.folder / "authority"
+        folder.mkdir(exist_ok=True)
+        self.authority = self.spawn("volume_authority", "--cluster", self.file, "--dir", folder, *["--new"] * fresh)
+
+    def start_node(self, member):
+        """Starts a node: a new one the first time."""
+        folder = self.folder / f"node{member}"
+        folder.mkdir(exist_ok=True)
+        fresh = not (folder / "snapshot").exists()
+        words = ["--cluster", self.file, "--member", member, "--dir", folder, *["--new"] * fresh]
+        self.nodes[member] = self.spawn("volume_node", *words)
+
+    def start(self):
+        """Starts the authority and the first six."""
+        self.start_authority(fresh=True)
+        for member in range(SIX):
+            self.start_node(member)
+        self.await_birth(range(SIX))
+
+    def await_birth(self, members):
+        """Waits until the nodes have their first snapshots."""
+        until = time.monotonic() + 20
+        while time.monotonic() < until:
+            if all((self.folder / f"node{member}" / "snapshot").exists() for member in members):
+                return
+            time.sleep(0.01)
+        raise AssertionError("the nodes aren't born")
+
+    def kill_node(self, member):
+        """Kills a node, and drops what it hadn't synced."""
+        process = self.nodes.pop(member)
+        process.send_signal(signal.SIGKILL)
+        process.wait()
+        drop_unsynced(self.folder / f"node{member}")
+
+    def kill_authority(self):
+        self.authority.send_signal(signal.SIGKILL)
+        self.authority.wait()
+        self.authority = None
+
+    def ctl(self, *words, seconds=30):
+        """Runs the operator's tool; returns its status and what it wrote."""
+        made = subprocess.run([str(self.programs / "volumectl"), str(self.file), *map(str, words), "--seconds", str(seconds)],
+                              text=True, stdout=subprocess.PIPE, stderr=subprocess.STDOUT, env=self.environment)
+        self.log.write(made.stdout.encode())
+        self.log.flush()
+        return made.returncode, made.stdout
+
+    def stop(self, number=signal.SIGTERM):
+        """Ends all processes; returns those that ended badly."""
+        processes = [*self.nodes.items(), *([("authority", self.authority)] if self.authority else [])]
+        for _, process in processes:
+            process.send_signal(signal.SIGCONT)
+            process.send_signal(number)
+        bad = [name for name, process in processes if process.wait() != 0]
+        self.nodes, self.authority = {}, None
+        self.log.close()
+        return bad
+
+
+def drop_unsynced(folder):
+    """Cuts a killed node's log where its last sync ended, as the machine's failure may."""
+    note = folder / "synced"
+    if not note.exists():
+        return
+    generation, length = map(int, re.findall(r"\d+", note.read_text()))
+    log = folder / f"log.{generation}"
+    if log.exists() and log.stat().st_size > length:
+        os.truncate(log, length)
