@@ -123,6 +123,7 @@ static void take_message(struct client *client, const struct frame *frame) {
     if (status != VOLUME_OK)
         return;
     client->changed = true;
+    client->progress = now_ms();
     send_made(client);
     if (message_kind(frame->body) == PAGE)
         take_page(client, frame);
@@ -177,10 +178,15 @@ static bool dial(struct client *client) {
     return good;
 }
 
+/* Whether there was progress of late. */
+static bool is_patient(const struct client *client) {
+    return now_ms() < client->progress + client->timeout;
+}
+
 /* Waits for the assignment, and then for the recovery. */
 static bool recover(struct client *client, char fault[FAULT_LINE]) {
-    uint64_t deadline = now_ms() + client->timeout;
-    while (client->view.length == 0 && now_ms() < deadline)
+    client->progress = now_ms();
+    while (client->view.length == 0 && is_patient(client))
         pump(client, TURN);
     if (client->view.length == 0) {
         snprintf(fault, FAULT_LINE, "the authority doesn't answer");
@@ -188,7 +194,8 @@ static bool recover(struct client *client, char fault[FAULT_LINE]) {
     }
     if (!begin_recovery(client))
         return false;
-    while (client->stage != OPEN && trouble(client) == CLIENT_OK && now_ms() < deadline)
+    client->progress = now_ms();
+    while (client->stage != OPEN && trouble(client) == CLIENT_OK && is_patient(client))
         pump(client, TURN);
     client->joined = client->group_count;
     if (client->stage == OPEN)

@@ -11,6 +11,7 @@ struct member_state {
     bool reported;    /* its Report has come */
     bool installed;   /* it has acknowledged under this volume epoch */
     size_t piece;     /* the next piece of the Install to send */
+    size_t most;      /* the most pieces that were sent at a time */
     size_t acked;     /* how many of the group's records of this volume epoch it has without a gap */
     size_t sent;      /* how many were sent */
     size_t window;    /* how many may be on their way */
@@ -39,7 +40,8 @@ struct client {
     bool changed; /* something came for which the recovery may wait */
     bool fenced, full, no_memory, fault;
     bool refresh_wanted;
-    uint64_t assign_at, refresh_at, hold_until, timeout, issued;
+    uint64_t assign_at, refresh_at, hold_until, issued;
+    uint64_t timeout, progress; /* milliseconds without progress; when there was some */
     struct buffer view, message;
     int reader;     /* the member that gave the last page */
     uint8_t *page;  /* where the page that is asked for goes; NULL once it came */

@@ -80,18 +80,33 @@ void put64(uint8_t *at, uint64_t value) {
     put32(at + 4, (uint32_t)value);
 }
 
+/* Fills the tables of the checksum: table K has the sum of a byte with K zeros behind it. */
+static void fill_tables(uint32_t tables[8][256]) {
+    for (uint32_t i = 0; i < 256; i++) {
+        uint32_t value = i;
+        for (int bit = 0; bit < 8; bit++)
+            value = value >> 1 ^ (value & 1 ? 0xedb88320u : 0);
+        tables[0][i] = value;
+    }
+    for (uint32_t i = 0; i < 256; i++)
+        for (int k = 1; k < 8; k++)
+            tables[k][i] = tables[k - 1][i] >> 8 ^ tables[0][tables[k - 1][i] & 255];
+}
+
+/* Eight bytes at a time: a node sums each message twice, and byte by byte that was a quarter of a recovery's time. */
 uint32_t checksum(const void *bytes, size_t length) {
-    static uint32_t table[256];
-    if (table[1] == 0)
-        for (uint32_t i = 0; i < 256; i++) {
-            uint32_t value = i;
-            for (int bit = 0; bit < 8; bit++)
-                value = value >> 1 ^ (value & 1 ? 0xedb88320u : 0);
-            table[i] = value;
-        }
+    static uint32_t tables[8][256];
+    if (tables[0][1] == 0)
+        fill_tables(tables);
     uint32_t sum = ~0u;
-    for (const uint8_t *at = bytes; length > 0; length--, at++)
-        sum = sum >> 8 ^ table[(sum ^ *at) & 255];
+    const uint8_t *at = bytes;
+    for (; length >= 8; length -= 8, at += 8) {
+        uint32_t low = sum ^ ((uint32_t)at[3] << 24 | (uint32_t)at[2] << 16 | (uint32_t)at[1] << 8 | at[0]);
+        sum = tables[7][low & 255] ^ tables[6][low >> 8 & 255] ^ tables[5][low >> 16 & 255] ^ tables[4][low >> 24]
+            ^ tables[3][at[4]] ^ tables[2][at[5]] ^ tables[1][at[6]] ^ tables[0][at[7]];
+    }
+    for (; length > 0; length--, at++)
+        sum = sum >> 8 ^ tables[0][(sum ^ *at) & 255];
     return ~sum;
 }
 

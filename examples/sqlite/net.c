@@ -12,7 +12,7 @@
 #include <sys/un.h>
 #include <unistd.h>
 
-enum { DIAL_EACH = 50, SHORT_TURN = 20, READ_AT_ONCE = 1 << 16, READ_A_TURN = 1 << 20, DROP_AT = 1 << 20 };
+enum { DIAL_EACH = 50, SHORT_TURN = 20, READ_AT_ONCE = 1 << 16, READ_A_TURN = 1 << 20 };
 
 static bool without_blocking(int fd) {
     int flags = fcntl(fd, F_GETFL);
@@ -259,7 +259,7 @@ static void flush_peer(struct peer *peer) {
         }
         peer->out_at += (size_t)put;
     }
-    if (net_waiting(peer) == 0 || peer->out_at > DROP_AT) {
+    if (peer->out_at > peer->out.length / 2) { /* so each byte is moved once at most */
         buffer_drop(&peer->out, peer->out_at);
         peer->out_at = 0;
     }

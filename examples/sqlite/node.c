@@ -27,6 +27,7 @@ enum {
 struct own_segment {
     struct volume_handle handle;
     bool whole;
+    bool installing;       /* it has some pieces of an Install: a snapshot would drop them */
     struct buffer birth;   /* its snapshot at birth, as long as it isn't whole */
     struct buffer carried; /* the messages that it took since its birth, as long as it isn't whole, as in the log */
     struct buffer ask;     /* the CopyAsk that it made last */
@@ -166,6 +167,14 @@ static void keep_ask(struct own_segment *segment, const struct buffer *message) 
     segment->ask_at = 0;
 }
 
+/* Notes whether the segment keeps pieces of an Install after a message: the last piece alone is answered. */
+static void note_pieces(struct own_segment *segment, uint8_t kind, bool answered) {
+    if (kind == INSTALL)
+        segment->installing = !answered;
+    else if (kind == STEP_TO)
+        segment->installing = false;
+}
+
 static void replay(void *context, uint8_t group, const uint8_t *bytes, size_t length) {
     struct node *node = context;
     if (group >= GROUPS || !node->segments[group].handle.live)
@@ -176,9 +185,13 @@ static void replay(void *context, uint8_t group, const uint8_t *bytes, size_t le
     uint8_t status = volume_segment_take(&segment->handle, bytes, length);
     if (status != VOLUME_OK && !testing_fault("forgets-promise"))
         fail("a message of the log: refusal %u: nothing was changed", status);
-    while (take_message(&segment->handle, &node->message))
+    bool answered = false;
+    while (take_message(&segment->handle, &node->message)) {
+        answered = true;
         if (message_kind(node->message.at) == COPY_ASK)
             keep_ask(segment, &node->message);
+    }
+    note_pieces(segment, message_kind(bytes), answered);
     if (!segment->whole)
         log_add(&segment->carried, group, bytes, length);
 }
@@ -208,15 +221,19 @@ static void whole_too_early(struct node *node, struct own_segment *segment, uint
     save(node);
 }
 
-/* Sends what a segment made: a CopyAsk to the other members, all else to the peer that asked. */
-static void answer(struct node *node, struct own_segment *segment, struct peer *peer) {
+/* Sends what a segment made: a CopyAsk to the other members, all else to the peer that asked. Returns whether it made
+ * something. */
+static bool answer(struct node *node, struct own_segment *segment, struct peer *peer) {
+    bool answered = false;
     while (take_message(&segment->handle, &node->message)) {
         const uint8_t *at = node->message.at;
+        answered = true;
         if (message_kind(at) == COPY_ASK)
             keep_ask(segment, &node->message);
         else
             net_send(peer, FRAME_MESSAGE, message_group(at), 0, at, node->message.length);
     }
+    return answered;
 }
 
 static void refuse(struct peer *peer, const struct frame *frame, uint8_t status) {
@@ -244,7 +261,7 @@ static void take_frame_message(struct node *node, struct peer *peer, const struc
         if (!segment->whole)
             log_add(&segment->carried, frame->group, frame->body, frame->length);
     }
-    answer(node, segment, peer);
+    note_pieces(segment, kind, answer(node, segment, peer));
     if (kind == STEP_TO && !segment->whole && testing_fault("whole-too-early"))
         whole_too_early(node, segment, frame->group);
     if (kind == COPY_REPORT && becomes_whole(segment)) {
@@ -253,27 +270,20 @@ static void take_frame_message(struct node *node, struct peer *peer, const struc
     }
 }
 
-/* The state of a segment, as FRAME_STATE has it. */
+/* Appends the state of a segment, as FRAME_STATE has it. */
 static void add_state(struct own_segment *segment, uint8_t group, struct buffer *out) {
-    uint8_t state[STATE_LENGTH] = {group, segment->whole};
-    struct buffer made = {0};
-    const struct buffer *bytes = &segment->birth;
-    uint64_t point = 0;
-    if (segment->whole) {
-        snapshot_of(segment, &made);
-        bytes = &made;
-    }
-    (void)volume_segment_scl(&segment->handle, &point);
-    if (bytes->length >= 24) {
-        uint32_t entries = get32(bytes->at + 20);
-        memcpy(state + 2, bytes->at + 2, 4);
-        memcpy(state + 6, bytes->at + 7, 4);
-        put64(state + 18, get32(bytes->at + 24 + 20 * (size_t)entries));
-    }
-    put64(state + 10, point);
-    if (!buffer_add(out, state, sizeof state))
+    uint8_t bytes[STATE_LENGTH] = {group};
+    struct volume_segment_state state;
+    uint8_t status = volume_segment_state(&segment->handle, &state);
+    if (status != VOLUME_OK)
+        fail("the state of group %u: refusal %u", group, status);
+    bytes[1] = state.is_whole == 1;
+    put32(bytes + 2, state.volume_epoch);
+    put32(bytes + 6, state.membership_epoch);
+    put64(bytes + 10, state.complete_point);
+    put64(bytes + 18, state.records);
+    if (!buffer_add(out, bytes, sizeof bytes))
         fail("out of memory");
-    buffer_free(&made);
 }
 
 static void send_state(struct node *node, struct peer *peer) {
@@ -325,6 +335,13 @@ static void ask(struct node *node) {
     }
 }
 
+static bool is_installing(const struct node *node) {
+    for (int group = 0; group < GROUPS; group++)
+        if (node->segments[group].installing)
+            return true;
+    return false;
+}
+
 /* Puts on the disk what the turn brought. */
 static void sync_turn(struct node *node) {
     uint64_t most = node->snapshot_length * 2 > LOG_MOST ? node->snapshot_length * 2 : LOG_MOST;
@@ -334,7 +351,7 @@ static void sync_turn(struct node *node) {
     }
     node->synced_at = now_ms();
     log_sync(&node->log);
-    if (node->log.length > most)
+    if (node->log.length > most && !is_installing(node))
         save(node);
 }
 

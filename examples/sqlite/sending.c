@@ -81,8 +81,10 @@ static void keep_piece(struct client *client, const struct buffer *message) {
         for (size_t i = 0; i < group->piece_count; i++)
             buffer_free(&group->pieces[i]);
         group->piece_count = 0;
-        for (int member = 0; member < MEMBERS; member++)
+        for (int member = 0; member < MEMBERS; member++) {
             client->members[member][number].installed = false;
+            client->members[member][number].most = 0;
+        }
         restart_group(client, number);
     }
     if (group->piece_count == group->piece_room) {
@@ -199,7 +201,9 @@ static void serve_fence(struct group_state *group, struct member_state *state, s
     wait_longer(state, now, FIRST_WAIT, LONGEST_WAIT);
 }
 
-static void serve_install(struct group_state *group, struct member_state *state, struct peer *node, uint64_t now) {
+/* Sends the pieces of an Install as the socket takes them. A piece that is sent for the first time is progress. */
+static void serve_install(struct client *client, struct group_state *group, struct member_state *state,
+                          struct peer *node, uint64_t now) {
     if (state->piece == group->piece_count) {
         if (now < state->due)
             return;
@@ -208,6 +212,10 @@ static void serve_install(struct group_state *group, struct member_state *state,
     while (state->piece < group->piece_count && net_waiting(node) < WAITING) {
         const struct buffer *piece = &group->pieces[state->piece++];
         net_send(node, FRAME_MESSAGE, message_group(piece->at), 0, piece->at, piece->length);
+    }
+    if (state->piece > state->most) {
+        state->most = state->piece;
+        client->progress = now;
     }
     if (state->piece == group->piece_count)
         wait_longer(state, now, FIRST_WAIT, LONGEST_WAIT);
@@ -248,7 +256,7 @@ static void serve(struct client *client, int member, uint8_t number, uint64_t no
     if (client->stage == FENCING)
         serve_fence(group, state, node, now);
     else if (!state->installed && install_is_current(group))
-        serve_install(group, state, node, now);
+        serve_install(client, group, state, node, now);
     else if (client->stage == OPEN)
         serve_records(client, group, state, node, now);
 }

@@ -2,12 +2,14 @@
 import os
 import pathlib
 import re
+import shlex
 import signal
 import subprocess
 import time
 
 HERE = pathlib.Path(__file__).resolve().parent
 SIX = 6
+SHELL = shlex.split(os.environ.get("SQLITE3", "sqlite3"))  # the words that start SQLite's shell
 
 
 def build(library, out, *goals):
