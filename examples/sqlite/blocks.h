@@ -4,7 +4,7 @@
 
 #include "client.h"
 
-enum { CHANGES = 32, CHANGES_A_BLOCK = 8 };
+enum { CHANGES = 32, CHANGES_A_BLOCK = 8, FETCHED = 64 };
 
 struct cached {
     uint8_t group;
@@ -24,6 +24,12 @@ struct blocks {
 
 /* Gives the bytes of a block; one that is known to be fresh isn't asked for. */
 enum client_result blocks_get(struct blocks *blocks, uint8_t group, uint32_t block, bool fresh, uint8_t **out);
+
+/* Whether a block was read or written before. */
+bool blocks_has(const struct blocks *blocks, uint8_t group, uint32_t block);
+
+/* Reads blocks, all at once; those that are there already stay as they are. Their `out` is ignored. */
+enum client_result blocks_fetch(struct blocks *blocks, struct wanted *wanted, size_t count);
 
 /* Issues the transaction where it couldn't take a block's changes and a file's sizes as well. */
 enum client_result blocks_make_room(struct blocks *blocks);

@@ -104,10 +104,13 @@ static void take_view(struct client *client, const struct frame *frame) {
 }
 
 static void take_page(struct client *client, const struct frame *frame) {
-    if (!client->page || message_group(frame->body) != client->page_group || page_block(frame->body) != client->page_block)
-        return;
-    memcpy(client->page, frame->body + PAGE_BYTES, BLOCK);
-    client->page = NULL;
+    for (size_t i = 0; i < client->wanted_count; i++) {
+        struct wanted *one = &client->wanted[i];
+        if (one->out && one->group == message_group(frame->body) && one->block == page_block(frame->body)) {
+            memcpy(one->out, frame->body + PAGE_BYTES, BLOCK);
+            one->out = NULL;
+        }
+    }
 }
 
 static void take_message(struct client *client, const struct frame *frame) {
@@ -276,39 +279,54 @@ static int next_reader(struct client *client) {
     return -1;
 }
 
-/* Asks one member for a page; returns whether it came. */
-static bool ask_reader(struct client *client, uint8_t group, uint32_t block) {
-    bool good;
-    struct peer *node = client->nodes[client->reader];
-    uint8_t status = volume_writer_read(&client->handle, group, block);
-    if (status != VOLUME_OK || !next_message(&client->handle, &client->message, &good)) {
-        note_status(client, status, "a read");
-        return false;
-    }
-    client->page_refused = false;
-    if (node)
-        net_send(node, FRAME_MESSAGE, group, 0, client->message.at, client->message.length);
-    uint64_t until = now_ms() + PAGE_WAIT;
-    while (node && client->page && !client->page_refused && trouble(client) == CLIENT_OK && now_ms() < until)
-        pump(client, TURN);
-    return !client->page;
+static bool all_came(const struct client *client) {
+    for (size_t i = 0; i < client->wanted_count; i++)
+        if (client->wanted[i].out)
+            return false;
+    return true;
 }
 
-enum client_result client_read(struct client *client, uint8_t group, uint32_t block, uint8_t out[BLOCK]) {
+/* Asks one member for the blocks that haven't come; returns whether all have come then. */
+static bool ask_reader(struct client *client) {
+    struct peer *node = client->nodes[client->reader];
+    uint64_t until = now_ms() + PAGE_WAIT;
+    client->page_refused = false;
+    if (!node || node->fd < 0)
+        return false;
+    for (size_t i = 0; i < client->wanted_count; i++) {
+        struct wanted *one = &client->wanted[i];
+        bool good;
+        if (!one->out)
+            continue;
+        uint8_t status = volume_writer_read(&client->handle, one->group, one->block);
+        if (status != VOLUME_OK || !next_message(&client->handle, &client->message, &good)) {
+            note_status(client, status != VOLUME_OK ? status : VOLUME_NO_MEMORY, "a read");
+            return false;
+        }
+        net_send(node, FRAME_MESSAGE, one->group, 0, client->message.at, client->message.length);
+    }
+    while (!all_came(client) && !client->page_refused && trouble(client) == CLIENT_OK && now_ms() < until)
+        pump(client, TURN);
+    return all_came(client);
+}
+
+enum client_result client_read(struct client *client, struct wanted *wanted, size_t count) {
     uint64_t deadline = now_ms() + client->timeout;
-    client->page = out;
-    client->page_group = group;
-    client->page_block = block;
-    while (trouble(client) == CLIENT_OK && now_ms() < deadline) {
-        if (ask_reader(client, group, block))
-            return CLIENT_OK;
+    enum client_result result = CLIENT_TIMEOUT;
+    client->wanted = wanted;
+    client->wanted_count = count;
+    while (result == CLIENT_TIMEOUT && trouble(client) == CLIENT_OK && now_ms() < deadline) {
+        if (ask_reader(client)) {
+            result = CLIENT_OK;
+            break;
+        }
         int next = next_reader(client);
         if (next < 0 || next <= client->reader)
-            pump(client, TURN); /* all were asked once more */
+            pump(client, TURN); /* all were asked */
         client->reader = next < 0 ? client->reader : next;
     }
-    client->page = NULL;
-    return trouble(client) == CLIENT_OK ? CLIENT_TIMEOUT : trouble(client);
+    client->wanted_count = 0;
+    return result == CLIENT_OK || trouble(client) == CLIENT_OK ? result : trouble(client);
 }
 
 void client_close(struct client *client) {

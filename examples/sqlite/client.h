@@ -29,8 +29,15 @@ enum client_result client_issue(struct client *client, const struct volume_chang
 /* Waits until all that was issued is durable. */
 enum client_result client_sync(struct client *client);
 
-/* Reads a block as it is at the durable point, from a full segment. */
-enum client_result client_read(struct client *client, uint8_t group, uint32_t block, uint8_t out[BLOCK]);
+/* A block that is asked for. */
+struct wanted {
+    uint8_t group;
+    uint32_t block;
+    uint8_t *out; /* where its 512 bytes go; NULL once they came */
+};
+
+/* Reads blocks as they are at the durable point, from a full segment, in one round trip where that answers. */
+enum client_result client_read(struct client *client, struct wanted *wanted, size_t count);
 
 /* Gives slow members a moment to take what was sent, and closes. */
 void client_close(struct client *client);

@@ -44,10 +44,9 @@ struct client {
     uint64_t timeout, progress; /* milliseconds without progress; when there was some */
     struct buffer view, message;
     int reader;     /* the member that gave the last page */
-    uint8_t *page;  /* where the page that is asked for goes; NULL once it came */
-    uint8_t page_group;
-    uint32_t page_block;
-    bool page_refused;
+    struct wanted *wanted; /* the blocks that are asked for */
+    size_t wanted_count;
+    bool page_refused; /* by the member that was asked */
 };
 
 /* Sends or keeps the messages that the handle made. */

@@ -179,7 +179,7 @@ void take_refusal(struct client *client, uint8_t member, const struct frame *fra
     if (number >= GROUPS || member >= MEMBERS || message_volume_epoch(frame->body) != client->epoch)
         return;
     struct member_state *state = &client->members[member][number];
-    if (kind == PAGE_ASK && number == client->page_group)
+    if (kind == PAGE_ASK && member == client->reader)
         client->page_refused = true;
     if (kind == WRITE && now_ms() >= state->held) { /* those after it were refused too */
         restart_sending(state);

@@ -15,6 +15,7 @@ struct store_file {
     bool used;
     uint32_t groups;
     uint64_t size, reach;
+    uint64_t expected, window; /* the block that a reader in order asks for next, and how many are read at once then */
     char name[NAME_MOST + 1]; /* of a file that was removed too: a new one of its name takes its blocks again */
 };
 
@@ -121,10 +122,36 @@ uint64_t store_size(const struct store *store, int file) {
     return store->files[file].size;
 }
 
+/* Where a block of a file lies. */
+static struct wanted place_of_block(const struct store *store, int number, uint64_t index) {
+    uint32_t groups = store->files[number].groups;
+    return (struct wanted){(uint8_t)(index % groups), head_block(number) + 1 + (uint32_t)(index / groups), NULL};
+}
+
+/* Reads a block, and those behind it where the file is read in order: a reader of 100,000 rows waits for a tenth of the
+ * round trips. */
+static enum client_result read_ahead(struct store *store, int number, uint64_t index) {
+    struct store_file *file = &store->files[number];
+    struct wanted wanted[FETCHED];
+    size_t count = 0;
+    file->window = index == file->expected && file->window > 0 ? file->window * 2 : 1;
+    if (file->window > FETCHED)
+        file->window = FETCHED;
+    while (count < file->window && index + count < file->reach) {
+        wanted[count] = place_of_block(store, number, index + count);
+        count++;
+    }
+    file->expected = index + count;
+    return blocks_fetch(&store->blocks, wanted, count);
+}
+
 static enum client_result get_block(struct store *store, int number, uint64_t index, uint8_t **out) {
-    const struct store_file *file = &store->files[number];
-    uint32_t block = head_block(number) + 1 + (uint32_t)(index / file->groups);
-    return blocks_get(&store->blocks, (uint8_t)(index % file->groups), block, index >= file->reach, out);
+    struct wanted place = place_of_block(store, number, index);
+    bool fresh = index >= store->files[number].reach;
+    enum client_result result = CLIENT_OK;
+    if (!fresh && !blocks_has(&store->blocks, place.group, place.block))
+        result = read_ahead(store, number, index);
+    return result != CLIENT_OK ? result : blocks_get(&store->blocks, place.group, place.block, fresh, out);
 }
 
 enum client_result store_read(struct store *store, int file, uint64_t offset, void *out, size_t length, size_t *got) {
@@ -149,13 +176,15 @@ enum client_result store_read(struct store *store, int file, uint64_t offset, vo
 static enum client_result write_part(struct store *store, int number, uint64_t offset, const uint8_t *bytes, size_t length) {
     struct store_file *file = &store->files[number];
     uint64_t index = offset / BLOCK;
-    uint32_t block = head_block(number) + 1 + (uint32_t)(index / file->groups);
-    enum client_result result = blocks_make_room(&store->blocks);
     if (index / file->groups >= (1u << FILE_SHIFT) - 1)
         return CLIENT_FULL;
+    struct wanted place = place_of_block(store, number, index);
+    uint8_t *old;
+    enum client_result result = get_block(store, number, index, &old);
     if (result == CLIENT_OK)
-        result = blocks_put(&store->blocks, (uint8_t)(index % file->groups), block, (uint16_t)(offset % BLOCK), bytes, length,
-                            index >= file->reach);
+        result = blocks_make_room(&store->blocks);
+    if (result == CLIENT_OK)
+        result = blocks_put(&store->blocks, place.group, place.block, (uint16_t)(offset % BLOCK), bytes, length, false);
     if (result != CLIENT_OK || (offset + length <= file->size && index < file->reach))
         return result;
     if (file->size < offset + length)
