@@ -13,12 +13,10 @@ enum {
     PUMP_EACH = 16,     /* transactions between two looks at the sockets */
 };
 
-/* The result of a client's trouble, or CLIENT_OK. */
+/* What keeps a client from going on, or CLIENT_OK. A full segment doesn't keep it from reading. */
 static enum client_result trouble(const struct client *client) {
     if (client->fenced && !testing_fault("ignores-fence"))
         return CLIENT_FENCED;
-    if (client->full)
-        return CLIENT_FULL;
     if (client->no_memory)
         return CLIENT_NO_MEMORY;
     return client->fault ? CLIENT_FAULT : CLIENT_OK;
@@ -226,9 +224,17 @@ uint32_t client_groups(const struct client *client) {
     return client->joined;
 }
 
+uint64_t client_room(const struct client *client) {
+    uint64_t most = 0, all = testing_room();
+    for (uint32_t group = 0; group < client->joined && group < GROUPS; group++)
+        if (group_records(&client->groups[group]) > most)
+            most = group_records(&client->groups[group]);
+    return client->full || most > all ? 0 : all - most;
+}
+
 enum client_result client_issue(struct client *client, const struct volume_change *changes, size_t count) {
     uint64_t deadline = now_ms() + client->timeout;
-    while (trouble(client) == CLIENT_OK) {
+    while (trouble(client) == CLIENT_OK && !client->full) {
         uint8_t status = volume_writer_issue(&client->handle, changes, count);
         if (status == VOLUME_OK) {
             send_made(client);
@@ -243,7 +249,7 @@ enum client_result client_issue(struct client *client, const struct volume_chang
         else
             pump(client, TURN);
     }
-    return trouble(client);
+    return trouble(client) != CLIENT_OK ? trouble(client) : CLIENT_FULL;
 }
 
 enum client_result client_sync(struct client *client) {
@@ -260,6 +266,8 @@ enum client_result client_sync(struct client *client) {
             return CLIENT_FAULT;
         if (points.durable == points.last)
             return CLIENT_OK;
+        if (client->full)
+            return CLIENT_FULL;
         if (points.durable > durable)
             deadline = now_ms() + client->timeout;
         durable = points.durable;

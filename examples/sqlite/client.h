@@ -23,6 +23,9 @@ struct client *client_open(const char *cluster, uint64_t timeout, char fault[FAU
 /* How many groups had joined at the opening. */
 uint32_t client_groups(const struct client *client);
 
+/* How many records the fullest segment of a group can still take. */
+uint64_t client_room(const struct client *client);
+
 /* Issues a transaction of 1 to 32 changes, and sends it. */
 enum client_result client_issue(struct client *client, const struct volume_change *changes, size_t count);
 

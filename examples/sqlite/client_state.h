@@ -25,6 +25,7 @@ struct group_state {
     struct buffer fence;
     struct buffer *pieces; /* of the Install */
     size_t piece_count, piece_room;
+    uint64_t found;        /* how many records the recovery found */
     struct buffer lsns;    /* of this volume epoch's records, 8 bytes each, as they are in memory */
 };
 
@@ -48,6 +49,9 @@ struct client {
     size_t wanted_count;
     bool page_refused; /* by the member that was asked */
 };
+
+/* How many records of a group there are. */
+uint64_t group_records(const struct group_state *group);
 
 /* Sends or keeps the messages that the handle made. */
 void send_made(struct client *client);

@@ -9,7 +9,7 @@ enum message_kind {
 };
 
 enum {
-    GROUPS = 16, MEMBERS = 64, BLOCK = 512,
+    GROUPS = 16, MEMBERS = 64, BLOCK = 512, SEGMENT_RECORDS = 1048576,
     LABELLED = 11, /* the length of version, kind, group and label, with which most messages begin */
     VIEW_PLACES = 10, PLACE = 5, ACK_LENGTH = 20, PAGE_BYTES = 24,
 };
@@ -21,6 +21,8 @@ static inline uint32_t message_membership(const uint8_t *at) { return get32(at +
 static inline uint8_t message_sender(const uint8_t *at) { return at[11]; }
 static inline uint64_t ack_complete_point(const uint8_t *at) { return get64(at + 12); }
 static inline uint16_t install_piece(const uint8_t *at) { return get16(at + 11); }
+/* How many records an Install's piece has, behind its lineage. */
+static inline uint32_t install_records(const uint8_t *at) { return get32(at + 19 + 20 * (size_t)get32(at + 15)); }
 static inline uint64_t write_lsn(const uint8_t *at) { return get64(at + 11); }
 static inline uint32_t page_block(const uint8_t *at) { return get32(at + 12); }
 static inline uint32_t view_epoch(const uint8_t *at) { return get32(at + 2); }

@@ -20,6 +20,10 @@ static uint64_t record_lsn(const struct group_state *group, size_t number) {
     return ((const uint64_t *)(const void *)group->lsns.at)[number];
 }
 
+uint64_t group_records(const struct group_state *group) {
+    return group->found + record_count(group);
+}
+
 /* Whether the Install that is kept has the group's present label: otherwise no member takes it any more. */
 static bool install_is_current(const struct group_state *group) {
     return group->piece_count > 0 && message_membership(group->pieces[0].at) == group->membership;
@@ -81,6 +85,7 @@ static void keep_piece(struct client *client, const struct buffer *message) {
         for (size_t i = 0; i < group->piece_count; i++)
             buffer_free(&group->pieces[i]);
         group->piece_count = 0;
+        group->found = 0;
         for (int member = 0; member < MEMBERS; member++) {
             client->members[member][number].installed = false;
             client->members[member][number].most = 0;
@@ -103,6 +108,7 @@ static void keep_piece(struct client *client, const struct buffer *message) {
         return;
     }
     group->pieces[group->piece_count++] = copy;
+    group->found += install_records(message->at);
 }
 
 static void keep_fence(struct client *client, const struct buffer *message) {

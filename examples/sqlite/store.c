@@ -1,5 +1,6 @@
 #include "store.h"
 #include "blocks.h"
+#include "testing.h"
 
 #include <stdlib.h>
 #include <string.h>
@@ -222,6 +223,10 @@ enum client_result store_truncate(struct store *store, int file, uint64_t size) 
     enum client_result result = blocks_make_room(&store->blocks);
     store->files[file].size = size;
     return result != CLIENT_OK ? result : put_sizes(store, file);
+}
+
+bool store_is_full(const struct store *store) {
+    return client_room(store->client) < testing_room() / 4;
 }
 
 enum client_result store_remove(struct store *store, int file) {

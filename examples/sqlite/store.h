@@ -32,6 +32,10 @@ enum client_result store_write(struct store *store, int file, uint64_t offset, c
 /* Makes a file shorter; does nothing where it is no longer than that. */
 enum client_result store_truncate(struct store *store, int file, uint64_t size);
 
+/* Whether a segment is so full that no new transaction of SQLite's may begin: a quarter is left for those that are under
+ * way, and for taking them back. */
+bool store_is_full(const struct store *store);
+
 /* Removes a file. */
 enum client_result store_remove(struct store *store, int file);
 

@@ -103,6 +103,11 @@ uint64_t testing_hold(void) {
     return given ? strtoull(given, NULL, 10) : 0;
 }
 
+uint64_t testing_room(void) {
+    const char *given = getenv("VOLUME_ROOM");
+    return given ? strtoull(given, NULL, 10) : SEGMENT_RECORDS;
+}
+
 void testing_synced(const char *folder, uint64_t generation, uint64_t length) {
     char line[60];
     char *path = path_in(folder, "synced");

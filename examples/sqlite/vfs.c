@@ -105,12 +105,17 @@ static int vfs_size(sqlite3_file *base, sqlite3_int64 *size) {
     return SQLITE_OK;
 }
 
+/* A reserved lock begins a transaction that writes; taking one back needs an exclusive lock alone. */
 static int vfs_lock(sqlite3_file *base, int level) {
     struct vfs_file *file = (struct vfs_file *)base;
+    int code = SQLITE_OK;
     pthread_mutex_lock(&mutex);
-    bool good = locks_raise(&file->shared->locks[file->number], file, &file->level, level);
+    if (level == SQLITE_LOCK_RESERVED && file->level < level && store_is_full(file->shared->store))
+        code = SQLITE_FULL;
+    else if (!locks_raise(&file->shared->locks[file->number], file, &file->level, level))
+        code = SQLITE_BUSY;
     pthread_mutex_unlock(&mutex);
-    return good ? SQLITE_OK : SQLITE_BUSY;
+    return code;
 }
 
 static int vfs_unlock(sqlite3_file *base, int level) {
