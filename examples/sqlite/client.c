@@ -10,6 +10,7 @@ enum {
     ASSIGN_EACH = 2000, /* between two questions for a volume epoch, each of which assigns another one */
     PAGE_WAIT = 100,    /* for a member's page, before another one is asked */
     LINGER = 100,       /* for slow members, at the end */
+    LONG_FRAME = 1 << 16,
     PUMP_EACH = 16,     /* transactions between two looks at the sockets */
 };
 
@@ -69,12 +70,22 @@ static void ask_for_view(struct client *client) {
     net_send(client->authority, FRAME_REFRESH, 0, 0, epoch, sizeof epoch);
 }
 
+/* A Report that is coming is progress: it may have a hundred megabytes. */
+static void note_long_frames(struct client *client) {
+    for (int member = 0; member < MEMBERS; member++) {
+        const struct peer *node = client->nodes[member];
+        if (node && node->in.length > LONG_FRAME && node->heard_at > client->progress)
+            client->progress = node->heard_at;
+    }
+}
+
 /* One look at the sockets: sends what is due, waits at most so long, and takes what comes. */
 static void pump(struct client *client, uint64_t timeout) {
     serve_all(client);
     ask_for_view(client);
     net_flush(&client->net);
     net_turn(&client->net, timeout < TURN ? timeout : TURN);
+    note_long_frames(client);
     step(client);
     serve_all(client);
     net_flush(&client->net);

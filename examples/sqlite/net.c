@@ -4,6 +4,8 @@
 #include <errno.h>
 #include <fcntl.h>
 #include <netdb.h>
+#include <netinet/in.h>
+#include <netinet/tcp.h>
 #include <poll.h>
 #include <stdio.h>
 #include <stdlib.h>
@@ -14,8 +16,10 @@
 
 enum { DIAL_EACH = 50, SHORT_TURN = 20, READ_AT_ONCE = 1 << 16, READ_A_TURN = 1 << 20 };
 
+/* Makes a socket's calls return at once, and has a TCP socket send small frames at once (for others that is refused). */
 static bool without_blocking(int fd) {
-    int flags = fcntl(fd, F_GETFL);
+    int flags = fcntl(fd, F_GETFL), one = 1;
+    (void)setsockopt(fd, IPPROTO_TCP, TCP_NODELAY, &one, sizeof one);
     return flags >= 0 && fcntl(fd, F_SETFL, flags | O_NONBLOCK) == 0 && fcntl(fd, F_SETFD, FD_CLOEXEC) == 0;
 }
 
@@ -205,6 +209,7 @@ static void read_peer(struct net *net, struct peer *peer) {
             return;
         }
         peer->in.length += (size_t)got;
+        peer->heard_at = now_ms();
         total += (size_t)got;
         if (got < READ_AT_ONCE)
             break;

@@ -47,7 +47,7 @@ struct peer {
     int fd;        /* -1 while it is down */
     bool broken;   /* it will be closed at the end of the turn */
     uint32_t connects; /* how often it was dialed */
-    uint64_t dial_at;
+    uint64_t dial_at, heard_at; /* when to dial next; when bytes came last */
     struct buffer in, out;
     size_t out_at; /* how much of `out` was sent */
 };

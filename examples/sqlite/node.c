@@ -344,13 +344,17 @@ static bool is_installing(const struct node *node) {
 
 /* Puts on the disk what the turn brought. */
 static void sync_turn(struct node *node) {
-    uint64_t most = node->snapshot_length * 2 > LOG_MOST ? node->snapshot_length * 2 : LOG_MOST;
     if (testing_fault("answers-before-sync") && now_ms() < node->synced_at + SYNC_LATE) {
         log_write(&node->log);
         return;
     }
     node->synced_at = now_ms();
     log_sync(&node->log);
+}
+
+/* Writes a snapshot and begins a new log, where the log has become long. */
+static void shorten_log(struct node *node) {
+    uint64_t most = node->snapshot_length * 2 > LOG_MOST ? node->snapshot_length * 2 : LOG_MOST;
     if (node->log.length > most && !is_installing(node))
         save(node);
 }
@@ -362,6 +366,7 @@ static void run(struct node *node) {
         net_turn(&node->net, TURN);
         sync_turn(node);
         net_flush(&node->net);
+        shorten_log(node);
     }
 }
 

@@ -6,7 +6,7 @@
 #include <string.h>
 
 enum {
-    FIRST_WAIT = 250, LONGEST_WAIT = 8000, /* for Reports and Installs, which may be long */
+    FIRST_WAIT = 1000, LONGEST_WAIT = 8000, /* for Reports and Installs, which may be long */
     WRITE_WAIT = 100, LONGEST_WRITE_WAIT = 2000,
     WINDOW = 4096, SMALL_WINDOW = 16, PROBE = 16,
     WAITING = 1 << 20, /* bytes that may wait for a member's socket */
@@ -200,8 +200,9 @@ void take_refusal(struct client *client, uint8_t member, const struct frame *fra
         client->full = true;
 }
 
+/* Sends a Fence, and again where nothing comes: each brings a Report, which may be on its way for long. */
 static void serve_fence(struct group_state *group, struct member_state *state, struct peer *node, uint64_t now) {
-    if (state->reported || now < state->due || group->fence.length == 0)
+    if (state->reported || now < state->due || group->fence.length == 0 || now < node->heard_at + state->wait)
         return;
     net_send(node, FRAME_MESSAGE, message_group(group->fence.at), 0, group->fence.at, group->fence.length);
     wait_longer(state, now, FIRST_WAIT, LONGEST_WAIT);

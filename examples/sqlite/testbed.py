@@ -4,6 +4,7 @@ import pathlib
 import re
 import shlex
 import signal
+import socket
 import subprocess
 import time
 
@@ -18,18 +19,32 @@ def build(library, out, *goals):
     subprocess.run([str(word) for word in words], check=True)
 
 
+def free_ports(count):
+    """Ports that nobody listens at now."""
+    sockets = [socket.socket() for _ in range(count)]
+    for one in sockets:
+        one.bind(("127.0.0.1", 0))
+    ports = [one.getsockname()[1] for one in sockets]
+    for one in sockets:
+        one.close()
+    return ports
+
+
 class Cluster:
     """The processes of a cluster, each with its folder and the output that it wrote."""
 
-    def __init__(self, folder, programs, members=SIX, environment=None, under=()):
+    def __init__(self, folder, programs, members=SIX, environment=None, under=(), tcp=False):
         self.folder, self.programs = pathlib.Path(folder), pathlib.Path(programs)
         self.environment = {**os.environ, **(environment or {})}
         self.under = list(under)
         self.nodes, self.authority, self.born = {}, None, set()
         self.file = self.folder / "cluster"
         (self.folder / "plan.json").write_bytes((HERE / "plan.json").read_bytes())
-        rows = ['plan = "plan.json"', 'authority = "unix:a.sock"']
-        rows += [f'node.{member} = "unix:n{member}.sock"' for member in range(members)]
+        names = [f"unix:{name}.sock" for name in ("a", *(f"n{member}" for member in range(members)))]
+        if tcp:
+            names = [f"tcp:127.0.0.1:{port}" for port in free_ports(members + 1)]
+        rows = ['plan = "plan.json"', f'authority = "{names[0]}"']
+        rows += [f'node.{member} = "{name}"' for member, name in enumerate(names[1:])]
         self.file.write_text("\n".join(rows) + "\n", encoding="utf-8")
         self.log = open(self.folder / "output", "ab")
 

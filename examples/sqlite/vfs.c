@@ -18,7 +18,7 @@ SQLITE_EXTENSION_INIT1
 enum {
     PATH_MOST = 512,
     TIMEOUT = 30000,
-    VOLUME_FILES = SQLITE_OPEN_MAIN_DB | SQLITE_OPEN_MAIN_JOURNAL | SQLITE_OPEN_SUPER_JOURNAL | SQLITE_OPEN_WAL,
+    VOLUME_FILES = SQLITE_OPEN_MAIN_DB | SQLITE_OPEN_MAIN_JOURNAL | SQLITE_OPEN_SUPER_JOURNAL,
 };
 
 /* A volume that connections of this process use. */
@@ -134,9 +134,15 @@ static int vfs_check_reserved(sqlite3_file *base, int *out) {
     return SQLITE_OK;
 }
 
+/* Refuses WAL: with an exclusive lock SQLite would take it, and no connection without one could open the database. */
 static int vfs_control(sqlite3_file *base, int what, void *argument) {
-    (void)base, (void)what, (void)argument;
-    return SQLITE_NOTFOUND;
+    char **words = argument; /* of a pragma: its result, its name, and its argument or NULL */
+    (void)base;
+    if (what != SQLITE_FCNTL_PRAGMA || sqlite3_stricmp(words[1], "journal_mode") != 0 || !words[2]
+        || sqlite3_stricmp(words[2], "wal") != 0)
+        return SQLITE_NOTFOUND;
+    words[0] = sqlite3_mprintf("a volume has rollback journals alone");
+    return SQLITE_ERROR;
 }
 
 static int vfs_sector_size(sqlite3_file *base) {
@@ -267,6 +273,8 @@ static int open_in(struct shared *shared, const char *name, struct vfs_file *fil
 static int vfs_open(sqlite3_vfs *vfs, const char *name, sqlite3_file *base, int flags, int *out_flags) {
     struct vfs_file *file = (struct vfs_file *)base;
     (void)vfs;
+    if (flags & SQLITE_OPEN_WAL)
+        return SQLITE_CANTOPEN;
     if (!name || !(flags & VOLUME_FILES)) /* a temporary file, which no other process needs */
         return system_vfs->xOpen(system_vfs, name, base, flags, out_flags);
     base->pMethods = NULL;
