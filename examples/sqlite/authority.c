@@ -2,8 +2,9 @@
  *
  *     volume_authority --cluster FILE --dir FOLDER [--new]
  *
- * Its state is on the disk before an answer leaves: `authority` is VAUT, length 4 and bytes of the snapshot, and of each
- * group the length 4 and bytes of its last StepTo; and the checksum 4 of all before. Nodes ask for the StepTos. */
+ * Its state is on the disk before an answer leaves: `authority` is VAUT, length 4 and bytes of the snapshot, and of
+ * each group the length 4 and bytes of its last StepTo; and the checksum 4 of all before. Nodes ask for the StepTos.
+ */
 #include "cluster.h"
 #include "net.h"
 
@@ -228,7 +229,8 @@ static void lock_folder(const char *folder) {
 
 static void start(struct authority *authority, const char *cluster, bool fresh) {
     char fault[FAULT_LINE];
-    if (!cluster_read(cluster, &authority->cluster, fault) || !cluster_plan(&authority->cluster, &authority->plan, fault))
+    if (!cluster_read(cluster, &authority->cluster, fault)
+        || !cluster_plan(&authority->cluster, &authority->plan, fault))
         fail("%s", fault);
     lock_folder(authority->folder);
     bool known = load(authority);

@@ -35,8 +35,8 @@ enum client_result blocks_fetch(struct blocks *blocks, struct wanted *wanted, si
 enum client_result blocks_make_room(struct blocks *blocks);
 
 /* Adds the bytes that differ from the block's to the transaction, in changes of at most 64 bytes. */
-enum client_result blocks_put(struct blocks *blocks, uint8_t group, uint32_t block, uint16_t offset, const uint8_t *bytes,
-                              size_t length, bool fresh);
+enum client_result blocks_put(struct blocks *blocks, uint8_t group, uint32_t block, uint16_t offset,
+                              const uint8_t *bytes, size_t length, bool fresh);
 
 /* Adds at most 64 bytes to the transaction as one change, or replaces those that an earlier call put there. */
 enum client_result blocks_put_whole(struct blocks *blocks, uint8_t group, uint32_t block, uint16_t offset,

@@ -22,7 +22,8 @@ static _Noreturn void fail(const char *what, sqlite3 *database) {
 
 static sqlite3 *opened(void) {
     sqlite3 *database = NULL;
-    if (sqlite3_open_v2(uri, &database, SQLITE_OPEN_READWRITE | SQLITE_OPEN_CREATE | SQLITE_OPEN_URI, NULL) != SQLITE_OK)
+    if (sqlite3_open_v2(uri, &database, SQLITE_OPEN_READWRITE | SQLITE_OPEN_CREATE | SQLITE_OPEN_URI, NULL)
+        != SQLITE_OK)
         fail("open", database);
     return database;
 }
@@ -80,7 +81,8 @@ int main(int count, char **words) {
 
     run(first, "BEGIN IMMEDIATE; UPDATE counter SET n = 7");
     printf("while another connection writes: BUSY %d, it reads %d\n",
-           sqlite3_exec(second, "BEGIN IMMEDIATE", NULL, NULL, NULL) == SQLITE_BUSY, number_of(second, "SELECT n FROM counter"));
+           sqlite3_exec(second, "BEGIN IMMEDIATE", NULL, NULL, NULL) == SQLITE_BUSY,
+           number_of(second, "SELECT n FROM counter"));
     sqlite3_busy_timeout(second, PATIENCE);
     if (pthread_create(&threads[0], NULL, hold, first) != 0)
         return 1;

@@ -11,7 +11,7 @@ enum {
     PAGE_WAIT = 100,    /* for a member's page, before another one is asked */
     LINGER = 100,       /* for slow members, at the end */
     LONG_FRAME = 1 << 16,
-    PUMP_EACH = 16,     /* transactions between two looks at the sockets */
+    PUMP_EACH = 16, /* transactions between two looks at the sockets */
 };
 
 /* What keeps a client from going on, or CLIENT_OK. A full segment doesn't keep it from reading. */
@@ -191,9 +191,7 @@ static bool dial(struct client *client) {
 }
 
 /* Whether there was progress of late. */
-static bool is_patient(const struct client *client) {
-    return now_ms() < client->progress + client->timeout;
-}
+static bool is_patient(const struct client *client) { return now_ms() < client->progress + client->timeout; }
 
 /* Waits for the assignment, and then for the recovery. */
 static bool recover(struct client *client, char fault[FAULT_LINE]) {
@@ -212,7 +210,8 @@ static bool recover(struct client *client, char fault[FAULT_LINE]) {
     client->joined = client->group_count;
     if (client->stage == OPEN)
         return true;
-    snprintf(fault, FAULT_LINE, client->fenced ? "another writer takes the volume over" : "no quorum of nodes answers");
+    snprintf(fault, FAULT_LINE,
+             client->fenced ? "another writer takes the volume over" : "no quorum of nodes answers");
     return false;
 }
 
@@ -231,9 +230,7 @@ struct client *client_open(const char *cluster, uint64_t timeout, char fault[FAU
     return NULL;
 }
 
-uint32_t client_groups(const struct client *client) {
-    return client->joined;
-}
+uint32_t client_groups(const struct client *client) { return client->joined; }
 
 uint64_t client_room(const struct client *client) {
     uint64_t most = 0, all = testing_room();

@@ -1,5 +1,5 @@
-/* The writer of a volume: it asks for a volume epoch, recovers, and then writes and reads, over sockets to the cluster's
- * processes. It has no thread: each call drives the sockets until it has what it waits for. */
+/* The writer of a volume: it asks for a volume epoch, recovers, and then writes and reads, over sockets to the
+ * cluster's processes. It has no thread: each call drives the sockets until it has what it waits for. */
 #ifndef CLIENT_H
 #define CLIENT_H
 
@@ -7,11 +7,11 @@
 
 enum client_result {
     CLIENT_OK,
-    CLIENT_FENCED,    /* a later writer took over: this one commits nothing more */
-    CLIENT_FULL,      /* a segment holds as many records as it may */
-    CLIENT_TIMEOUT,   /* no write quorum, or nobody with a page, answered in time */
+    CLIENT_FENCED,  /* a later writer took over: this one commits nothing more */
+    CLIENT_FULL,    /* a segment holds as many records as it may */
+    CLIENT_TIMEOUT, /* no write quorum, or nobody with a page, answered in time */
     CLIENT_NO_MEMORY,
-    CLIENT_FAULT,     /* a refusal that shouldn't be */
+    CLIENT_FAULT, /* a refusal that shouldn't be */
 };
 
 struct client;

@@ -1,4 +1,4 @@
-/* What a client knows of each member's segment, and what it sends again to whom; client.c and sending.c alone use it. */
+/* What a client knows of each member's segment, and what it sends again to whom: for client.c and sending.c alone. */
 #ifndef CLIENT_STATE_H
 #define CLIENT_STATE_H
 
@@ -8,25 +8,25 @@
 
 /* What a client knows of a member's segment of a group. */
 struct member_state {
-    bool reported;    /* its Report has come */
-    bool installed;   /* it has acknowledged under this volume epoch */
-    size_t piece;     /* the next piece of the Install to send */
-    size_t most;      /* the most pieces that were sent at a time */
-    size_t acked;     /* how many of the group's records of this volume epoch it has without a gap */
-    size_t sent;      /* how many were sent */
-    size_t window;    /* how many may be on their way */
-    uint64_t held;    /* nothing is sent before: the member refused a record */
-    uint64_t due;     /* when to send again */
-    uint32_t wait;    /* and how long to wait then, in milliseconds */
+    bool reported;  /* its Report has come */
+    bool installed; /* it has acknowledged under this volume epoch */
+    size_t piece;   /* the next piece of the Install to send */
+    size_t most;    /* the most pieces that were sent at a time */
+    size_t acked;   /* how many of the group's records of this volume epoch it has without a gap */
+    size_t sent;    /* how many were sent */
+    size_t window;  /* how many may be on their way */
+    uint64_t held;  /* nothing is sent before: the member refused a record */
+    uint64_t due;   /* when to send again */
+    uint32_t wait;  /* and how long to wait then, in milliseconds */
 };
 
 struct group_state {
-    uint32_t membership;   /* the membership epoch of the View */
+    uint32_t membership; /* the membership epoch of the View */
     struct buffer fence;
     struct buffer *pieces; /* of the Install */
     size_t piece_count, piece_room;
-    uint64_t found;        /* how many records the recovery found */
-    struct buffer lsns;    /* of this volume epoch's records, 8 bytes each, as they are in memory */
+    uint64_t found;     /* how many records the recovery found */
+    struct buffer lsns; /* of this volume epoch's records, 8 bytes each, as they are in memory */
 };
 
 struct client {
@@ -44,7 +44,7 @@ struct client {
     uint64_t assign_at, refresh_at, hold_until, issued;
     uint64_t timeout, progress; /* milliseconds without progress; when there was some */
     struct buffer view, message;
-    int reader;     /* the member that gave the last page */
+    int reader;            /* the member that gave the last page */
     struct wanted *wanted; /* the blocks that are asked for */
     size_t wanted_count;
     bool page_refused; /* by the member that was asked */

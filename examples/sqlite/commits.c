@@ -32,7 +32,8 @@ static double seconds(void) {
 static double processor_seconds(void) {
     struct rusage used;
     getrusage(RUSAGE_SELF, &used);
-    return (double)(used.ru_utime.tv_sec + used.ru_stime.tv_sec) + (double)(used.ru_utime.tv_usec + used.ru_stime.tv_usec) / 1e6;
+    return (double)(used.ru_utime.tv_sec + used.ru_stime.tv_sec)
+        + (double)(used.ru_utime.tv_usec + used.ru_stime.tv_usec) / 1e6;
 }
 
 static void load(const char *vfs) {
@@ -62,7 +63,8 @@ int main(int count, char **words) {
         return 2;
     int rows = atoi(words[3]), commits = atoi(words[4]);
     load(words[1]);
-    if (sqlite3_open_v2(words[2], &database, SQLITE_OPEN_READWRITE | SQLITE_OPEN_CREATE | SQLITE_OPEN_URI, NULL) != SQLITE_OK)
+    if (sqlite3_open_v2(words[2], &database, SQLITE_OPEN_READWRITE | SQLITE_OPEN_CREATE | SQLITE_OPEN_URI, NULL)
+        != SQLITE_OK)
         fail("open");
     run("PRAGMA page_size = 512; PRAGMA synchronous = FULL");
     if (count == 6) {
@@ -71,7 +73,8 @@ int main(int count, char **words) {
         run(text);
     }
     run("CREATE TABLE IF NOT EXISTS rows (id INTEGER PRIMARY KEY, text TEXT)");
-    if (sqlite3_prepare_v2(database, "INSERT INTO rows (text) VALUES (hex(randomblob(18)))", -1, &insert, NULL) != SQLITE_OK)
+    if (sqlite3_prepare_v2(database, "INSERT INTO rows (text) VALUES (hex(randomblob(18)))", -1, &insert, NULL)
+        != SQLITE_OK)
         fail("prepare");
     commit(insert, rows);
     double began = seconds(), used = processor_seconds();

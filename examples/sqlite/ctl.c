@@ -43,8 +43,8 @@ static void take_states(struct ctl *ctl, int member, const struct frame *frame) 
     for (size_t at = 0; at + STATE_LENGTH <= frame->length; at += STATE_LENGTH) {
         const uint8_t *one = frame->body + at;
         if (one[0] < GROUPS)
-            ctl->states[member][one[0]] = (struct segment_state){
-                true, one[1] == 1, get32(one + 2), get32(one + 6), get64(one + 10), get64(one + 18)};
+            ctl->states[member][one[0]] = (struct segment_state){true,           one[1] == 1,     get32(one + 2),
+                                                                 get32(one + 6), get64(one + 10), get64(one + 18)};
     }
     ctl->answered[member] = true;
 }
@@ -176,7 +176,8 @@ static const char *unsafe(const struct ctl *ctl, int group, int to, uint64_t poi
     return NULL;
 }
 
-/* Waits until the members that stay are whole, have taken the last step, and hold what the group held at the beginning. */
+/* Waits until the members that stay are whole, have taken the last step, and hold what the group held at the
+ * beginning. */
 static bool wait_until_safe(struct ctl *ctl, int group, int to) {
     const char *why = "the authority doesn't answer";
     int member = -1;

@@ -3,9 +3,7 @@
 #include <sqlite3.h>
 #include <stddef.h>
 
-static bool is_others(const void *holder, const void *who) {
-    return holder && holder != who;
-}
+static bool is_others(const void *holder, const void *who) { return holder && holder != who; }
 
 static bool raise_to_shared(struct file_locks *locks, int *level) {
     if (locks->pending || locks->exclusive)
@@ -56,6 +54,4 @@ void locks_lower(struct file_locks *locks, const void *who, int *level, int want
     *level = wanted;
 }
 
-bool locks_reserved(const struct file_locks *locks) {
-    return locks->reserved || locks->pending || locks->exclusive;
-}
+bool locks_reserved(const struct file_locks *locks) { return locks->reserved || locks->pending || locks->exclusive; }

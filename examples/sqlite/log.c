@@ -10,8 +10,11 @@
 #include <unistd.h>
 
 enum {
-    SNAPSHOT_HEAD = 16, SECTION_HEAD = 5, SUM = 4,
-    BATCH_HEAD = 24, ENTRY_HEAD = 9,
+    SNAPSHOT_HEAD = 16,
+    SECTION_HEAD = 5,
+    SUM = 4,
+    BATCH_HEAD = 24,
+    ENTRY_HEAD = 9,
 };
 
 static const uint8_t SNAPSHOT_MARK[4] = "VSNP", BATCH_MARK[4] = "VBAT";
@@ -83,8 +86,8 @@ static bool head_is_good(const uint8_t *at, size_t left, uint64_t number) {
         && checksum(at, BATCH_HEAD - SUM) == get32(at + BATCH_HEAD - SUM);
 }
 
-/* Whether the bytes after the last good batch are what a crash may leave: one batch that isn't whole. A later batch was
- * written only once that one was synced. */
+/* Whether the bytes after the last good batch are what a crash may leave: one batch that isn't whole. A later batch
+ * was written only once that one was synced. */
 static bool is_torn_tail(const uint8_t *at, size_t left, uint64_t number) {
     if (head_is_good(at, left, number))
         return get32(at + 12) >= left - BATCH_HEAD;

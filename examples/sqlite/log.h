@@ -1,8 +1,9 @@
 /* A node's disk: a snapshot of its segments, and a log of the messages that they took since.
  *
  * `snapshot` is VSNP, generation 8, number of sections 4; of each: group 1, length 4, a segment's snapshot; and the
- * checksum 4 of all before. `log.GENERATION` is a list of batches, one for each sync: VBAT, number 8 (from 1), length 4,
- * checksum 4 of the body, checksum 4 of these; and the body, of each message: group 1, length 4, checksum 4, bytes. */
+ * checksum 4 of all before. `log.GENERATION` is a list of batches, one for each sync: VBAT, number 8 (from 1), length
+ * 4, checksum 4 of the body, checksum 4 of these; and the body, of each message: group 1, length 4, checksum 4, bytes.
+ */
 #ifndef LOG_H
 #define LOG_H
 

@@ -5,13 +5,30 @@
 #include "common.h"
 
 enum message_kind {
-    VIEW = 1, STEP_TO, FENCE, REPORT, INSTALL, WRITE, GOSSIP, ACK, COPY_ASK, COPY_REPORT, PAGE_ASK, PAGE
+    VIEW = 1,
+    STEP_TO,
+    FENCE,
+    REPORT,
+    INSTALL,
+    WRITE,
+    GOSSIP,
+    ACK,
+    COPY_ASK,
+    COPY_REPORT,
+    PAGE_ASK,
+    PAGE
 };
 
 enum {
-    GROUPS = 16, MEMBERS = 64, BLOCK = 512, SEGMENT_RECORDS = 1048576,
+    GROUPS = 16,
+    MEMBERS = 64,
+    BLOCK = 512,
+    SEGMENT_RECORDS = 1048576,
     LABELLED = 11, /* the length of version, kind, group and label, with which most messages begin */
-    VIEW_PLACES = 10, PLACE = 5, ACK_LENGTH = 20, PAGE_BYTES = 24,
+    VIEW_PLACES = 10,
+    PLACE = 5,
+    ACK_LENGTH = 20,
+    PAGE_BYTES = 24,
 };
 
 static inline uint8_t message_kind(const uint8_t *at) { return at[1]; }

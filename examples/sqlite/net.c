@@ -16,7 +16,8 @@
 
 enum { DIAL_EACH = 50, SHORT_TURN = 20, READ_AT_ONCE = 1 << 16, READ_A_TURN = 1 << 20 };
 
-/* Makes a socket's calls return at once, and has a TCP socket send small frames at once (for others that is refused). */
+/* Makes a socket's calls return at once, and has a TCP socket send small frames at once (for others that is refused).
+ */
 static bool without_blocking(int fd) {
     int flags = fcntl(fd, F_GETFL), one = 1;
     (void)setsockopt(fd, IPPROTO_TCP, TCP_NODELAY, &one, sizeof one);
@@ -276,9 +277,7 @@ void net_flush(struct net *net) {
             flush_peer(net->peers[i]);
 }
 
-size_t net_waiting(const struct peer *peer) {
-    return peer->out.length - peer->out_at;
-}
+size_t net_waiting(const struct peer *peer) { return peer->out.length - peer->out_at; }
 
 /* Appends a frame, whatever a test does to it. */
 static void append_frame(struct peer *peer, const uint8_t *head, const void *body, size_t length) {

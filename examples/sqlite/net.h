@@ -42,11 +42,11 @@ struct net;
 /* One end of a connection. */
 struct peer {
     struct net *net;
-    char *address; /* whom to dial, again and again; NULL where the peer dialed us */
-    int id;        /* a member, AUTHORITY or UNKNOWN */
-    int fd;        /* -1 while it is down */
-    bool broken;   /* it will be closed at the end of the turn */
-    uint32_t connects; /* how often it was dialed */
+    char *address;              /* whom to dial, again and again; NULL where the peer dialed us */
+    int id;                     /* a member, AUTHORITY or UNKNOWN */
+    int fd;                     /* -1 while it is down */
+    bool broken;                /* it will be closed at the end of the turn */
+    uint32_t connects;          /* how often it was dialed */
     uint64_t dial_at, heard_at; /* when to dial next; when bytes came last */
     struct buffer in, out;
     size_t out_at; /* how much of `out` was sent */

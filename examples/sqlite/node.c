@@ -2,7 +2,8 @@
  *
  *     volume_node --cluster FILE --member N --dir FOLDER [--plan FILE] [--listen ADDRESS] [--new]
  *
- * A message that a segment takes is in the synced log before an answer leaves; one sync serves all that came in a turn. */
+ * A message that a segment takes is in the synced log before an answer leaves; one sync serves all that came in a
+ * turn. */
 #include "cluster.h"
 #include "log.h"
 #include "net.h"
@@ -15,11 +16,11 @@
 #include <string.h>
 
 enum {
-    TURN = 100,            /* milliseconds between looks at the clock */
-    STEPS_EACH = 200,      /* between two questions for the authority's steps */
-    COPIES_EACH = 500,     /* between two questions for copies */
-    LOG_MOST = 8 << 20,    /* a log longer than this and than twice the snapshot brings a new snapshot */
-    STATE_LENGTH = 26,     /* of a group in FRAME_STATE: group, whole, epochs 4 and 4, point 8, records 8 */
+    TURN = 100,         /* milliseconds between looks at the clock */
+    STEPS_EACH = 200,   /* between two questions for the authority's steps */
+    COPIES_EACH = 500,  /* between two questions for copies */
+    LOG_MOST = 8 << 20, /* a log longer than this and than twice the snapshot brings a new snapshot */
+    STATE_LENGTH = 26,  /* of a group in FRAME_STATE: group, whole, epochs 4 and 4, point 8, records 8 */
     SYNC_LATE = 1000,
 };
 
@@ -61,7 +62,8 @@ static bool take_message(struct volume_handle *handle, struct buffer *out) {
     return taken;
 }
 
-/* The bytes of a segment's snapshot. This drops the pieces of copies that it has: call it of whole or new ones alone. */
+/* The bytes of a segment's snapshot. This drops the pieces of copies that it has: call it of whole or new ones alone.
+ */
 static void snapshot_of(struct own_segment *segment, struct buffer *out) {
     size_t needed = 0;
     out->length = 0;

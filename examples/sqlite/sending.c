@@ -1,28 +1,28 @@
-/* What a client sends again, and to whom: Fences until the Report, Installs until the Ack, and records until the member's
- * complete point has passed them, in a window that begins small and grows with each answer. */
+/* What a client sends again, and to whom: Fences until the Report, Installs until the Ack, and records until the
+ * member's complete point has passed them, in a window that begins small and grows with each answer. */
 #include "client_state.h"
 
 #include <stdlib.h>
 #include <string.h>
 
 enum {
-    FIRST_WAIT = 1000, LONGEST_WAIT = 8000, /* for Reports and Installs, which may be long */
-    WRITE_WAIT = 100, LONGEST_WRITE_WAIT = 2000,
-    WINDOW = 4096, SMALL_WINDOW = 16, PROBE = 16,
+    FIRST_WAIT = 1000,
+    LONGEST_WAIT = 8000, /* for Reports and Installs, which may be long */
+    WRITE_WAIT = 100,
+    LONGEST_WRITE_WAIT = 2000,
+    WINDOW = 4096,
+    SMALL_WINDOW = 16,
+    PROBE = 16,
     WAITING = 1 << 20, /* bytes that may wait for a member's socket */
 };
 
-static size_t record_count(const struct group_state *group) {
-    return group->lsns.length / sizeof(uint64_t);
-}
+static size_t record_count(const struct group_state *group) { return group->lsns.length / sizeof(uint64_t); }
 
 static uint64_t record_lsn(const struct group_state *group, size_t number) {
     return ((const uint64_t *)(const void *)group->lsns.at)[number];
 }
 
-uint64_t group_records(const struct group_state *group) {
-    return group->found + record_count(group);
-}
+uint64_t group_records(const struct group_state *group) { return group->found + record_count(group); }
 
 /* Whether the Install that is kept has the group's present label: otherwise no member takes it any more. */
 static bool install_is_current(const struct group_state *group) {
@@ -69,7 +69,8 @@ static void send_record(struct client *client, const struct buffer *message) {
         struct member_state *state = &client->members[member][number];
         struct peer *node = client->nodes[member];
         if (!node || node->fd < 0 || state->sent != before || before - state->acked >= state->window
-            || now_ms() < state->held || net_waiting(node) > WAITING || (!state->installed && install_is_current(group)))
+            || now_ms() < state->held || net_waiting(node) > WAITING
+            || (!state->installed && install_is_current(group)))
             continue;
         if (state->sent == state->acked)
             state->due = now_ms() + WRITE_WAIT;
@@ -234,7 +235,8 @@ static void send_again(struct client *client, uint64_t lsn, struct peer *node) {
     if (volume_writer_resend(&client->handle, lsn) != VOLUME_OK)
         return;
     while (next_message(&client->handle, &client->message, &good))
-        net_send(node, FRAME_MESSAGE, message_group(client->message.at), 0, client->message.at, client->message.length);
+        net_send(node, FRAME_MESSAGE, message_group(client->message.at), 0, client->message.at,
+                 client->message.length);
     client->no_memory = client->no_memory || !good;
 }
 
@@ -249,7 +251,8 @@ static void serve_records(struct client *client, struct group_state *group, stru
             send_again(client, record_lsn(group, i), node);
         wait_longer(state, now, WRITE_WAIT, LONGEST_WRITE_WAIT);
     }
-    while (state->sent < record_count(group) && state->sent - state->acked < state->window && net_waiting(node) < WAITING) {
+    while (state->sent < record_count(group) && state->sent - state->acked < state->window
+           && net_waiting(node) < WAITING) {
         if (state->sent == state->acked)
             state->due = now + (state->wait ? state->wait : WRITE_WAIT);
         send_again(client, record_lsn(group, state->sent++), node);

@@ -6,8 +6,13 @@
 #include <string.h>
 
 enum {
-    HEAD_USED = 4, HEAD_GROUPS = 5, HEAD_NAME_LENGTH = 6, HEAD_SIZES = 8, HEAD_NAME = 24,
-    SIZES = 16, FILE_SHIFT = 28,
+    HEAD_USED = 4,
+    HEAD_GROUPS = 5,
+    HEAD_NAME_LENGTH = 6,
+    HEAD_SIZES = 8,
+    HEAD_NAME = 24,
+    SIZES = 16,
+    FILE_SHIFT = 28,
 };
 
 static const uint8_t MARK[4] = "VFL1";
@@ -17,7 +22,7 @@ struct store_file {
     uint32_t groups;
     uint64_t size, reach;
     uint64_t expected, window; /* the block that a reader in order asks for next, and how many are read at once then */
-    char name[NAME_MOST + 1]; /* of a file that was removed too: a new one of its name takes its blocks again */
+    char name[NAME_MOST + 1];  /* of a file that was removed too: a new one of its name takes its blocks again */
 };
 
 struct store {
@@ -26,9 +31,7 @@ struct store {
     struct store_file files[FILES];
 };
 
-static uint32_t head_block(int file) {
-    return (uint32_t)file << FILE_SHIFT;
-}
+static uint32_t head_block(int file) { return (uint32_t)file << FILE_SHIFT; }
 
 /* Reads the head of a file. */
 static enum client_result read_head(struct store *store, int number) {
@@ -116,12 +119,11 @@ enum client_result store_create(struct store *store, const char *name, int *out)
     memcpy(head + HEAD_NAME, name, length);
     *out = number;
     enum client_result result = blocks_make_room(&store->blocks);
-    return result != CLIENT_OK ? result : blocks_put(&store->blocks, 0, head_block(number), 0, head, HEAD_NAME + length, false);
+    return result != CLIENT_OK ? result
+                               : blocks_put(&store->blocks, 0, head_block(number), 0, head, HEAD_NAME + length, false);
 }
 
-uint64_t store_size(const struct store *store, int file) {
-    return store->files[file].size;
-}
+uint64_t store_size(const struct store *store, int file) { return store->files[file].size; }
 
 /* Where a block of a file lies. */
 static struct wanted place_of_block(const struct store *store, int number, uint64_t index) {
@@ -129,8 +131,7 @@ static struct wanted place_of_block(const struct store *store, int number, uint6
     return (struct wanted){(uint8_t)(index % groups), head_block(number) + 1 + (uint32_t)(index / groups), NULL};
 }
 
-/* Reads a block, and those behind it where the file is read in order: a reader of 100,000 rows waits for a tenth of the
- * round trips. */
+/* Reads a block, and those behind it where the file is read in order, in one round trip. */
 static enum client_result read_ahead(struct store *store, int number, uint64_t index) {
     struct store_file *file = &store->files[number];
     struct wanted wanted[FETCHED];
@@ -174,7 +175,8 @@ enum client_result store_read(struct store *store, int file, uint64_t offset, vo
 }
 
 /* Writes bytes of one block, with the sizes that they bring, in one transaction. */
-static enum client_result write_part(struct store *store, int number, uint64_t offset, const uint8_t *bytes, size_t length) {
+static enum client_result write_part(struct store *store, int number, uint64_t offset, const uint8_t *bytes,
+                                     size_t length) {
     struct store_file *file = &store->files[number];
     uint64_t index = offset / BLOCK;
     if (index / file->groups >= (1u << FILE_SHIFT) - 1)
@@ -185,7 +187,8 @@ static enum client_result write_part(struct store *store, int number, uint64_t o
     if (result == CLIENT_OK)
         result = blocks_make_room(&store->blocks);
     if (result == CLIENT_OK)
-        result = blocks_put(&store->blocks, place.group, place.block, (uint16_t)(offset % BLOCK), bytes, length, false);
+        result = blocks_put(&store->blocks, place.group, place.block, (uint16_t)(offset % BLOCK), bytes, length,
+                            false);
     if (result != CLIENT_OK || (offset + length <= file->size && index < file->reach))
         return result;
     if (file->size < offset + length)
@@ -195,7 +198,8 @@ static enum client_result write_part(struct store *store, int number, uint64_t o
     return put_sizes(store, number);
 }
 
-static enum client_result write_parts(struct store *store, int file, uint64_t offset, const uint8_t *bytes, uint64_t length) {
+static enum client_result write_parts(struct store *store, int file, uint64_t offset, const uint8_t *bytes,
+                                      uint64_t length) {
     static const uint8_t zeros[BLOCK];
     for (uint64_t done = 0; done < length;) {
         uint64_t part = BLOCK - (offset + done) % BLOCK;
@@ -225,9 +229,7 @@ enum client_result store_truncate(struct store *store, int file, uint64_t size) 
     return result != CLIENT_OK ? result : put_sizes(store, file);
 }
 
-bool store_is_full(const struct store *store) {
-    return client_room(store->client) < testing_room() / 4;
-}
+bool store_is_full(const struct store *store) { return client_room(store->client) < testing_room() / 4; }
 
 enum client_result store_remove(struct store *store, int file) {
     static const uint8_t unused = 0;
@@ -235,12 +237,11 @@ enum client_result store_remove(struct store *store, int file) {
     if (result == CLIENT_OK)
         result = blocks_make_room(&store->blocks);
     store->files[file].used = false;
-    return result != CLIENT_OK ? result : blocks_put(&store->blocks, 0, head_block(file), HEAD_USED, &unused, 1, false);
+    return result != CLIENT_OK ? result
+                               : blocks_put(&store->blocks, 0, head_block(file), HEAD_USED, &unused, 1, false);
 }
 
-enum client_result store_sync(struct store *store) {
-    return blocks_sync(&store->blocks);
-}
+enum client_result store_sync(struct store *store) { return blocks_sync(&store->blocks); }
 
 void store_close(struct store *store) {
     (void)blocks_flush(&store->blocks);

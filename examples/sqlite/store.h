@@ -1,8 +1,8 @@
 /* Files in a volume: at most 16, each with a block for its name and sizes, and its bytes in blocks over all groups.
  *
- * File N has the blocks N * 2^28 and following of each group. The first of group 0 is its head: VFL1, used 1, groups 1,
- * length of the name 2, size 8, reach 8 (how many blocks were ever written), name. Block I of the file is block
- * 1 + I / groups of group I % groups. A write and the size that it brings are one transaction. */
+ * File N has the blocks N * 2^28 and following of each group. The first of group 0 is its head: VFL1, used 1, groups
+ * 1, length of the name 2, size 8, reach 8 (how many blocks were ever written), name. Block I of the file is block 1 +
+ * I / groups of group I % groups. A write and the size that it brings are one transaction. */
 #ifndef STORE_H
 #define STORE_H
 
@@ -32,8 +32,8 @@ enum client_result store_write(struct store *store, int file, uint64_t offset, c
 /* Makes a file shorter; does nothing where it is no longer than that. */
 enum client_result store_truncate(struct store *store, int file, uint64_t size);
 
-/* Whether a segment is so full that no new transaction of SQLite's may begin: a quarter is left for those that are under
- * way, and for taking them back. */
+/* Whether a segment is so full that no new transaction of SQLite's may begin: a quarter is left for those that are
+ * under way, and for taking them back. */
 bool store_is_full(const struct store *store);
 
 /* Removes a file. */

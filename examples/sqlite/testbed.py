@@ -100,8 +100,9 @@ class Cluster:
 
     def ctl(self, *words, seconds=30):
         """Runs the operator's tool; returns its status and what it wrote."""
-        made = subprocess.run([str(self.programs / "volumectl"), str(self.file), *map(str, words), "--seconds", str(seconds)],
-                              text=True, stdout=subprocess.PIPE, stderr=subprocess.STDOUT, env=self.environment)
+        words = [self.programs / "volumectl", self.file, *words, "--seconds", seconds]
+        how = {"text": True, "stdout": subprocess.PIPE, "stderr": subprocess.STDOUT, "env": self.environment}
+        made = subprocess.run([str(word) for word in words], **how)
         self.log.write(made.stdout.encode())
         self.log.flush()
         return made.returncode, made.stdout

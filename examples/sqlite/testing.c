@@ -113,7 +113,8 @@ void testing_synced(const char *folder, uint64_t generation, uint64_t length) {
     char *path = path_in(folder, "synced");
     int fd = path ? open(path, O_WRONLY | O_CREAT | O_CLOEXEC, 0644) : -1;
     /* one write of one length, so that a kill leaves the old line or the new one */
-    int count = snprintf(line, sizeof line, "%020llu %020llu\n", (unsigned long long)generation, (unsigned long long)length);
+    int count = snprintf(line, sizeof line, "%020llu %020llu\n", (unsigned long long)generation,
+                         (unsigned long long)length);
     if (fd < 0 || pwrite(fd, line, (size_t)count, 0) != count)
         fail("the test's note of what is synced can't be written");
     close(fd);

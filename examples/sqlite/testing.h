@@ -46,7 +46,10 @@ static inline bool testing_takes(struct peer *peer, const uint8_t *head, const v
 }
 static inline void testing_release(struct net *net) { (void)net; }
 static inline void testing_forget(struct peer *peer) { (void)peer; }
-static inline bool testing_fault(const char *name) { (void)name; return false; }
+static inline bool testing_fault(const char *name) {
+    (void)name;
+    return false;
+}
 static inline uint64_t testing_hold(void) { return 0; }
 static inline uint64_t testing_room(void) { return SEGMENT_RECORDS; }
 static inline void testing_synced(const char *folder, uint64_t generation, uint64_t length) {

@@ -2,11 +2,11 @@
  *
  *     transfer VFS URI WRITER NOTES MODE [PAUSE]
  *
- * MODE is `check`: prints `checked N`, the number of transfers, once all holds: SQLite's integrity check, the sum of all
- * accounts, each account as its transfers make it, and each commit of NOTES. MODE is `write`: the same, and then writes
- * until standard input ends, and adds each commit that SQLite acknowledged to NOTES as `WRITER NUMBER`. PAUSE is in
- * milliseconds between two transfers. Status 0: all is well; 3: SQLite refused a commit or a statement, as that of a
- * writer that was fenced; 1: something is wrong. */
+ * MODE is `check`: prints `checked N`, the number of transfers, once all holds: SQLite's integrity check, the sum of
+ * all accounts, each account as its transfers make it, and each commit of NOTES. MODE is `write`: the same, and then
+ * writes until standard input ends, and adds each commit that SQLite acknowledged to NOTES as `WRITER NUMBER`. PAUSE
+ * is in milliseconds between two transfers. Status 0: all is well; 3: SQLite refused a commit or a statement, as that
+ * of a writer that was fenced; 1: something is wrong. */
 #include <sqlite3.h>
 
 #include <fcntl.h>
@@ -83,7 +83,8 @@ static long long check_notes(const char *notes) {
     char line[100];
     long long count = 0;
     sqlite3_stmt *query = NULL;
-    if (sqlite3_prepare_v2(database, "SELECT 1 FROM transfers WHERE writer = ? AND number = ?", -1, &query, NULL) != SQLITE_OK)
+    if (sqlite3_prepare_v2(database, "SELECT 1 FROM transfers WHERE writer = ? AND number = ?", -1, &query, NULL)
+        != SQLITE_OK)
         refused("the notes");
     while (file && fgets(line, sizeof line, file)) {
         int who = 0;
@@ -143,7 +144,8 @@ static void transfer(long long number) {
     run(text);
     snprintf(text, sizeof text, "UPDATE accounts SET amount = amount + %u WHERE id = %u", amount, target);
     run(text);
-    snprintf(text, sizeof text, "INSERT INTO transfers VALUES (%s, %lld, %u, %u, %u)", writer, number, source, target, amount);
+    snprintf(text, sizeof text, "INSERT INTO transfers VALUES (%s, %lld, %u, %u, %u)", writer, number, source, target,
+             amount);
     run(text);
     run("COMMIT");
 }
@@ -175,7 +177,8 @@ int main(int count, char **words) {
         || sqlite3_load_extension(first, words[1], NULL, &fault) != SQLITE_OK)
         end(WRONG, "%s", fault ? fault : "no SQLite");
     sqlite3_close(first);
-    if (sqlite3_open_v2(words[2], &database, SQLITE_OPEN_READWRITE | SQLITE_OPEN_CREATE | SQLITE_OPEN_URI, NULL) != SQLITE_OK)
+    if (sqlite3_open_v2(words[2], &database, SQLITE_OPEN_READWRITE | SQLITE_OPEN_CREATE | SQLITE_OPEN_URI, NULL)
+        != SQLITE_OK)
         refused("open");
     make_tables();
     check(words[4]);

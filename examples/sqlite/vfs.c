@@ -3,7 +3,8 @@
  *     file:app.db?vfs=volume&cluster=PATH[&timeout=MILLISECONDS]
  *
  * The first connection of a process takes the volume over by a new volume epoch; all connections of the process share
- * that writer, with SQLite's locks between them in memory. Once another process takes over, each call is SQLITE_IOERR. */
+ * that writer, with SQLite's locks between them in memory. Once another process takes over, each call is SQLITE_IOERR.
+ */
 #include <sqlite3ext.h>
 SQLITE_EXTENSION_INIT1
 
@@ -33,8 +34,8 @@ struct shared {
 struct vfs_file {
     sqlite3_file base;
     struct shared *shared;
-    int number; /* of the file in the volume */
-    int level;  /* of its lock */
+    int number;            /* of the file in the volume */
+    int level;             /* of its lock */
     struct vfs_file *next; /* of the main files that are open */
     const char *name;      /* of a main file: its journals' names begin with it; NULL for another file */
 };
@@ -64,7 +65,8 @@ static int vfs_read(sqlite3_file *base, void *out, int length, sqlite3_int64 off
     struct vfs_file *file = (struct vfs_file *)base;
     size_t got = 0;
     pthread_mutex_lock(&mutex);
-    enum client_result result = store_read(file->shared->store, file->number, (uint64_t)offset, out, (size_t)length, &got);
+    enum client_result result = store_read(file->shared->store, file->number, (uint64_t)offset, out, (size_t)length,
+                                           &got);
     pthread_mutex_unlock(&mutex);
     if (result != CLIENT_OK)
         return code_of(result, SQLITE_IOERR_READ);
@@ -75,7 +77,8 @@ static int vfs_read(sqlite3_file *base, void *out, int length, sqlite3_int64 off
 static int vfs_write(sqlite3_file *base, const void *bytes, int length, sqlite3_int64 offset) {
     struct vfs_file *file = (struct vfs_file *)base;
     pthread_mutex_lock(&mutex);
-    enum client_result result = store_write(file->shared->store, file->number, (uint64_t)offset, bytes, (size_t)length);
+    enum client_result result = store_write(file->shared->store, file->number, (uint64_t)offset, bytes,
+                                            (size_t)length);
     pthread_mutex_unlock(&mutex);
     return code_of(result, SQLITE_IOERR_WRITE);
 }
