@@ -135,7 +135,6 @@ static void take_message(struct client *client, const struct frame *frame) {
     if (status != VOLUME_OK)
         return;
     client->changed = true;
-    client->progress = now_ms();
     send_made(client);
     if (message_kind(frame->body) == PAGE)
         take_page(client, frame);

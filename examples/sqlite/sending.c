@@ -170,12 +170,15 @@ void take_answer(struct client *client, const uint8_t *message) {
         client->refresh_wanted = true; /* the handle doesn't count it before it knows that membership */
         return;
     }
-    if (message_kind(message) == REPORT)
+    if (message_kind(message) == REPORT) {
         state->reported = true;
+        client->progress = now_ms();
+    }
     if (message_kind(message) != ACK)
         return;
     if (!state->installed) {
         state->installed = true;
+        client->progress = now_ms();
         restart_sending(state);
     }
     take_point(group, state, ack_complete_point(message));
