@@ -23,6 +23,8 @@ mod plan_calls;
 mod saved;
 mod segment_calls;
 mod status;
+#[cfg(test)]
+mod tests;
 
 pub use advance_calls::{VolumeReadiness, volume_authority_may_advance};
 pub use authority_calls::{
