@@ -26,7 +26,7 @@ const MOST_TRIED: u64 = 100_000;
 const LEAST_TRIED: u64 = 100;
 
 /// How many looks at a member or threshold cost as much as a node of the search.
-const LOOKS_A_NODE: u64 = 400;
+const LOOKS_A_NODE: u64 = 1_000;
 
 /// What is known of a claim.
 #[derive(Drop)]
