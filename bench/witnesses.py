@@ -4,7 +4,7 @@ member, which satisfy the claim's two sides, worked out here from the plan's tex
 
     python3 bench/witnesses.py
 
-It builds a small program over the crates `plan` and `explain` in a folder of its own, without proofs, and prints a line a family: how many
+It builds a small program over the crates `plan` and `witness` in a folder of its own, without proofs, and prints a line a family: how many
 claims fail, and for how many a witness was found.
 """
 import json
@@ -25,7 +25,7 @@ use std::fs::read;
 use std::process::ExitCode;
 use std::rt::{Env, Files};
 use std::{env, io};
-use explain::{Decision, decide};
+use witness::{Decision, decide};
 
 /// Prints the members of a set.
 fn print_set<R: Print>(rt: &R, members: MemberSet) -> io::Result<()> {
@@ -132,7 +132,7 @@ def main():
         top = pathlib.Path(folder)
         first = top / "first.json"
         first.write_text(plans_of([("", most([0, 1, 2]), most([0, 1, 2]))])[0])
-        program = tried(top, "witness_work", PROGRAM, ["quorum_expr", "plan", "explain"], [str(first)])
+        program = tried(top, "witness_work", PROGRAM, ["quorum_expr", "plan", "witness"], [str(first)])
         print("| Family | Claims | That hold | With a witness | Unknown |\n|---|---|---|---|---|")
         for name, texts in families("false"):
             file = top / "plan.json"

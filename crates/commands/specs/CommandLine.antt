@@ -34,17 +34,13 @@ workers_leaf name = with_rule (file_leaf name) workers_rule
 abbrev pub fleet_leaf : Text → App
 fleet_leaf name = with_rule (script_leaf name) workers_rule
 
--- a file that may be left out
-abbrev pub other_file_rule : Text → Rule
-other_file_rule id = record (new_rule id) { action = Some Set }
-
--- whether an explanation is JSON: --json
+-- whether a plan is explained as JSON: --json
 abbrev pub json_rule : Rule
 json_rule = record (new_rule (codes "json")) { long = Some (codes "json"); action = Some SetTrue }
 
--- a subcommand of a plan's file, and of a script's if it is named, that may write JSON
+-- a subcommand of a plan's file that may write JSON
 abbrev pub json_leaf : Text → App
-json_leaf name = with_rule (with_rule (file_leaf name) (other_file_rule (codes "script"))) json_rule
+json_leaf name = with_rule (file_leaf name) json_rule
 
 -- a subcommand as it stands before it is added
 pub record IsLeaf (a : App) (c : Command) : Type 0 where
@@ -65,6 +61,6 @@ with_fleet = with_subcommand with_runs (fleet_leaf (codes "fleet")).top
 abbrev pub with_search : App
 with_search = with_subcommand with_fleet (workers_leaf (codes "search")).top
 
--- check FILE, run PLAN SCRIPT, fleet PLAN SCRIPT -w N, search FILE -w N, explain FILE SCRIPT --json, whose script may be left out
+-- check FILE, run PLAN SCRIPT, fleet PLAN SCRIPT -w N, search FILE -w N, explain FILE --json
 abbrev pub tool : App
 tool = with_subcommand with_search (json_leaf (codes "explain")).top

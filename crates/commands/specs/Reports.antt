@@ -1,5 +1,5 @@
 -- What `explain --json` answers.
-use Rattle.std.specs.Prelude.{◌≡◌, ◌⊎◌, ◌<◌, ℕ, nat_lt, if◌then◌else◌, List, [], Bool, true, false, Result, Ok, Err, string_bytes}
+use Rattle.std.specs.Prelude.{◌≡◌, ◌⊎◌, ℕ, nat_lt, if◌then◌else◌, List, [], Bool, true, false, Result, Ok, Err, string_bytes}
 use Rattle.commands.specs.Answer.{Answer, no_memory}
 use Rattle.commands.specs.Answers.{ChecksTo}
 use Rattle.commands.specs.Explains.{ExplainsTo}
@@ -27,10 +27,6 @@ pub record ReportsTo (text : List ℕ) (answer : Answer) : Type 0 where
   pub due : ChecksTo text checked
   pub status_is : answer.status ≡ checked.status
   pub err_is : answer.err ≡ checked.err
-
--- A report with a status below 2 says nothing to standard error.
-abbrev pub IsQuiet : Report → Type 0
-IsQuiet report = report.status < 2 → string_bytes report.line ≡ []
 
 -- the status of a check that finds a fault
 abbrev pub status_of : Bool → ℕ

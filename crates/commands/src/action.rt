@@ -39,9 +39,4 @@ impl Job<'_> {
     pub fn reads_stdin(&self) -> bool {
         self.action == Action::Explain && self.plan == "-"
     }
-
-    /// Returns whether the script is read from standard input: that of `explain PLAN -`.
-    pub fn reads_script_from_stdin(&self) -> bool {
-        self.action == Action::Explain && self.script == Some("-")
-    }
 }

@@ -2,31 +2,18 @@
 
 ghost use Rattle.std.specs.Prelude.{IfOk};
 ghost use Rattle.plan.specs.LentClaims.{lent_state};
-ghost use Rattle.quorum_checker.specs.Claim.{first_state};
 ghost use Rattle.explain.specs.Answers.{IsClaimAnswer};
 
-use crate::deciding::{Decision, decide};
 use crate::facts::{ClaimFacts, ClaimState, Members, WitnessFacts};
-use crate::showing::{Witness, no_certificate};
 use crate::wording::nodes;
-use cert_search::search_one;
 use plan::ClaimRef;
-use quorum_checker::Claim;
 use refutation::Certificate;
 use std::alloc::Global;
 use volume_model::Fault;
+use witness::{Decision, Witness, decide, no_certificate};
 
 /// Of how many common members of a claim all cases are tried at most.
 const MOST_COMMON: u8 = 12;
-
-/// How many nodes the search tries at most for the certificate of a claim.
-const MOST_TRIED: u64 = 100_000;
-
-/// How many nodes the search tries at least: it finds each plain claim with as many.
-const LEAST_TRIED: u64 = 100;
-
-/// How many looks at a member or threshold cost as much as a node of the search.
-const LOOKS_A_NODE: u64 = 1_000;
 
 /// What is known of a claim.
 #[derive(Drop)]
@@ -64,17 +51,6 @@ fn most_common(size: u64, budget: u64) -> u8 {
     most
 }
 
-/// Returns what the search says of a claim with too many common members to try all cases.
-fn searched(alloc: Global, claim: &Claim<Global>, budget: u64) -> Result<ClaimAnswer, Fault>
-    ensures { IfOk result (IsClaimAnswer (first_state claim.now)) }
-{
-    let tries = (budget / LOOKS_A_NODE).max(LEAST_TRIED).min(MOST_TRIED);
-    match search_one(alloc, claim, tries)? {
-        Some(_) => Ok(ClaimAnswer::Uncertified),
-        None => Ok(ClaimAnswer::Unknown),
-    }
-}
-
 /// Returns what is known of a claim that its certificate doesn't show.
 fn undecided(alloc: Global, claim: &ClaimRef<'_>, budget: u64) -> Result<ClaimAnswer, Fault>
     ensures { IfOk result (IsClaimAnswer (lent_state claim.now)) }
@@ -84,7 +60,7 @@ fn undecided(alloc: Global, claim: &ClaimRef<'_>, budget: u64) -> Result<ClaimAn
     match decide(alloc, &held, most_common(size_of(claim), budget))? {
         Decision::Fails(witness) => Ok(ClaimAnswer::Fails(witness)),
         Decision::Holds(_) => Ok(ClaimAnswer::Uncertified),
-        Decision::Unknown => searched(alloc, &held, budget),
+        Decision::Unknown => Ok(ClaimAnswer::Unknown),
     }
 }
 

@@ -49,20 +49,7 @@ fn run<H: Threads + Wait + Sync>(rt: &HostRuntime, threads: &H) -> u8
     match job(alloc, words.as_slice()) {
         Ok(job) if job.reads_stdin() => {
             let mut plan = Source::new(Ok(rt.stdin()));
-            let mut script = opened(rt, job.script);
-            perform(
-                threads,
-                alloc,
-                &job,
-                &mut plan,
-                &mut script,
-                &mut out,
-                &mut err,
-            )
-        }
-        Ok(job) if job.reads_script_from_stdin() => {
-            let mut plan = opened(rt, Some(job.plan));
-            let mut script = Source::new(Ok(rt.stdin()));
+            let mut script = opened(rt, None);
             perform(
                 threads,
                 alloc,

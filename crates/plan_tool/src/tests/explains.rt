@@ -2,11 +2,12 @@
 
 ghost use Rattle.std.specs.Prelude.{◌<◌};
 
-use explain::{explain, stopping_members, stopping_set};
+use explain::explain;
 use plan::read_plan;
 use quorum_expr::{Expr, MemberSet, holds};
 use std::alloc::{AllocError, Global};
 use std::test::*;
+use witness::{stopping_members, stopping_set};
 
 /// Three of six members read, and three write; then a step that adds a member and drops two.
 const THREE_OF_SIX: &str = r#"{"format":1,"lal":10,"groups":[{"configurations":[

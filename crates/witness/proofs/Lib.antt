@@ -1,0 +1,7 @@
+mod Disjoint
+mod Split
+mod Named
+mod Complete
+mod Apart
+mod Decided
+mod Losses

@@ -1,0 +1,5 @@
+pub mod Witness
+pub mod Naming
+pub mod Cases
+pub mod Decision
+pub mod Tolerance
