@@ -407,10 +407,26 @@ static void recover(void) {
     printf("recovered: volume epoch %u, durable %llu\n", (unsigned)volume_epoch, (unsigned long long)points.durable);
 }
 
+/* Whether the members that are whole can read a configuration of the group. */
+static bool may_advance(uint32_t configuration) {
+    struct volume_readiness readiness;
+    uint8_t whole[MEMBERS];
+    size_t count = 0;
+    for (uint8_t member = 0; member < MEMBERS; member++) {
+        struct volume_segment_state state;
+        DO(volume_segment_state(&nodes[member].segment, &state));
+        if (state.is_whole)
+            whole[count++] = member;
+    }
+    DO(volume_authority_may_advance(&authority, 0, configuration, whole, count, &readiness));
+    return readiness.can_read;
+}
+
 /* The authority leads the group to a configuration; the nodes and the writer follow. */
 static void advance(uint32_t configuration) {
     uint8_t disk[40];
     size_t length;
+    WANT(may_advance(configuration));
     DO(volume_authority_advance(&authority, 0, configuration));
     save_authority(disk, &length);
     send_all(&authority, 255);
