@@ -183,8 +183,9 @@ static bool wait_until_safe(struct ctl *ctl, int group, int to) {
     int member = -1;
     uint64_t point = 0;
     look(ctl);
-    point = furthest(ctl, group);
     for (;; look(ctl)) {
+        if (point == 0)
+            point = furthest(ctl, group);
         if (ctl->placed && group >= ctl->joined)
             fail("group %d hasn't joined", group);
         why = ctl->placed ? unsafe(ctl, group, to, point, &member) : "the authority doesn't answer";
@@ -257,7 +258,9 @@ static int advance_group(struct ctl *ctl, int group, int to) {
 static int advance(struct ctl *ctl, const char *group, const char *to) {
     if (strcmp(group, "all") != 0)
         return advance_group(ctl, atoi(group), atoi(to));
-    look(ctl);
+    do {
+        look(ctl);
+    } while (!ctl->placed && now_ms() < ctl->deadline);
     if (!ctl->placed)
         fail("the authority doesn't answer");
     int joined = ctl->joined, failed = 0;
@@ -352,11 +355,11 @@ int main(int count, char **given) {
         else
             fail("what is %s?", given[i]);
     }
-    ctl.began = now_ms();
     if (kept < 2)
         kept = 1;
     else
         start(&ctl, words[0]);
+    ctl.began = now_ms();
     ctl.deadline = ctl.began + (uint64_t)(seconds > 0 ? seconds : 0) * 1000;
     int result = run(&ctl, kept - 1, words + 1);
     net_close(&ctl.net);
