@@ -90,8 +90,10 @@ static void save(struct node *node) {
         const struct buffer *bytes = segment->whole ? &made : &segment->birth;
         if (!segment->handle.live)
             continue;
-        if (segment->whole)
+        if (segment->whole) {
             snapshot_of(segment, &made);
+            segment->installing = false; /* the pieces that it had are gone, and will be sent again */
+        }
         put32(head + 1, (uint32_t)bytes->length);
         if (!buffer_add(&sections, head, sizeof head) || !buffer_add(&sections, bytes->at, bytes->length)
             || !buffer_add(&first, segment->carried.at, segment->carried.length))

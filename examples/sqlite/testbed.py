@@ -79,7 +79,7 @@ class Cluster:
 
     def await_birth(self, members):
         """Waits until the nodes have their first snapshots."""
-        until = time.monotonic() + 20
+        until = time.monotonic() + 120
         while time.monotonic() < until:
             if all((self.folder / f"node{member}" / "snapshot").exists() for member in members):
                 return
