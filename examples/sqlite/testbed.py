@@ -48,7 +48,7 @@ class Cluster:
         self.file.write_text("\n".join(rows) + "\n", encoding="utf-8")
         self.log = open(self.folder / "output", "ab")
 
-    def uri(self, timeout=30000):
+    def uri(self, timeout=120000):
         """The name of the database, for SQLite."""
         return f"file:app.db?vfs=volume&cluster={self.file}&timeout={timeout}"
 
