@@ -413,9 +413,9 @@ static bool may_advance(uint32_t configuration) {
     uint8_t whole[MEMBERS];
     size_t count = 0;
     for (uint8_t member = 0; member < MEMBERS; member++) {
-        struct volume_segment_state state;
-        DO(volume_segment_state(&nodes[member].segment, &state));
-        if (state.is_whole)
+        struct volume_segment_state found;
+        DO(volume_segment_state(&nodes[member].segment, &found));
+        if (found.is_whole)
             whole[count++] = member;
     }
     DO(volume_authority_may_advance(&authority, 0, configuration, whole, count, &readiness));
