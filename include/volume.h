@@ -352,9 +352,9 @@ uint8_t volume_authority_grow(struct volume_handle *authority);
  * is shorter. */
 uint8_t volume_authority_snapshot(struct volume_handle *authority, uint8_t *out, size_t out_length, size_t *needed);
 
-/* Returns in readiness what the members whole of a group, those that are whole, allow after volume_authority_advance
- * to a configuration. Advance only if can_read is true: after any other advance no later recovery may ever open the
- * volume. A member that was whole stays whole.
+/* Returns in readiness what the whole members of a group allow after volume_authority_advance to a configuration.
+ * whole has their numbers, from 0 to 63. Advance only if can_read is true: a recovery needs the reports of a read
+ * quorum, and only whole members report. A member that was whole stays whole, so an older list serves as well.
  *
  * Refused 42 where no such group has joined, 41 where the group's configuration has no such child. */
 uint8_t volume_authority_may_advance(struct volume_handle *authority, uint8_t group, uint32_t configuration,

@@ -278,40 +278,34 @@ static bool is_filled(const uint8_t *at, size_t length) {
     return true;
 }
 
-/* A message into each buffer that is too small: 92 and its length, and the message stays. */
+typedef uint8_t writes(struct volume_handle *actor, uint8_t *out, size_t length, size_t *needed);
+
+/* A call into each buffer that is too small: 92 and the length that it needs, and nothing is written; then into one that
+ * is just large enough. */
+static void short_buffers(struct volume_handle *actor, writes *call) {
+    uint8_t out[400];
+    size_t needed = 0;
+    GIVES(VOLUME_TOO_SMALL, call(actor, out, 0, &needed));
+    size_t length = needed;
+    WANT(length > 0 && length < sizeof out);
+    for (size_t room = 0; room < length; room++) {
+        fill(out, sizeof out);
+        GIVES(VOLUME_TOO_SMALL, call(actor, out, room, &needed));
+        WANT(needed == length && is_filled(out, sizeof out));
+    }
+    fill(out, sizeof out);
+    DO(call(actor, out, length, &needed));
+    WANT(needed == length && is_filled(out + length, sizeof out - length));
+}
+
+/* A message stays until a buffer takes it, and is handed out once. */
 static void short_message_buffers(struct volume_handle *actor) {
     uint8_t out[200];
     size_t needed = 0;
-    GIVES(VOLUME_TOO_SMALL, volume_next_message(actor, out, 0, &needed));
-    size_t length = needed;
-    WANT(length > 0 && length < sizeof out);
-    for (size_t room = 0; room < length; room++) {
-        fill(out, sizeof out);
-        GIVES(VOLUME_TOO_SMALL, volume_next_message(actor, out, room, &needed));
-        WANT(needed == length && is_filled(out, sizeof out));
-    }
-    DO(volume_next_message(actor, out, length, &needed));
-    WANT(needed == length && is_filled(out + length, sizeof out - length));
+    short_buffers(actor, volume_next_message);
     fill(out, sizeof out);
     GIVES(VOLUME_NO_MORE, volume_next_message(actor, out, sizeof out, &needed));
     WANT(needed == 0 && is_filled(out, sizeof out));
-}
-
-typedef uint8_t saves(struct volume_handle *actor, uint8_t *out, size_t length, size_t *needed);
-
-static void short_snapshot_buffers(struct volume_handle *actor, saves *save) {
-    uint8_t out[400];
-    size_t needed = 0;
-    GIVES(VOLUME_TOO_SMALL, save(actor, out, 0, &needed));
-    size_t length = needed;
-    WANT(length > 0 && length < sizeof out);
-    for (size_t room = 0; room < length; room++) {
-        fill(out, sizeof out);
-        GIVES(VOLUME_TOO_SMALL, save(actor, out, room, &needed));
-        WANT(needed == length && is_filled(out, sizeof out));
-    }
-    DO(save(actor, out, length, &needed));
-    WANT(needed == length && is_filled(out + length, sizeof out - length));
 }
 
 static void short_page_buffers(struct volume_handle *segment) {
@@ -416,8 +410,8 @@ static void buffers(const struct bytes *text) {
     hold_all(text, handles);
     changes_of_bad_length(&handles[WRITER]);
     unsent(handles);
-    short_snapshot_buffers(&handles[SEGMENT], volume_segment_snapshot);
-    short_snapshot_buffers(&handles[AUTHORITY], volume_authority_snapshot);
+    short_buffers(&handles[SEGMENT], volume_segment_snapshot);
+    short_buffers(&handles[AUTHORITY], volume_authority_snapshot);
     short_page_buffers(&handles[SEGMENT]);
     GIVES(VOLUME_NOT_OPEN, call_writer_points(&handles[RECOVERY]));
     GIVES(VOLUME_NOT_READY, volume_recovery_cut(&handles[RECOVERY]));

@@ -578,8 +578,8 @@ impl Authority {
         checked(unsafe { raw::volume_authority_advance(&mut self.0 .0, group, configuration) })
     }
 
-    /// Returns what the whole members of a group allow after an advance to a configuration. Advance only if they can
-    /// read: after any other advance no later recovery may ever open the volume.
+    /// Returns what the whole members of a group allow after an advance to a configuration; `whole` has their numbers.
+    /// Advance only if they can read: a recovery needs the reports of a read quorum, and only whole members report.
     ///
     /// # Errors
     /// Those of [`Authority::advance`].

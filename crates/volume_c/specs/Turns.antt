@@ -16,6 +16,10 @@ use Rattle.volume_c.specs.Joined.{one_turn}
 abbrev pub turn_of : List Message → Segment → NodeStep
 turn_of waiting s = record { made = messages_of waiting; node = node_of s }
 
+-- a segment has answered the same as before, and its node is the same
+abbrev pub IsSameTurn : List Message → Segment → List Message → Segment → Type 0
+IsSameTurn before old after new = turn_of after new ≡ turn_of before old
+
 -- the turn of this segment's node
 abbrev pub own_turn : Segment → NodeStep → model.Message → NodeAnswer
 own_turn s before m = one_turn (segment_plan s) (segment_group s) (segment_member s) before m

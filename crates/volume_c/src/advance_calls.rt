@@ -64,9 +64,9 @@ fn readiness_of_held(
     }
 }
 
-/// Returns in `readiness` what the members `whole` of a group, those that are whole, allow after
-/// `volume_authority_advance` to a configuration. Advance only if `can_read` is true: after any other advance no later
-/// recovery may ever open the volume. A member that was whole stays whole.
+/// Returns in `readiness` what the whole members of a group allow after `volume_authority_advance` to a configuration.
+/// `whole` has their numbers, from 0 to 63. Advance only if `can_read` is true: a recovery needs the reports of a read
+/// quorum, and only whole members report. A member that was whole stays whole, so an older list serves as well.
 ///
 /// Refused 42 where no such group has joined, 41 where the group's configuration has no such child.
 #[unsafe(no_mangle)]

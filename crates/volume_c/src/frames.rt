@@ -7,7 +7,7 @@ ghost use Rattle.wire.specs.Message.{message_of, messages_of};
 ghost use Rattle.segment_core.specs.Segment.{IsSameActor};
 ghost use Rattle.volume_c.specs.Joined.{covers, joined};
 ghost use Rattle.volume_c.specs.Frames.{framed, next_in, TakesFrame};
-ghost use Rattle.volume_c.specs.Turns.{own_next, own_turn, turn_of, IsNextRefusal, TookOwn};
+ghost use Rattle.volume_c.specs.Turns.{own_next, own_turn, turn_of, IsNextRefusal, IsSameTurn, TookOwn};
 
 use crate::actor::{Actor, Held};
 use crate::handle::Handle;
@@ -96,7 +96,7 @@ fn take_turn(
 ) -> Result<(), Fault>
     ensures turn { Gives (λ _. turn_of waiting.new.items segment.new) result (own_turn segment.old
         (turn_of waiting.old.items segment.old) (message_of message.now)) }
-    ensures same { IfErr result (λ _. turn_of waiting.new.items segment.new ≡ turn_of waiting.old.items segment.old) }
+    ensures same { IfErr result (λ _. IsSameTurn waiting.old.items segment.old waiting.new.items segment.new) }
     ensures actor { IsSameActor segment.old segment.new }
 {
     let prepared = segment.prepare(alloc, message)?;
@@ -117,7 +117,7 @@ fn take_next<'a>(
         (turn_of waiting.new.items segment.new)) }
     ensures refused { IfErr result (λ fault. Fails fault (own_next segment.old (turn_of waiting.old.items segment.old)
         bytes.now)) }
-    ensures same { IfErr result (λ _. turn_of waiting.new.items segment.new ≡ turn_of waiting.old.items segment.old) }
+    ensures same { IfErr result (λ _. IsSameTurn waiting.old.items segment.old waiting.new.items segment.new) }
     ensures shorter { IfOk result (λ rest. length rest.now < length bytes.now) }
     ensures actor { IsSameActor segment.old segment.new }
 {
@@ -137,8 +137,8 @@ fn take_all<'a>(
     ensures took { TookOwn segment.old frame.now result.0.now (turn_of waiting.old.items segment.old)
         (turn_of waiting.new.items segment.new) }
     ensures all { result.1 ≡ 0 → result.0.now ≡ [] }
-    ensures refused { result.1 ≢ 0 → IsNextRefusal result.1 (own_next segment.old (turn_of waiting.new.items segment.new)
-        result.0.now) }
+    ensures refused { result.1 ≢ 0 → IsNextRefusal result.1
+        (own_next segment.old (turn_of waiting.new.items segment.new) result.0.now) }
     ensures actor { IsSameActor segment.old segment.new }
 {
     let mut rest = frame;

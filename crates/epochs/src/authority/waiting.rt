@@ -12,8 +12,8 @@ use volume_model::Fault;
 /// What the whole members of a group allow after an advance to a configuration.
 #[derive(Clone, Copy, Debug, PartialEq, Eq)]
 pub struct Readiness {
-    /// Whether they satisfy the configuration's read expression. If they don't, wait: after such an advance no later
-    /// recovery of the volume could open.
+    /// Whether they satisfy the configuration's read expression. If they don't, wait with the advance: a recovery needs
+    /// the reports of a read quorum, and only whole members report.
     pub can_read: bool,
     /// Whether they satisfy its write expression. If they don't, commits wait until more members have hydrated.
     pub can_write: bool,
@@ -25,8 +25,8 @@ impl Authority {
     /// Returns what the members of a group that are whole allow after [`Authority::advance`] to a configuration. Takes
     /// no memory.
     ///
-    /// An advance is safe if `can_read` is true. A member that was whole stays whole, so an older list of whole members
-    /// serves as well.
+    /// Advance only if `can_read` is true. A member that was whole stays whole, so an older list of whole members serves
+    /// as well.
     ///
     /// # Errors
     /// Those of [`Authority::admits_advance`].
