@@ -1,8 +1,8 @@
-"""Times `plan_tool run` on scripts of five kinds, each of about 1,000, 10,000 and 100,000 lines, in one run on one core.
+"""Times `plan_tool run` on scripts of six kinds, each of about 1,000, 10,000 and 100,000 lines, in one run on one core.
 
     python3 bench/scripts.py [crates/plan_tool/out/plan_tool]
 
-Whole processes are timed from their start to their end; each time is the least of several rounds, of fewer where the script is long. Each kind's plan is also run with a script of no event, whose time, that of the process's start and of the plan's check, is taken off before the time a line is worked out. Memory is the most that a process had; as a process begins as a copy of this one, less than this one's can't be seen. Of each run the status is 0, no line is refused, and the lines on the writers and recoveries at its end are those worked out here while the script was made; otherwise the kind ends there, and so does this program with status 1. A kind also ends at a size whose run isn't over after LONGEST seconds.
+Whole processes are timed from their start to their end; each time is the least of several rounds, of fewer where the script is long. Each kind's plan is also run with a script without events; that time (the process's start and the plan's check) is subtracted before the time for each line is computed. Memory is the most that a process used; a process begins as a copy of this one, so less than this one's can't be measured. Each run must have status 0, refuse no line, and print the expected lines of writers and recoveries; otherwise the kind ends there, and this program with status 1. A kind also ends at a size whose run takes more than LONGEST seconds.
 """
 import json
 import os
@@ -25,7 +25,7 @@ REPLACED = os.path.join(os.path.dirname(os.path.abspath(__file__)), "..", "examp
 
 
 class Script:
-    """The lines of a script, and what a run of it comes to: the LSNs, how many records are durable, the writers at their ends, the recoveries."""
+    """The lines of a script, and the expected result of its run: the LSNs, the number of durable records, the writers at the end, the recoveries."""
 
     def __init__(self, name):
         self.lines = [f"# {name}"]
@@ -35,16 +35,16 @@ class Script:
         self.writers, self.recoveries = [], []
 
     def add(self, *words):
-        """Adds a line, and gives its number."""
+        """Adds a line. Returns its number."""
         self.lines.append(" ".join(str(word) for word in words))
         return len(self.lines)
 
     def deliver(self, group, members, message):
-        """The message goes to each member; gives the names of their answers."""
+        """Delivers the message to each member. Returns the names of their answers."""
         return [f"{self.add('deliver', group, member, message)}.1" for member in members]
 
     def deliver_pieces(self, group, members, line):
-        """The pieces of all durable records, which that line made, go to each member; gives the names of the answers to the last ones."""
+        """Delivers the pieces of all durable records, which that line made, to each member. Returns the names of the answers to the last ones."""
         last = []
         for member in members:
             for piece in range(1, self.pieces() + 1):
@@ -53,7 +53,7 @@ class Script:
         return last
 
     def pieces(self):
-        """How many pieces all durable records make."""
+        """The number of pieces of all durable records."""
         return max(1, -(-self.records // PIECE))
 
     def take(self, messages):
@@ -61,7 +61,7 @@ class Script:
             self.add("take", self.volume, message)
 
     def issue(self, groups):
-        """A transaction of a record in each of these groups; gives the records' LSNs and the names of their messages."""
+        """Issues a transaction with a record in each of these groups. Returns the records' LSNs and the names of their messages."""
         first = max(self.last, self.start) + 1
         lsns = list(range(first, first + len(groups)))
         block = self.transactions % 16
@@ -72,7 +72,7 @@ class Script:
         return lsns, [f"{line}.{place}" for place in range(1, len(groups) + 1)]
 
     def write(self, groups, members):
-        """A transaction that becomes durable: each record is delivered to these members of its group, and what they acknowledge is taken."""
+        """Makes a transaction durable: delivers each record to these members of its group, and lets the writer take their acknowledgements."""
         _, messages = self.issue(groups)
         for group, message in zip(groups, messages):
             self.take(self.deliver(group, members, message))
@@ -88,29 +88,29 @@ class Script:
 
 
 def four_from(first):
-    """Four of the six members, from this one on."""
+    """Four of the six members, beginning with this one and going round."""
     return [(first + i) % 6 for i in range(4)]
 
 
 def one_group(script):
-    """The groups of the next transaction's one to four records, where there is one group."""
+    """The groups of the next transaction's one to four records, if there is one group."""
     return [0] * (1 + script.transactions % 4)
 
 
 def many_groups(script):
-    """The same where there are GROUPS: the records lie in successive groups."""
+    """The same for GROUPS groups: the records are in successive groups."""
     number = script.transactions
     return [(number + i) % GROUPS for i in range(1 + number // GROUPS % 4)]
 
 
 def write_until(script, size, groups_of, members):
-    """Durable transactions, as long as one of four records still fits below so many lines."""
+    """Makes durable transactions, as long as one of four records still fits into this many lines."""
     while len(script.lines) + 1 + 8 * len(members) <= size:
         script.write(groups_of(script), members)
 
 
 def steady(size):
-    """One writer, one group of six: all goes to four members, whose acknowledgements are all taken."""
+    """One writer and one group of six. Four members get all records, and all their acknowledgements are taken."""
     script = Script("steady writing")
     write_until(script, size, one_group, four_from(0))
     return script
@@ -131,7 +131,7 @@ def reverse(size):
 
 
 def recover(script):
-    """The writer's last transaction reaches one member alone. Three others are read, so the recovery cuts before it; the log found is installed on four, and the recovery becomes the writer."""
+    """The writer's last transaction reaches only one member. Three others are read, so the recovery cuts before it. The log found is installed on four, and the recovery becomes the writer."""
     _, messages = script.issue(one_group(script))
     for message in messages:
         script.take(script.deliver(0, [script.volume % 6], message))
@@ -150,7 +150,7 @@ def recover(script):
 
 
 def recoveries(size):
-    """Like `steady`, with a recovery after each SPAN lines. A report carries all records that its node holds; what is installed comes in pieces."""
+    """Like `steady`, with a recovery after each SPAN lines. A report has all records that its node holds; an install comes in pieces."""
     script = Script("recoveries between")
     while len(script.lines) + SPAN + 30 + 4 * (script.pieces() + 1) <= size:
         write_until(script, len(script.lines) + SPAN, one_group, four_from(script.volume))
@@ -159,8 +159,17 @@ def recoveries(size):
     return script
 
 
+def quick_recoveries(size):
+    """Like `recoveries`, with one durable record between two recoveries, so that the lineage grows as fast as the log."""
+    script = Script("recoveries after each record")
+    while len(script.lines) + 9 + 30 + 4 * (script.pieces() + 1) <= size:
+        script.write([0], four_from(script.volume))
+        recover(script)
+    return script
+
+
 def copy_to_new_member(script):
-    """The group advances; the new member 6 asks 0, 1 and 2 for copies. Gives the StepTo and the lines that made the copies, which it hasn't yet taken."""
+    """Advances the group; the new member 6 asks 0, 1 and 2 for copies. Returns the StepTo and the lines that made the copies, which it hasn't taken yet."""
     step = f"{script.add('advance', 0, 1)}.1"
     ask = script.deliver(0, [6], step)[0]
     script.deliver(0, [0, 1, 2], step)
@@ -168,7 +177,7 @@ def copy_to_new_member(script):
 
 
 def replace(script):
-    """Member 6 comes in beside 5, and becomes whole. Transactions that the writer issues meanwhile reach 5 alone; they are sent once more when the writer has been told of the new configuration, and get durable then."""
+    """Adds member 6 beside 5, and makes it whole. Transactions that the writer issues meanwhile reach only 5 of the two. They are sent again once the writer has the new configuration, and become durable then."""
     step, copies = copy_to_new_member(script)
     pieces = script.pieces()
     open_lsns = []
@@ -191,7 +200,7 @@ def replace(script):
 
 
 def replaced(size):
-    """One writer; halfway a member is replaced. Before, all goes to 0, 1, 2, 5; behind it to 6 too, which makes four of the old six and four of the new."""
+    """One writer; halfway a member is replaced. Before that 0, 1, 2 and 5 get all records, after it 6 too: four of the old six and four of the new."""
     script = Script("a member replaced")
     write_until(script, size // 2, one_group, [0, 1, 2, 5])
     replace(script)
@@ -207,7 +216,7 @@ def four_groups(size):
 
 
 def six_copies(groups):
-    """The text of a plan of so many groups of six full copies."""
+    """The text of a plan of this many groups of six full copies."""
     group = {"configurations": [configuration(None)]}
     return json.dumps({"format": 1, "lal": LAL, "groups": [group] * groups})
 
@@ -220,7 +229,7 @@ def member_replaced():
 
 
 def start(words, out):
-    """Starts a process that writes to a file. Its alarm outlives the exec, and ends it after LONGEST seconds."""
+    """Starts a process that writes to a file. An alarm ends it after LONGEST seconds."""
     child = os.fork()
     if child == 0:
         os.dup2(out.fileno(), 1)
@@ -231,7 +240,7 @@ def start(words, out):
 
 
 def run(words, path):
-    """A process: its seconds, its most memory in MB, its status, its output; the status is below 0 where a signal ended it."""
+    """Runs a process. Returns its seconds, its most memory in MB, its status, and its output; the status is negative if a signal ended it."""
     with open(path, "w+") as out:
         begun = time.perf_counter()
         _, status, used = os.wait4(start(words, out), 0)
@@ -241,7 +250,7 @@ def run(words, path):
 
 
 def fault(script, status, said):
-    """What is wrong with a run, none where it is as it should be."""
+    """What is wrong with a run, None if nothing is."""
     if status == -signal.SIGALRM:
         return f"stopped after {LONGEST} s"
     if status != 0:
@@ -286,7 +295,7 @@ def row(name, script, bare, took, memory, wrong):
 
 
 def measure_kind(tool, name, make, plan, folder):
-    """Prints a kind's rows; whether all its sizes were measured, or the kind was stopped for its time alone."""
+    """Prints a kind's rows. Returns whether all its sizes were measured, or it ended only because of its time."""
     bare, memory, wrong = measure(tool, Script(name), plan, max(ROUNDS.values()), folder)
     print(row(name, Script(name), bare, bare, memory, wrong), flush=True)
     for size, rounds in ROUNDS.items():
@@ -308,6 +317,7 @@ def main():
             measure_kind(tool, "steady writing", steady, six_copies(1), folder),
             measure_kind(tool, "records in reverse", reverse, six_copies(1), folder),
             measure_kind(tool, "recoveries between", recoveries, six_copies(1), folder),
+            measure_kind(tool, "recoveries after each record", quick_recoveries, six_copies(1), folder),
             measure_kind(tool, "a member replaced", replaced, member_replaced(), folder),
             measure_kind(tool, "four groups", four_groups, six_copies(GROUPS), folder),
         ]

@@ -5,7 +5,7 @@ ghost use Rattle.lineage.specs.Newest.{last_epochs};
 
 use crate::lineage::Lineage;
 
-/// Returns the index of the newest lineage: the first of those with the greatest last epoch. Takes no memory.
+/// Returns the index of the newest lineage, the first with the greatest last epoch. Allocates nothing.
 pub fn newest(lineages: &[Lineage]) -> usize
     requires { 0 < length lineages.now }
     ensures there { result < length lineages.now }

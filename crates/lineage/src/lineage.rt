@@ -10,13 +10,12 @@ use std::alloc::{AllocError, Global};
 use std::sync::Arc;
 use volume_model::Fault;
 
-/// The entries of the recoveries that a volume went through, of growing volume epochs and starts. Clones and extensions share
-/// them.
+/// The entries of a volume's recoveries. Volume epochs and starts grow. Clones and extended lineages share the entries.
 #[derive(Drop)]
 pub struct Lineage {
     alloc: Global,
     last: Option<Entry>,
-    /// The entries before the last, where there are any.
+    /// The entries before the last one, if there are any.
     before: Option<Arc<Past>>,
     ghost growing: { is_lineage (entries_with last before) ≡ true },
 }
@@ -30,7 +29,7 @@ impl Lineage {
     ghost use Rattle.lineage.specs.Entries.{entries_of, entry_of, kept_before};
     ghost use Rattle.lineage.specs.Lineage.{lineage_of};
 
-    /// Makes a lineage without entries, as a segment has before it is whole.
+    /// Makes a lineage without entries, which a segment has before it is whole.
     pub fn empty(alloc: Global) -> Lineage
         ensures { lineage_of result ≡ [] }
     {
@@ -53,7 +52,7 @@ impl Lineage {
         Lineage::empty(alloc).with(first)
     }
 
-    /// Returns the volume epoch of the last entry, 0 where there is none.
+    /// Returns the volume epoch of the last entry, 0 if there is none.
     pub fn last_epoch(&self) -> u32
         ensures { result ≡ last_epoch (lineage_of self.now) }
     {
@@ -63,7 +62,7 @@ impl Lineage {
         }
     }
 
-    /// Returns the cut of the last entry, 0 where there is none.
+    /// Returns the cut of the last entry, 0 if there is none.
     pub fn last_cut(&self) -> u64
         ensures { result ≡ last_cut (lineage_of self.now) }
     {
@@ -73,7 +72,7 @@ impl Lineage {
         }
     }
 
-    /// Returns the start of the last entry, 0 where there is none.
+    /// Returns the start of the last entry, 0 if there is none.
     pub fn last_start(&self) -> u64
         ensures { result ≡ last_start (lineage_of self.now) }
     {
@@ -83,8 +82,8 @@ impl Lineage {
         }
     }
 
-    /// Returns whether a record of this volume epoch and number is live: the epoch has an entry, the number is above
-    /// its start, and no later entry's cut is below it.
+    /// Returns whether a record with this volume epoch and LSN is live: the epoch has an entry, the LSN is above its
+    /// start, and no later entry's cut is below the LSN.
     pub fn is_live(&self, volume_epoch: u32, lsn: u64) -> bool
         ensures { result ≡ is_live (lineage_of self.now) volume_epoch lsn }
     {
@@ -103,7 +102,7 @@ impl Lineage {
         }
     }
 
-    /// Returns the newer of two lineages: the one whose last epoch is greater, and this one where both have the same.
+    /// Returns the newer of two lineages: the one whose last epoch is greater, or this one if both have the same.
     pub fn newer<'a>(&'a self, other: &'a Lineage) -> &'a Lineage
         ensures { lineage_of result.now ≡ newer (lineage_of self.now) (lineage_of other.now) }
     {
@@ -114,7 +113,7 @@ impl Lineage {
         }
     }
 
-    /// Returns all of its entries, as those before one more. Fails only with `NoMemory`.
+    /// Returns all entries as the past of one more entry. Fails only with `NoMemory`.
     fn all(&self) -> Result<Option<Arc<Past>>, AllocError>
         ensures { IfOk result (λ before. kept_before before ≡ lineage_of self.now) }
     {
@@ -128,7 +127,7 @@ impl Lineage {
         Ok(Some(Arc::new(self.alloc, past)?))
     }
 
-    /// Returns the lineage with one entry more. Fails only with `NoMemory`.
+    /// Returns the lineage with one more entry. Fails only with `NoMemory`.
     fn with(&self, entry: Entry) -> Result<Lineage, AllocError>
         requires { is_lineage (entry_of entry ∷ lineage_of self.now) ≡ true }
         ensures { IfOk result (λ lineage. lineage_of lineage ≡ entry_of entry ∷ lineage_of self.now) }
@@ -140,11 +139,11 @@ impl Lineage {
         })
     }
 
-    /// Returns the lineage with one entry more, which may come from outside.
+    /// Returns the lineage with one more entry, after checking it.
     ///
     /// # Errors
-    /// `BadField` if the entry can't come after the last: its volume epoch or its start isn't greater, or its cut is above its start;
-    /// `NoMemory` if a growth was refused.
+    /// `BadField` if the entry can't follow the last one (its volume epoch or start isn't greater, or its cut is above
+    /// its start); `NoMemory` if memory runs out.
     pub fn added(&self, entry: Entry) -> Result<Lineage, Fault>
         ensures { AnswersNew lineage_of (refuse_if (not (is_lineage (entry_of entry ∷ lineage_of self.now))) BadField
             (Ok (entry_of entry ∷ lineage_of self.now))) result }
@@ -162,7 +161,7 @@ impl Lineage {
     /// Returns all entries, oldest first.
     ///
     /// # Errors
-    /// Out of memory.
+    /// Fails only if memory runs out.
     pub fn entries(&self, alloc: Global) -> Result<Vec<Entry>, AllocError>
         ensures { IfOk result (λ list. entries_of list.items ≡ lineage_of self.now) }
     {
@@ -177,9 +176,9 @@ impl Lineage {
         Ok(list)
     }
 
-    /// Returns the lineage with the entry that a recovery of a later volume epoch adds, whose own numbers begin `lal`
-    /// above all that its log can have. `LsnSpent` if they would begin above the greatest number, and else `NoMemory`
-    /// if there is no memory.
+    /// Returns the lineage with the entry that a recovery of a later volume epoch adds. The recovery's own LSNs begin
+    /// `lal` above all LSNs that its log can have. `LsnSpent` if they would begin above the greatest LSN; else
+    /// `NoMemory` if memory runs out.
     pub fn extend(&self, volume_epoch: u32, cut: u64, lal: u64) -> Result<Lineage, Fault>
         requires later { last_epoch (lineage_of self.now) < volume_epoch }
         requires allowance { 1 ≤ lal }

@@ -9,18 +9,18 @@ use crate::entry::Entry;
 use crate::shared_chunks::SharedChunks;
 use std::alloc::{AllocError, Global};
 
-/// How many entries a chunk has at most.
+/// The most entries in a chunk.
 const MOST_ENTRIES: usize = 16;
 
 /// The entries before the last, oldest first.
 #[derive(Drop)]
 pub struct Past {
-    /// All but the recent ones, in chunks that are shared.
+    /// All entries but the recent ones, in shared chunks.
     chunks: SharedChunks,
     recent: Vec<Entry>,
 }
 
-/// Returns whether a record is live, if these entries decide it.
+/// Returns whether a record is live, if these entries decide it. Older entries decide the others.
 fn judge(entries: &[Entry], volume_epoch: u32, lsn: u64) -> Option<bool>
     ensures { MatchOption result ((older : model.Lineage) → is_live (entries_of entries.now ++ older) volume_epoch lsn
         ≡ is_live older volume_epoch lsn) (λ live. (older : model.Lineage) → is_live (entries_of entries.now ++ older)
@@ -37,7 +37,7 @@ fn judge(entries: &[Entry], volume_epoch: u32, lsn: u64) -> Option<bool>
     None
 }
 
-/// Returns these entries and one more, in a list with room for no more.
+/// Returns these entries and one more, in a list without spare capacity.
 fn with_last(alloc: Global, entries: &[Entry], last: Entry) -> Result<Vec<Entry>, AllocError>
     ensures { IfOk result (λ list. list.items ≡ entries.now ++ last ∷ []) }
 {
@@ -48,7 +48,7 @@ fn with_last(alloc: Global, entries: &[Entry], last: Entry) -> Result<Vec<Entry>
 }
 
 impl Past {
-    /// Makes the past without an entry.
+    /// Makes a past without entries.
     pub fn empty(alloc: Global) -> Past
         ensures { entries_before result ≡ [] }
     {
@@ -58,7 +58,7 @@ impl Past {
         }
     }
 
-    /// Returns whether a record of this volume epoch and number is live in these entries.
+    /// Returns whether a record with this volume epoch and LSN is live by these entries.
     pub fn is_live(&self, volume_epoch: u32, lsn: u64) -> bool
         ensures { result ≡ is_live (entries_before self.now) volume_epoch lsn }
     {
@@ -73,7 +73,7 @@ impl Past {
         false
     }
 
-    /// Appends these entries to a list, oldest first. Fails only with `NoMemory`.
+    /// Appends the entries to a list, oldest first. Fails only with `NoMemory`.
     pub fn append_to(&self, list: &mut Vec<Entry>) -> Result<(), AllocError>
         ensures { OnOk result (entries_of list.new.items ≡ entries_before self.now ++ entries_of list.old.items) }
     {
@@ -84,7 +84,7 @@ impl Past {
         Ok(())
     }
 
-    /// Returns these entries and one more. Fails only with `NoMemory`.
+    /// Returns the past with one more entry. Fails only with `NoMemory`.
     pub fn with(&self, alloc: Global, entry: Entry) -> Result<Past, AllocError>
         ensures { IfOk result (λ past. entries_before past ≡ entry_of entry ∷ entries_before self.now) }
     {

@@ -3,10 +3,10 @@ use Rattle.std.specs.Prelude.{◌≡◌, ℕ, Option, Some, List}
 use Rattle.volume_model.specs.Lists.{IsIn}
 use Rattle.volume_model.specs.Redo.{Redo}
 
--- each of the records is one of the group
+-- each of the records is of the group
 abbrev pub AreOf : ℕ → List Redo → Type 0
 AreOf group records = (r : Redo) → IsIn r records → r.group ≡ group
 
--- where a group is kept, each of the records is one of it
+-- if a group is kept, each of the records is of it
 abbrev pub IsHome : Option ℕ → List Redo → Type 0
 IsHome home records = (group : ℕ) → home ≡ Some group → AreOf group records

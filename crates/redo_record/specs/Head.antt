@@ -3,7 +3,7 @@ use Rattle.std.specs.Int.{Width, w16, w32, w64, byte_len, from_be_bytes}
 use Rattle.volume_model.specs.Redo.{Redo}
 use Rattle.redo_record.specs.declared.head.Head.{Head}
 
--- the number that stands there, high byte first
+-- the big-endian number at a place of the bytes
 abbrev pub number_at : Width → ℕ → List ℕ → ℕ
 number_at w at bytes = from_be_bytes w (take (byte_len w) (drop at bytes))
 
@@ -22,7 +22,7 @@ head_in bytes = record {
   length = slice_index bytes 44;
 }
 
--- a record may have these numbers
+-- the numbers are allowed in a record
 abbrev pub is_allowed : Head → Bool
 is_allowed h =
     nat_le 1 h.lsn && nat_le h.lsn (2 ^ 62) && nat_le 1 h.volume_epoch && nat_lt h.prev_volume h.lsn && nat_le
@@ -30,7 +30,7 @@ is_allowed h =
     && nat_le h.prev_block h.prev_group && nat_lt h.group 16 && nat_le (h.offset + h.length) 512 && nat_le h.point 1 &&
     nat_le 1 h.length && nat_le h.length 64
 
--- the record of these numbers and bytes
+-- the record with these numbers, which writes these bytes
 abbrev pub redo_from : Head → List ℕ → Redo
 redo_from h bytes = record {
   lsn = h.lsn;
@@ -45,6 +45,6 @@ redo_from h bytes = record {
   point = h.point == 1;
 }
 
--- the record that the bytes show, right or wrong
+-- the record that the bytes encode, without a check
 abbrev pub redo_in : List ℕ → Redo
 redo_in bytes = redo_from (head_in bytes) (drop 45 bytes)

@@ -1,9 +1,9 @@
--- Records as bytes in place.
+-- Records as canonical bytes.
 use Rattle.volume_model.specs.Redo.{Redo}
 use Rattle.redo_record.specs.declared.packet.Packet.{Packet}
 use Rattle.redo_record.specs.Head.{redo_in}
 use Rattle.redo_record.specs.Text.{text_bytes}
 
--- the record of the model that a packet's bytes spell
+-- the record that a packet's bytes encode
 unfoldable pub packet_redo : Packet → Redo
 packet_redo packet = redo_in (text_bytes packet.text)

@@ -10,13 +10,13 @@ pub record IsHeldIn (records : List Redo) (r : Redo) : Type 0 where
   pub holds : holds_record r records ≡ true
   pub same : with_record r records ≡ records
 
--- the record is none of these, and would stand in this place
+-- the record isn't one of these, and its place among them is this one
 pub record IsPlaceFor (records : List Redo) (r : Redo) (place : ℕ) : Type 0 where
   pub within : place ≤ length records
   pub new : holds_record r records ≡ false
   pub joins : with_record r records ≡ insert records place r
 
--- so many of the packets come before the record, and the later ones don't
+-- the first count packets come before the record, the later ones don't
 abbrev pub IsCountBefore : List SharedRecord → Redo → ℕ → Type 0
 IsCountBefore packets r count = IsPartitionPoint (λ p. numbers_before (spelling (shared_redo p)) (spelling r) ≡ true)
     (λ p. numbers_before (spelling (shared_redo p)) (spelling r) ≡ false) packets count

@@ -2,7 +2,7 @@ use Rattle.std.specs.Prelude.{◌+◌, ◌^◌, ◌<◌, ◌≤◌, length}
 use Rattle.volume_model.specs.Redo.{Redo}
 use Rattle.redo_record.specs.Payload.{HasRoom}
 
--- what each record keeps
+-- the ranges of a record's fields that its types don't give
 pub record HasRanges (r : Redo) : Type 0 where
   pub lsn_positive : 1 ≤ r.lsn
   pub lsn_in_range : r.lsn ≤ 2 ^ 62
@@ -13,7 +13,7 @@ pub record HasRanges (r : Redo) : Type 0 where
   pub group_in_range : r.group < 16
   pub bytes_within : r.offset + length r.bytes ≤ 512
 
--- what a record keeps, and what its types keep
+-- the ranges of all fields of a record
 pub record IsSpellable (r : Redo) : Type 0 where
   pub ranges : HasRanges r
   pub room : HasRoom (length r.bytes)

@@ -2,7 +2,7 @@ use Rattle.volume_model.specs.Redo.{Redo}
 use Rattle.redo_record.specs.declared.«record».Record.{Record}
 use Rattle.redo_record.specs.Payload.{payload_bytes}
 
--- the record of the model that a record is
+-- the record of the model for a record
 abbrev pub redo_of : Record → Redo
 redo_of r = record {
   lsn = r.lsn;

@@ -5,10 +5,10 @@ use Rattle.redo_record.specs.declared.record_set.RecordSet.{RecordSet}
 use Rattle.redo_record.specs.declared.shared_record.SharedRecord.{SharedRecord}
 use Rattle.redo_record.specs.Window.{packets_seen, redos_seen}
 
--- the records of a set, in their order
+-- the records of a set, in order
 abbrev pub records_of : RecordSet → List Redo
 records_of set = redos_seen set.packets
 
--- the packets of a set, in their order
+-- the packets of a set, in order
 abbrev pub packets_of : RecordSet → List SharedRecord
 packets_of set = packets_seen set.packets

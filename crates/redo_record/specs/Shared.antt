@@ -1,4 +1,4 @@
--- Packets that are shared with their clones.
+-- Lists of packets that clones share.
 use Rattle.std.specs.Prelude.{List, [], Option, Some, None, Vec, map}
 use Rattle.std.specs.Arc.{arc_value}
 use Rattle.std.specs.Global.{Global}
@@ -8,11 +8,11 @@ use Rattle.redo_record.specs.declared.shared_record.SharedRecord.{SharedRecord}
 use Rattle.redo_record.specs.declared.shared.Shared.{Shared}
 use Rattle.redo_record.specs.SharedRecord.{shared_redo}
 
--- the packets, none where none are kept
+-- the packets of a list, which may be missing
 abbrev pub packets_in : Option (Arc (Vec SharedRecord Global) Global) → List SharedRecord
 packets_in None = []
 packets_in (Some packets) = (arc_value packets).items
 
--- the records of the packets, in their order
+-- the records of the packets, in order
 abbrev pub redos_in : Shared → List Redo
 redos_in shared = map shared_redo (packets_in shared.packets)

@@ -1,4 +1,4 @@
-//! Which of two records comes first.
+//! Compares records in the order of their bytes.
 
 ghost use Rattle.std.specs.Prelude.{◌≡◌, ◌∷◌, length};
 ghost use Rattle.std.specs.Ordering.{is_lt, is_eq};
@@ -10,8 +10,7 @@ use crate::payload::Payload;
 use crate::record::Record;
 use std::cmp::Ordering;
 
-/// Returns which of two payloads comes first: the shorter one, and of two as long as one another that whose first
-/// other byte is less.
+/// Compares payloads: the shorter one comes first; of equally long ones, the first in order of bytes.
 fn compare_bytes(own: &Payload, others: &Payload) -> Ordering
     ensures same { is_eq result ≡ same_numbers (length (payload_bytes own.now) ∷ payload_bytes own.now)
         (length (payload_bytes others.now) ∷ payload_bytes others.now) }
@@ -22,7 +21,7 @@ fn compare_bytes(own: &Payload, others: &Payload) -> Ordering
     own.len().cmp(&others.len()).then(own.cmp(&others))
 }
 
-/// Returns which of two records comes first in the order of their bytes, worked out field by field.
+/// Compares two records in the order of their bytes, field by field.
 pub fn compare(own: &Record, others: &Record) -> Ordering
     ensures same { is_eq result ≡ is_same (redo_of own.now) (redo_of others.now) }
     ensures before { is_lt result ≡ numbers_before (spelling (redo_of own.now)) (spelling (redo_of others.now)) }
@@ -38,4 +37,28 @@ pub fn compare(own: &Record, others: &Record) -> Ordering
         .then(own.offset.cmp(&others.offset))
         .then(u8::from(own.point).cmp(&u8::from(others.point)))
         .then(compare_bytes(&own.bytes, &others.bytes))
+}
+
+/// Returns whether two payloads are equal.
+fn are_equal_bytes(own: &Payload, others: &Payload) -> bool
+    ensures { result ≡ same_numbers (length (payload_bytes own.now) ∷ payload_bytes own.now)
+        (length (payload_bytes others.now) ∷ payload_bytes others.now) }
+{
+    own.as_slice() == others.as_slice()
+}
+
+/// Returns whether two records are equal, field by field up to the first difference.
+pub fn are_equal(own: &Record, others: &Record) -> bool
+    ensures { result ≡ is_same (redo_of own.now) (redo_of others.now) }
+{
+    own.lsn == others.lsn
+        && own.volume_epoch == others.volume_epoch
+        && own.prev_volume == others.prev_volume
+        && own.prev_group == others.prev_group
+        && own.prev_block == others.prev_block
+        && own.group == others.group
+        && own.block == others.block
+        && own.offset == others.offset
+        && u8::from(own.point) == u8::from(others.point)
+        && are_equal_bytes(&own.bytes, &others.bytes)
 }

@@ -1,4 +1,4 @@
-//! Records from their bytes.
+//! Decodes records from bytes.
 
 ghost use Rattle.std.specs.Prelude.{◌≡◌, Ok, Err, length, drop, true, MatchResult, IfOk};
 ghost use Rattle.redo_record.specs.Head.{head_in, is_allowed, redo_from};
@@ -10,7 +10,7 @@ use crate::payload::Payload;
 use crate::record::Record;
 use volume_model::Fault;
 
-/// Checks that the bytes spell a record, and returns the numbers at their beginning.
+/// Checks that the bytes encode a record. Returns its fields without the bytes that it writes.
 ///
 /// # Errors
 /// `Short` if there are too few bytes, `BadField` if a field isn't allowed, `Trailing` if there are too many.
@@ -37,7 +37,7 @@ pub fn checked_head(bytes: &[u8]) -> Result<Head, Fault>
     Ok(head)
 }
 
-/// Returns the record of these numbers and of the bytes that it writes.
+/// Returns the record with these fields, which writes these bytes.
 pub fn record_from(head: &Head, written: &[u8]) -> Record
     requires allowed { is_allowed head.now ≡ true }
     requires whole { length written.now ≡ head.now.length }
@@ -60,7 +60,7 @@ pub fn record_from(head: &Head, written: &[u8]) -> Record
     }
 }
 
-/// Returns the record that the bytes spell. Takes no memory.
+/// Decodes a record. Allocates nothing.
 ///
 /// # Errors
 /// `Short` if there are too few bytes, `BadField` if a field isn't allowed, `Trailing` if there are too many.

@@ -1,4 +1,4 @@
-//! Records as bytes.
+//! Encodes records as bytes.
 
 ghost use Rattle.std.specs.Prelude.{◌≡◌, Ok, IfOk, IfErr};
 ghost use Rattle.volume_model.specs.declared.fault.Fault.TheVariants.{NoMemory};
@@ -13,7 +13,7 @@ use crate::text::Text;
 use std::alloc::Global;
 use volume_model::Fault;
 
-/// Returns the spelling of a record, in place.
+/// Returns the canonical bytes of a record, on the stack.
 pub fn spell(record: &Record) -> Text
     ensures spelled { text_bytes result ≡ spelled (redo_of «record».now) }
     ensures spellable { IsSpellable (redo_of «record».now) }
@@ -33,10 +33,10 @@ pub fn spell(record: &Record) -> Text
     text
 }
 
-/// Returns the spelling of a record.
+/// Returns the canonical bytes of a record.
 ///
 /// # Errors
-/// `NoMemory` if there is no memory.
+/// `NoMemory` if memory runs out.
 pub fn encode(alloc: Global, record: &Record) -> Result<Vec<u8>, Fault>
     ensures spelled { IfOk result (λ v. v.items ≡ spelled (redo_of «record».now)) }
     ensures decoded { IfOk result (λ v. decoded v.items ≡ Ok (redo_of «record».now)) }

@@ -1,4 +1,4 @@
-//! Which group records are of.
+//! Checks the group of records.
 
 ghost use Rattle.std.specs.Prelude.{◌≡◌, ◌==◌, map};
 ghost use Rattle.volume_model.specs.Lists.{every};

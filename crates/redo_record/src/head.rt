@@ -1,16 +1,16 @@
-//! The numbers that stand before a record's bytes.
+//! The fixed-size fields of an encoded record, which come before the bytes that it writes.
 
 ghost use Rattle.std.specs.Prelude.{◌≡◌, ◌+◌, ◌≤◌, length};
 ghost use Rattle.std.specs.Int.{w16, w32, w64};
 ghost use Rattle.redo_record.specs.Head.{number_at, head_in, is_allowed};
 
-/// How many bytes stand before a record's own.
+/// The bytes of the fixed-size fields.
 pub const HEAD_BYTES: usize = 45;
 
 /// The greatest LSN.
 pub const LAST_LSN: u64 = 1 << 62;
 
-/// The numbers that stand before a record's bytes.
+/// The fixed-size fields of an encoded record.
 #[derive(Clone, Copy)]
 pub struct Head {
     pub lsn: u64,
@@ -25,7 +25,7 @@ pub struct Head {
     pub length: u8,
 }
 
-/// Returns the number of eight bytes that stands there.
+/// Returns the big-endian `u64` at a place.
 fn u64_at(bytes: &[u8], at: usize) -> u64
     requires { at + 8 ≤ length bytes.now }
     ensures { result ≡ number_at w64 at bytes.now }
@@ -37,7 +37,7 @@ fn u64_at(bytes: &[u8], at: usize) -> u64
     ])
 }
 
-/// Returns the number of four bytes that stands there.
+/// Returns the big-endian `u32` at a place.
 fn u32_at(bytes: &[u8], at: usize) -> u32
     requires { at + 4 ≤ length bytes.now }
     ensures { result ≡ number_at w32 at bytes.now }
@@ -47,7 +47,7 @@ fn u32_at(bytes: &[u8], at: usize) -> u32
     u32::from_be_bytes([front[0], front[1], front[2], front[3]])
 }
 
-/// Returns the number of two bytes that stands there.
+/// Returns the big-endian `u16` at a place.
 fn u16_at(bytes: &[u8], at: usize) -> u16
     requires { at + 2 ≤ length bytes.now }
     ensures { result ≡ number_at w16 at bytes.now }
@@ -57,7 +57,7 @@ fn u16_at(bytes: &[u8], at: usize) -> u16
     u16::from_be_bytes([front[0], front[1]])
 }
 
-/// Returns the numbers at the beginning of these bytes.
+/// Decodes the fields at the beginning of these bytes.
 pub fn head_of(bytes: &[u8]) -> Head
     requires { 45 ≤ length bytes.now }
     ensures { result ≡ head_in bytes.now }
@@ -76,7 +76,7 @@ pub fn head_of(bytes: &[u8]) -> Head
     }
 }
 
-/// Returns whether a record may have these numbers.
+/// Returns whether these fields are allowed in a record.
 pub fn is_allowed(head: &Head) -> bool
     ensures { result ≡ is_allowed head.now }
 {

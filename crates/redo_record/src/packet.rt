@@ -1,4 +1,4 @@
-//! Packets: records as bytes in place.
+//! Packets: records as canonical bytes.
 
 ghost use Rattle.std.specs.Prelude.{◌≡◌, IsTrue, is_ok};
 ghost use Rattle.redo_record.specs.Head.{redo_in};
@@ -12,9 +12,9 @@ use crate::record::Record;
 use crate::text::Text;
 use volume_model::Fault;
 
-/// The canonical bytes of a record, in place: what a record is on a wire or in a file.
+/// The canonical bytes of a record, as they are sent or stored.
 ///
-/// A packet takes no memory, and its bytes always spell a record.
+/// A packet allocates nothing, and its bytes always encode a record.
 #[derive(Clone, Copy)]
 pub struct Packet {
     text: Text,
@@ -27,7 +27,7 @@ impl Packet {
     ghost use Rattle.redo_record.specs.Packet.{packet_redo};
     ghost use Rattle.redo_record.specs.Record.{redo_of};
 
-    /// Returns the packet of a record. Takes no memory.
+    /// Encodes a record. Allocates nothing.
     pub fn pack(record: &Record) -> Packet
         ensures { packet_redo result ≡ redo_of «record».now }
     {
@@ -36,7 +36,7 @@ impl Packet {
         }
     }
 
-    /// Returns the packet of these bytes. Takes no memory.
+    /// Returns the packet with these bytes. Allocates nothing.
     ///
     /// # Errors
     /// `Short` if there are too few bytes, `BadField` if a field isn't allowed, `Trailing` if there are too many.
@@ -50,7 +50,7 @@ impl Packet {
         Ok(Packet { text })
     }
 
-    /// Returns the record. Takes no memory.
+    /// Decodes the record. Allocates nothing.
     pub fn record(&self) -> Record
         ensures { redo_of result ≡ packet_redo self.now }
     {
@@ -59,7 +59,7 @@ impl Packet {
         record_from(&head_of(bytes), written)
     }
 
-    /// Returns the bytes: the one spelling of the record.
+    /// Returns the bytes.
     pub fn as_bytes(&self) -> &[u8]
         ensures spelled { result.now ≡ spelled (packet_redo self.now) }
         ensures decoded { decoded result.now ≡ Ok (packet_redo self.now) }

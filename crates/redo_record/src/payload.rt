@@ -2,10 +2,10 @@
 
 ghost use Rattle.std.specs.Prelude.{◌≤◌};
 
-/// How many bytes a record writes at most.
+/// The most bytes that a record writes.
 pub const MOST_BYTES: usize = 64;
 
-/// 1 to 64 bytes, in place.
+/// 1 to 64 bytes, stored inline.
 #[derive(Clone, Copy)]
 pub struct Payload {
     place: [u8; MOST_BYTES],
@@ -18,7 +18,7 @@ impl Payload {
     ghost use Rattle.std.specs.Prelude.{◌≡◌, ◌↔◌, length, IsSome, IfSome};
     ghost use Rattle.redo_record.specs.Payload.{payload_bytes, HasRoom};
 
-    /// Returns these bytes, where there are 1 to 64.
+    /// Returns these bytes as a payload, if there are 1 to 64.
     pub fn new(bytes: &[u8]) -> Option<Payload>
         ensures when { IsSome result ↔ HasRoom (length bytes.now) }
         ensures value { IfSome result (λ payload. payload_bytes payload ≡ bytes.now) }

@@ -1,4 +1,4 @@
-//! Where a record would stand among others.
+//! Finds the place of a record in a sorted list.
 
 ghost use Rattle.std.specs.Prelude.{◌≡◌, ◌≤◌, map, length, true, false, MatchOption};
 ghost use Rattle.std.specs.List.Sorted.{IsPartitionPoint};
@@ -9,7 +9,8 @@ ghost use Rattle.redo_record.specs.Places.{IsCountBefore, IsHeldIn, IsPlaceFor};
 
 use crate::shared_record::SharedRecord;
 
-/// Returns how many records in order come before this one: often all of them, which takes one look.
+/// Returns how many of these sorted records come before this one. Compares with the last one first, since most records
+/// come after all others.
 fn count_before(packets: &[SharedRecord], packet: &SharedRecord) -> usize
     requires { IsInOrder (map shared_redo packets.now) }
     ensures bound { result ≤ length packets.now }
@@ -23,7 +24,7 @@ fn count_before(packets: &[SharedRecord], packet: &SharedRecord) -> usize
     packets.partition_point(|other| other.is_before(packet))
 }
 
-/// Returns where a record would stand among these, which are in order; `None` if its record is one of theirs.
+/// Returns the place of a record among these sorted ones, or `None` if the record is one of them.
 pub fn place_among(packets: &[SharedRecord], packet: &SharedRecord) -> Option<usize>
     requires { IsInOrder (map shared_redo packets.now) }
     ensures { MatchOption result (IsHeldIn (map shared_redo packets.now) (shared_redo packet.now))

@@ -4,7 +4,7 @@ use crate::shared_record::SharedRecord;
 use std::alloc::{AllocError, Global};
 use std::sync::Arc;
 
-/// A list of records that its clones share, copied on write.
+/// A list of records. Clones share it, and copy it on write.
 #[derive(Drop)]
 pub struct Shared {
     alloc: Global,
@@ -17,7 +17,7 @@ impl Shared {
     ghost use Rattle.redo_record.specs.SharedRecord.{shared_redo};
     ghost use Rattle.redo_record.specs.Shared.{packets_in, redos_in};
 
-    /// Makes an empty set.
+    /// Makes an empty list.
     pub fn new(alloc: Global) -> Shared
         ensures { redos_in result ≡ [] }
     {
@@ -27,7 +27,7 @@ impl Shared {
         }
     }
 
-    /// Returns these records. Fails only with `NoMemory`.
+    /// Makes a list of these records. Fails only with `NoMemory`.
     pub fn from_vec(alloc: Global, packets: Vec<SharedRecord>) -> Result<Shared, AllocError>
         ensures { IfOk result (λ shared. redos_in shared ≡ map shared_redo packets.items) }
     {
@@ -47,14 +47,14 @@ impl Shared {
         }
     }
 
-    /// Returns how many records there are.
+    /// Returns the number of records.
     pub fn len(&self) -> usize
         ensures { result ≡ length (redos_in self.now) }
     {
         self.as_slice().len()
     }
 
-    /// Copies of this many records, from one of them on, which are shared with nobody. Fails only with `NoMemory`.
+    /// Copies `len` records, from place `from` on, into a new list. Fails only with `NoMemory`.
     pub fn part(&self, from: usize, len: usize) -> Result<Shared, AllocError>
         requires { from + len ≤ length (redos_in self.now) }
         ensures { IfOk result (λ part. redos_in part ≡ take len (drop from (redos_in self.now))) }
@@ -64,7 +64,7 @@ impl Shared {
         Shared::from_vec(self.alloc, packets)
     }
 
-    /// Adds a record at the end. On error the records are unchanged.
+    /// Adds a record at the end. On error the list is unchanged.
     pub fn push(&mut self, packet: SharedRecord) -> Result<(), AllocError>
         ensures ok { OnOk result (redos_in self.new ≡ redos_in self.old ++ shared_redo packet ∷ []) }
         ensures err { OnErr result (redos_in self.new ≡ redos_in self.old) }
@@ -82,7 +82,7 @@ impl Shared {
         Ok(())
     }
 
-    /// Adds a record at this place. On error the records are unchanged.
+    /// Adds a record at this place. On error the list is unchanged.
     pub fn insert(&mut self, place: usize, packet: SharedRecord) -> Result<(), AllocError>
         requires { place ≤ length (redos_in self.old) }
         ensures ok { OnOk result (redos_in self.new ≡ insert (redos_in self.old) place (shared_redo packet)) }
@@ -98,7 +98,7 @@ impl Shared {
         }
     }
 
-    /// Adds records at the end. On error the records are unchanged.
+    /// Adds records at the end. On error the list is unchanged.
     pub fn extend_from_slice(&mut self, more: &[SharedRecord]) -> Result<(), AllocError>
         ensures ok { OnOk result (redos_in self.new ≡ redos_in self.old ++ map shared_redo more.now) }
         ensures err { OnErr result (redos_in self.new ≡ redos_in self.old) }

@@ -2,13 +2,13 @@
 
 ghost use Rattle.redo_record.specs.SharedRecord.{shared_redo};
 
-use crate::comparing::compare;
+use crate::comparing::{are_equal, compare};
 use crate::record::Record;
 use std::alloc::{AllocError, Global};
 use std::cmp::Ordering;
 use std::sync::Arc;
 
-/// A shared pointer to a record, as logs, messages and segments keep it.
+/// A shared pointer to a record. Logs, messages and segments keep records in this way.
 #[derive(Drop)]
 pub struct SharedRecord {
     shared: Arc<Record>,
@@ -52,7 +52,7 @@ impl SharedRecord {
         self.record().volume_epoch
     }
 
-    /// Returns the LSN before the record's in its group, 0 if there is none.
+    /// Returns the LSN of the record before it in its group, 0 if there is none.
     pub fn prev_group(&self) -> u64
         ensures { result ≡ (shared_redo self.now).prev_group }
     {
@@ -79,10 +79,10 @@ impl SharedRecord {
     pub fn is_same(&self, other: &SharedRecord) -> bool
         ensures { result ≡ is_same (shared_redo self.now) (shared_redo other.now) }
     {
-        self.lsn() == other.lsn() && self.compare(other).is_eq()
+        are_equal(self.record(), other.record())
     }
 
-    /// Returns whether this record comes before the other, compared field by field.
+    /// Returns whether this record comes before the other in the order of their bytes.
     pub fn is_before(&self, other: &SharedRecord) -> bool
         ensures { result ≡ numbers_before (spelling (shared_redo self.now)) (spelling (shared_redo other.now)) }
     {

@@ -1,11 +1,11 @@
-//! Bytes in place, written one after the other.
+//! A byte buffer on the stack, which is appended to.
 
 ghost use Rattle.std.specs.Prelude.{◌≤◌};
 
-/// How many bytes a record takes at most.
+/// The most bytes of an encoded record.
 pub const MOST_TEXT: usize = 109;
 
-/// Bytes in place, written one after the other.
+/// A buffer of 109 bytes, filled from the front.
 #[derive(Clone, Copy)]
 pub struct Text {
     place: [u8; MOST_TEXT],
@@ -17,7 +17,7 @@ impl Text {
     ghost use Rattle.std.specs.Prelude.{◌≡◌, ◌+◌, [], ◌++◌, length};
     ghost use Rattle.redo_record.specs.Text.{text_bytes};
 
-    /// Makes the text without a byte.
+    /// Makes an empty buffer.
     pub fn new() -> Text
         ensures { text_bytes result ≡ [] }
     {
@@ -27,7 +27,7 @@ impl Text {
         }
     }
 
-    /// Writes these bytes at the end.
+    /// Appends these bytes.
     pub fn write(&mut self, bytes: &[u8])
         requires { length (text_bytes self.old) + length bytes.now ≤ 109 }
         ensures { text_bytes self.new ≡ text_bytes self.old ++ bytes.now }

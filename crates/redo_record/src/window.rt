@@ -22,7 +22,7 @@ impl Window {
     ghost use Rattle.redo_record.specs.SharedRecord.{shared_redo};
     ghost use Rattle.redo_record.specs.Window.{packets_seen, redos_seen, IsWhole};
 
-    /// Makes an empty set.
+    /// Makes an empty window.
     pub fn new(alloc: Global) -> Window
         ensures { redos_seen result ≡ [] }
     {
@@ -33,7 +33,7 @@ impl Window {
         }
     }
 
-    /// Returns these records. Fails only with `NoMemory`.
+    /// Makes a window of all these records. Fails only with `NoMemory`.
     pub fn from_vec(alloc: Global, packets: Vec<SharedRecord>) -> Result<Window, AllocError>
         ensures { IfOk result (λ window. redos_seen window ≡ map shared_redo packets.items) }
     {
@@ -54,7 +54,8 @@ impl Window {
         &self.shared.as_slice()[self.from..self.from + self.len]
     }
 
-    /// Returns so many of the records, from one of them on, without a copy of them. Fails only with `NoMemory`.
+    /// Returns a window of `len` of the records, from place `from` on, without copying them. Fails only with
+    /// `NoMemory`.
     pub fn part(&self, from: usize, len: usize) -> Result<Window, AllocError>
         requires { from + len ≤ length (redos_seen self.now) }
         ensures { IfOk result (λ part. redos_seen part ≡ take len (drop from (redos_seen self.now))) }
@@ -66,7 +67,7 @@ impl Window {
         })
     }
 
-    /// Leaves the list to its other owners where it has other records too, and takes copies of its own.
+    /// Copies the window's records into a list of its own, if the shared list has others too.
     fn make_whole(&mut self) -> Result<(), AllocError>
         ensures ok { OnOk result (IsWhole self.new) }
         ensures same { redos_seen self.new ≡ redos_seen self.old }
