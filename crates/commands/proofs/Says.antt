@@ -1,15 +1,17 @@
 -- What an exit status says.
 use Rattle.std.proofs.Common.{◌≡◌, ap, inl, inr, subst, ℕ, ◌<◌, List, [], Bool, true, false, Option, Some, None, IfSome, take, arith}
 use Rattle.plan.specs.FaultKinds.{is_input}
-use Rattle.commands.specs.Answer.{Answer, line_answer}
+use Rattle.commands.specs.Answer.{Answer, IsSaid, line_answer}
 use Rattle.commands.specs.Answers.{AnswersOf, ChecksTo, File}
 use Rattle.commands.specs.Answers.AnswersOf.{read, unread, unmade}
 use Rattle.commands.specs.Answers.PlanAnswers.{faulty, certified}
 use Rattle.commands.specs.Searched.{SearchesTo}
+use Rattle.commands.specs.Stops.{is_input_stop, stop_answer, stop_line}
 use Rattle.commands.specs.Streams.{Delivers, Ends, Gets, IsTextOf}
 use Rattle.commands.specs.Streams.Delivers.{given, unreported, unprinted}
 use Rattle.commands.specs.Verdict.{IsCertifiedText, IsFaultyText}
 use Rattle.commands.specs.declared.outputs.Output.{Output}
+use Rattle.commands.specs.declared.reply.Stop.{Stop}
 use Rattle.commands.proofs.Searching.{is_quiet}
 
 -- the text of a file whose bytes are known
@@ -43,6 +45,11 @@ ends_below out err Due status out_old out_new err_old err_new h small =
 line_quiet : (a : Answer) (input : Bool) (line : List ℕ) → a ≡ line_answer input line → a.status < 2 → a.err ≡ []
 line_quiet a true line e small = let two = ap (λ (b : Answer). b.status) e in absurd (omega arith)
 line_quiet a false line e small = ap (λ (b : Answer). b.err) e
+
+-- what is said with a status below 2 where a job ends before its own answer isn't said to standard error
+pub quiet_said : (stop : Stop) (a : Answer) → IsSaid (stop_answer stop) a → a.status < 2 → a.err ≡ []
+quiet_said stop a (inl is) small = line_quiet a (is_input_stop stop) (stop_line stop) is small
+quiet_said stop a (inr is) small = line_quiet a true _ is small
 
 -- the answer 0 of a check
 pub yes_due : (file : File) (a : Answer) → AnswersOf file ChecksTo a → a.status ≡ 0 → IfSome file.known (λ bytes. IsCertifiedText (take 16777217 bytes))

@@ -11,8 +11,8 @@ pub record Answer : Type 0 where
   pub out : List ℕ
   pub err : List ℕ
 
--- The answer of one line: to an input that can't be used it is 2, and the line is written to standard error; else it is
--- 1, and the line is written to standard output.
+-- The answer of one line. If an input can't be used the status is 2, and the line goes to standard error; else it is 1,
+-- and the line goes to standard output.
 abbrev pub line_answer : Bool → List ℕ → Answer
 line_answer true line = record { status = 2; out = []; err = line }
 line_answer false line = record { status = 1; out = line; err = [] }
@@ -21,15 +21,15 @@ line_answer false line = record { status = 1; out = line; err = [] }
 abbrev pub printed : ℕ → List ℕ → Answer
 printed status text = record { status = status; out = text; err = [] }
 
--- the line of a plan's first fault; a text that isn't one of a plan is an input that can't be used
+-- the line of a plan's first fault; a text that isn't a plan's is an input that can't be used
 abbrev pub fault_answer : PlanFault → Answer
 fault_answer fault = line_answer (is_input fault) (plan_fault_text fault ++ codes "\n")
 
--- a file with this name can't be read
+-- the file with this name can't be read
 abbrev pub unreadable : List ℕ → Answer
 unreadable name = line_answer true (codes "input: cannot read " ++ name ++ codes "\n")
 
--- the line with this number isn't one of a script
+-- the line with this number isn't in the grammar of scripts
 abbrev pub bad_line : ℕ → Answer
 bad_line number = line_answer true (codes "input: line " ++ decimal number ++ codes "\n")
 
@@ -37,6 +37,6 @@ bad_line number = line_answer true (codes "input: line " ++ decimal number ++ co
 abbrev pub no_memory : Answer
 no_memory = line_answer true (codes "input: 9 NoMemory\n")
 
--- this is said, or that memory ran out
+-- this is the answer, or memory ran out
 abbrev pub IsSaid : Answer → Answer → Type 0
 IsSaid answer said = (said ≡ answer) ⊎ (said ≡ no_memory)

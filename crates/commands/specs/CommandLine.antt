@@ -16,7 +16,7 @@ file_leaf name = with_rule (new_app name) (file_rule (codes "plan"))
 abbrev pub script_leaf : Text → App
 script_leaf name = with_rule (file_leaf name) (file_rule (codes "script"))
 
--- how many workers there are: -w N or --workers N, from 1 to 16, and else 4
+-- the number of workers: -w N or --workers N, from 1 to 16; 4 by default
 abbrev pub workers_rule : Rule
 workers_rule = record (new_rule (codes "workers")) {
   long = Some (codes "workers");
@@ -34,20 +34,24 @@ workers_leaf name = with_rule (file_leaf name) workers_rule
 abbrev pub fleet_leaf : Text → App
 fleet_leaf name = with_rule (script_leaf name) workers_rule
 
--- whether a plan is explained as JSON: --json
+-- a file that may be left out
+abbrev pub other_file_rule : Text → Rule
+other_file_rule id = record (new_rule id) { action = Some Set }
+
+-- whether an explanation is JSON: --json
 abbrev pub json_rule : Rule
 json_rule = record (new_rule (codes "json")) { long = Some (codes "json"); action = Some SetTrue }
 
--- a subcommand of a plan's file that may write JSON
+-- a subcommand of a plan's file, and of a script's if it is named, that may write JSON
 abbrev pub json_leaf : Text → App
-json_leaf name = with_rule (file_leaf name) json_rule
+json_leaf name = with_rule (with_rule (file_leaf name) (other_file_rule (codes "script"))) json_rule
 
--- a subcommand as it stands before it is added
+-- a subcommand before it is added
 pub record IsLeaf (a : App) (c : Command) : Type 0 where
   pub app : app_of c ≡ a
   pub local : (out-Command c).has_globals ≡ false
 
--- the program before its subcommands: one is asked for, and it prints its version
+-- the program before its subcommands; one of them is required, and the program has a version
 abbrev pub program : App
 program = on_top (λ s. record s { has_version = true; subcommand_required = true }) (new_app (codes "plan_tool"))
 
@@ -61,6 +65,6 @@ with_fleet = with_subcommand with_runs (fleet_leaf (codes "fleet")).top
 abbrev pub with_search : App
 with_search = with_subcommand with_fleet (workers_leaf (codes "search")).top
 
--- check FILE, run PLAN SCRIPT, fleet PLAN SCRIPT -w N, search FILE -w N, explain FILE --json
+-- check FILE, run PLAN SCRIPT, fleet PLAN SCRIPT -w N, search FILE -w N, explain FILE SCRIPT --json, whose script may be left out
 abbrev pub tool : App
 tool = with_subcommand with_search (json_leaf (codes "explain")).top

@@ -1,4 +1,4 @@
--- What an explanation answers.
+-- The answer of an explanation.
 use Rattle.std.specs.Prelude.{◌≡◌, ◌⊎◌, ℕ, List, [], ◌∷◌, ◌++◌}
 use Rattle.commands.specs.Answer.{Answer, no_memory}
 use Rattle.commands.specs.Answers.{ChecksTo}
@@ -8,18 +8,18 @@ abbrev pub above : List ℕ → List ℕ → List ℕ
 above lines [] = []
 above lines (x ∷ xs) = lines ++ x ∷ xs
 
--- an answer with these lines above its own, on the output to which its own go
+-- an answer with these lines above its own, on the same output
 abbrev pub below : List ℕ → Answer → Answer
 below lines answer = record { status = answer.status; out = above lines answer.out; err = above lines answer.err }
 
--- What an explanation answers to a plan's text: what a check answers, with lines above it: the plan in words, or where
--- the text isn't a plan's.
+-- The answer of an explanation to a plan's text: that of a check, with lines above it, which describe the plan or the
+-- place where the text isn't a plan's.
 pub record ExplainsTo (text : List ℕ) (answer : Answer) : Type 0 where
   pub lines : List ℕ
   pub checked : Answer
   pub due : ChecksTo text checked
   pub is : answer ≡ below lines checked
 
--- The answer is that, or memory ran out.
+-- The answer is this one, or memory ran out.
 abbrev pub IsExplained : List ℕ → Answer → Type 0
 IsExplained text answer = ExplainsTo text answer ⊎ (answer ≡ no_memory)

@@ -1,4 +1,4 @@
--- What a job has of the words that named it.
+-- A job, and the words of the command line that name it.
 use Rattle.std.specs.Prelude.{◌≡◌, ℕ, List, Bool, false, Option, Some, None, codes, option_map}
 use Rattle.std.specs.Str.{bytes_eq}
 use Rattle.std.specs.Str.Parse.{IsNumeral, digits_value, without_leading_plus}
@@ -15,12 +15,12 @@ name_of Fleet = codes "fleet"
 name_of Search = codes "search"
 name_of Explain = codes "explain"
 
--- the number that a text spells, and 4 where there is no text
+-- the number that a text is, or 4 if there is no text
 abbrev pub IsNumberOf : Option Text → ℕ → Type 0
 IsNumberOf None n = n ≡ 4
 IsNumberOf (Some text) n = IsNumeral 10 (without_leading_plus text) × (n ≡ digits_value 10 (without_leading_plus text))
 
--- an option without a value stands there
+-- an option without a value is given
 abbrev pub is_asked : Option Text → Bool
 is_asked None = false
 is_asked (Some text) = bytes_eq text (codes "true")

@@ -1,5 +1,5 @@
 -- What `explain --json` answers.
-use Rattle.std.specs.Prelude.{◌≡◌, ◌⊎◌, ℕ, nat_lt, if◌then◌else◌, List, [], Bool, true, false, Result, Ok, Err, string_bytes}
+use Rattle.std.specs.Prelude.{◌≡◌, ◌⊎◌, ◌<◌, ℕ, nat_lt, if◌then◌else◌, List, [], Bool, true, false, Result, Ok, Err, string_bytes}
 use Rattle.commands.specs.Answer.{Answer, no_memory}
 use Rattle.commands.specs.Answers.{ChecksTo}
 use Rattle.commands.specs.Explains.{ExplainsTo}
@@ -7,7 +7,7 @@ use Rattle.commands.specs.Stops.{stop_answer}
 use Rattle.commands.specs.declared.reply.Report.{Report}
 use Rattle.commands.specs.declared.reply.Stop.{Stop}
 
--- A report with this status. It says what a check says to standard error, if the status is 2.
+-- A report with this status. If the status is 2, it writes the line of a check to standard error.
 abbrev pub IsReport : ℕ → List ℕ → Report → Type 0
 IsReport status line report = (report.status ≡ status)
     × (string_bytes report.line ≡ (if nat_lt status 2 then [] else line))
@@ -16,28 +16,32 @@ IsReport status line report = (report.status ≡ status)
 abbrev pub made_of : Report → Answer
 made_of report = record { status = report.status; out = string_bytes report.value; err = string_bytes report.line }
 
--- what is answered with a report, or before there is one
+-- the answer with a report, or that of a job that stopped before it
 abbrev pub report_answer : Result Report Stop → Answer
 report_answer (Ok report) = made_of report
 report_answer (Err stop) = stop_answer stop
 
--- What is answered to a plan's text: the status of a check, and what a check writes to standard error.
+-- The answer to a plan's text: the status of a check, and what a check writes to standard error.
 pub record ReportsTo (text : List ℕ) (answer : Answer) : Type 0 where
   pub checked : Answer
   pub due : ChecksTo text checked
   pub status_is : answer.status ≡ checked.status
   pub err_is : answer.err ≡ checked.err
 
+-- A report with a status below 2 says nothing to standard error.
+abbrev pub IsQuiet : Report → Type 0
+IsQuiet report = report.status < 2 → string_bytes report.line ≡ []
+
 -- the status of a check that finds a fault
 abbrev pub status_of : Bool → ℕ
 status_of true = 2
 status_of false = 1
 
--- The answer is that, or memory ran out.
+-- The answer is this one, or memory ran out.
 abbrev pub IsReported : List ℕ → Answer → Type 0
 IsReported text answer = ReportsTo text answer ⊎ (answer ≡ no_memory)
 
--- what is due to a plan's text, as JSON or in words
+-- the answer to a plan's text, as JSON or in words
 abbrev pub ExplainsAs : Bool → List ℕ → Answer → Type 0
 ExplainsAs true = ReportsTo
 ExplainsAs false = ExplainsTo

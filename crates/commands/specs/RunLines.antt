@@ -1,4 +1,4 @@
--- What is added to a text of a run.
+-- Lines that are appended to the text of a run.
 use Rattle.std.specs.Prelude.{◌≡◌, ℕ, List, ◌++◌, Option}
 use Rattle.commands.specs.RunText.{AreLinesOf, IsLineOf, EventResult, line_results}
 use Rattle.drivers.specs.declared.reading.Step.{Step}

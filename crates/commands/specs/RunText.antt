@@ -1,4 +1,4 @@
--- What the program prints of a run.
+-- The printed text of a run.
 use Rattle.std.specs.Prelude.{◌≡◌, ℕ, ◌+◌, ◌-◌, ◌*◌, Bool, true, false, if◌then◌else◌, List, [], ◌∷◌, ◌++◌, Option, Some, None, Result, Ok, Err, codes, is_err, max, min}
 use Rattle.std.specs.Fmt.{decimal}
 use Rattle.std.specs.List.{list_any}
@@ -11,7 +11,7 @@ use Rattle.volume_model.specs.Redo.{last_lsn}
 use Rattle.drivers.specs.declared.reading.Step.{Step}
 use Rattle.plan.specs.Sums.{sum_below}
 
--- the result of an event: the number of messages that it made, or why it was refused
+-- the result of an event: the number of messages that it made, or its refusal
 abbrev pub EventResult : Type 0
 EventResult = Result ℕ Fault
 
@@ -24,20 +24,21 @@ pub record LineResult : Type 0 where
 abbrev pub refused_line : ℕ → Fault → List ℕ
 refused_line line fault = decimal line ++ codes " refused " ++ fault_text fault ++ codes "\n"
 
--- A line of what is printed: its number and the messages made, or its number and the refusal's number and name.
+-- A printed line: the line's number and the number of messages made, or the line's number and the refusal's number and
+-- name.
 abbrev pub IsLineOf : ℕ → Option EventResult → List ℕ → Type 0
 IsLineOf line None text = text ≡ decimal line ++ codes " ok 0\n"
 IsLineOf line (Some (Ok made)) text = text ≡ decimal line ++ codes " ok " ++ decimal made ++ codes "\n"
 IsLineOf line (Some (Err fault)) text = text ≡ refused_line line fault
 
--- the text has a line for each telling, in order
+-- the text has a line for each result, in order
 pub data AreLinesOf : List LineResult → List ℕ → Type 0 where
   none : AreLinesOf [] []
   more : (line_results : List LineResult) (line_result : LineResult) (text line : List ℕ) → AreLinesOf line_results text
       → IsLineOf line_result.line line_result.reported line → AreLinesOf (line_results ++ line_result ∷ [])
       (text ++ line)
 
--- the first of the result, for a step that has an event, and the rest
+-- the first of the results if a step has an event; the next definition gives the others
 abbrev pub first_if : Bool → List EventResult → Option EventResult
 first_if true (reported ∷ later) = Some reported
 first_if true [] = None
@@ -54,7 +55,7 @@ line_results [] results = []
 line_results (step ∷ steps) results = (record { line = step.line; reported = first_if step.has_event results }) ∷
     line_results steps (rest_if step.has_event results)
 
--- the LSN after the greater of the log's last and the start of the writer's span, or the greatest number there is
+-- the LSN after the greater of the log's last and the writer's start, at most the greatest number
 abbrev pub next_lsn : Opened → ℕ
 next_lsn opened = min (max (last_lsn opened.log) opened.start + 1) 18446744073709551615
 
@@ -75,12 +76,12 @@ abbrev pub each_line : {A : Type 0} → (A → List ℕ) → List A → List ℕ
 each_line line [] = []
 each_line line (x ∷ later) = line x ++ each_line line later
 
--- 1 where an event was refused
+-- 1 if an event was refused, else 0
 abbrev pub status_of : List EventResult → ℕ
 status_of results = if list_any (λ reported. is_err reported) results then 1 else 0
 
--- A status and a text tell of these steps, results, opened writers and recoveries that have cut: a line for each step,
--- for each writer and for each recovery, and whether an event was refused.
+-- The status and the text are those of these steps, results, opened writers and recoveries that have cut: a line for
+-- each, and 1 if an event was refused.
 pub record PrintsRun (steps : List Step) (results : List EventResult) (writers : List Opened) (finds : List Find)
     (status : ℕ) (text : List ℕ) : Type 0 where
   pub lines : List ℕ
@@ -88,12 +89,13 @@ pub record PrintsRun (steps : List Step) (results : List EventResult) (writers :
   pub text_is : text ≡ (lines ++ each_line writer_line writers) ++ each_line find_line finds
   pub status_is : status ≡ status_of results
 
--- the line of a plan without a fault that has so many groups, configurations and certificates
+-- the line of a plan without a fault that has these numbers of groups, configurations and certificates
 abbrev pub counts_line : ℕ → ℕ → ℕ → List ℕ
 counts_line groups configurations certificates =
     codes "yes: " ++ decimal groups ++ codes " groups, " ++ decimal configurations ++ codes " configurations, "
     ++ decimal certificates ++ codes " certificates\n"
 
--- The line of a plan without a fault: it has a certificate a configuration, and one more for each that isn't a root.
+-- The line of a plan without a fault. It has a certificate for each configuration, and one more for each that isn't a
+-- root.
 abbrev pub plan_line : Plan → List ℕ
 plan_line plan = let configurations = sum_below plan.configurations plan.groups in counts_line plan.groups configurations (2 * configurations - plan.groups)

@@ -1,4 +1,4 @@
--- What a search prints of the bytes of its file.
+-- The printed text of a search.
 use Rattle.std.specs.Prelude.{◌≡◌, ◌⊎◌, ℕ, ◌-◌, ◌<◌, ◌≤◌, List, ◌++◌, length, replicate, Option, None, Result, Ok, Err, codes, string_bytes}
 use Rattle.refutation.specs.Rule.{Rule}
 use Rattle.plan.specs.declared.fault.PlanFault.{PlanFault}
@@ -17,12 +17,12 @@ use Rattle.commands.specs.Unfound.{found_status, unfound_lines}
 use Rattle.commands.specs.declared.reply.Stop.{Stop}
 use Rattle.commands.specs.declared.reply.Found.{Found}
 
--- the claims of the plan that a text spells, or the first fault of the text or of its claims
+-- the claims of a text's plan, or the first fault of the text or of its claims
 abbrev pub claims_of : List ℕ → Result (List PlacedClaim) PlanFault
 claims_of text = plan_of text >=> claims_in
 
--- A line of compact JSON that spells this plan, and all values of a text but its certificates: its expressions stay as
--- that text spells them.
+-- A line of compact JSON with this plan, and with all values of the source text but its certificates; expressions are
+-- as the source has them.
 pub record IsPlanLine (source : List ℕ) (plan : PlanData) (line : List ℕ) : Type 0 where
   pub text : List ℕ
   pub spelled : spelt text ≡ Ok plan
@@ -30,27 +30,25 @@ pub record IsPlanLine (source : List ℕ) (plan : PlanData) (line : List ℕ) : 
   pub kept : KeepsValues source text
   pub line_is : line ≡ text ++ codes "\n"
 
--- a line of compact JSON that spells the plan of a text with these certificates
+-- a line of compact JSON with the plan of a text and these certificates
 abbrev pub IsLineWith : List ℕ → List (Option Rule) → List ℕ → Type 0
 IsLineWith text rules line = (plan : PlanData) × (rewritten text rules ≡ Ok plan) × IsPlanLine text plan line
 
--- the room for certificates that the line of a text's plan without any leaves in 16,777,216 bytes
+-- the bytes that the line of a text's plan without certificates leaves in 16,777,216 bytes
 abbrev pub IsRoom : List ℕ → ℕ → ℕ → Type 0
 IsRoom text places room = (line : List ℕ) × IsLineWith text (replicate places None) line
     × (room ≡ 16777216 - length line)
 
--- All certificates stay where the line of a text's plan with them has at most 16,777,216 bytes; else the shortest do,
--- as many as the line without any has room for.
+-- All certificates are kept if the line with them has at most 16,777,216 bytes; else the shortest are, as many as fit.
 abbrev pub AreFitted : List ℕ → List (Option Rule) → List (Option Rule) → Type 0
 AreFitted text found kept =
     ((line : List ℕ) × IsLineWith text found line × (length line ≤ 16777216) × (kept ≡ found))
     ⊎ ((line : List ℕ) × (room : ℕ) × IsLineWith text found line × (16777216 < length line) × IsRoom text (length found)
     room × AreKept room found kept)
 
--- The plan's text spells a plan that has claims. What is printed is a line that spells this plan, its expressions as
--- that text spells them, with what was found for its claims with a budget of 100,000 and fits; and a line for each
--- claim for which nothing was found or doesn't fit. The status is 0 exactly where there is no such line, and then the
--- printed plan has no fault.
+-- The plan's text has a plan with claims. The printed line has this plan, with its expressions as written and with the
+-- certificates found with a budget of 100,000 that fit; another line is printed for each claim without one. The status
+-- is 0 exactly if there is no such line, and then the printed plan has no fault.
 pub record PrintsSearch (plan : List ℕ) (status : ℕ) (text notes : List ℕ) : Type 0 where
   pub data_of : PlanData
   pub spelled : plan_of plan ≡ Ok data_of
@@ -65,7 +63,7 @@ pub record PrintsSearch (plan : List ℕ) (status : ℕ) (text notes : List ℕ)
   pub status_is : status ≡ found_status rules
   pub faultless : status ≡ 0 → plan_fault (with_certificates data_of rules) ≡ None
 
--- what a search answers to a plan's text: the first fault of the text or of its claims, or what the search found
+-- the answer of a search to a plan's text: the first fault of the text or of its claims, or what was found
 abbrev pub SearchesTo : List ℕ → Answer → Type 0
 SearchesTo text answer = ((fault : PlanFault) × (claims_of text ≡ Err fault) × (answer ≡ fault_answer fault))
     ⊎ PrintsSearch text answer.status answer.out answer.err

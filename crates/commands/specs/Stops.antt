@@ -1,4 +1,4 @@
--- What is answered where a job ends before its own answer.
+-- The answer of a job that stops before its own answer.
 use Rattle.std.specs.Prelude.{ℕ, List, ◌++◌, Bool, true, Result, Ok, Err, codes, string_bytes}
 use Rattle.std.specs.Fmt.{decimal}
 use Rattle.plan.specs.FaultKinds.{is_input}
@@ -23,7 +23,7 @@ is_input_stop (Line number) = true
 is_input_stop (Number number) = true
 is_input_stop NoMemory = true
 
--- the line of why a job ends, and above it those of the place
+-- the line that says why a job stops; the lines of the place are above it
 abbrev pub stop_line : Stop → List ℕ
 stop_line (Unreadable name) = codes "input: cannot read " ++ name.now ++ codes "\n"
 stop_line (Plan fault) = plan_fault_text fault ++ codes "\n"
@@ -35,22 +35,22 @@ stop_line NoMemory = codes "input: 9 NoMemory\n"
 abbrev pub stop_answer : Stop → Answer
 stop_answer stop = line_answer (is_input_stop stop) (stop_line stop)
 
--- what is answered with a reply, or before there is one
+-- the answer with a reply, or that of a job that stopped before it
 abbrev pub answer_of : Result Reply Stop → Answer
 answer_of (Ok reply) = printed reply.status (string_bytes reply.text)
 answer_of (Err stop) = stop_answer stop
 
--- why a job ends whose plan has a fault
+-- why a job stops whose plan has this fault
 abbrev pub plan_stop : PlanFault → Stop
 plan_stop (Text faults.NoMemory) = NoMemory
 plan_stop fault = Plan fault
 
--- why a job ends whose script can't be run
+-- why a job stops whose script can't be run
 abbrev pub script_stop : ScriptFault → Stop
 script_stop (scripts.Line number) = Line number
 script_stop scripts.NoMemory = NoMemory
 
--- The job ends by the first bad line of its script's text, or memory ran out.
+-- The job stops at the first bad line of its script's text, or memory ran out.
 abbrev pub StopsAtLine : List ℕ → Stop → Type 0
 StopsAtLine text (Unreadable name) = ⊥
 StopsAtLine text (Plan fault) = ⊥
@@ -59,7 +59,7 @@ StopsAtLine text (Line number) = IsFirstBad text number
 StopsAtLine text (Number number) = ⊥
 StopsAtLine text NoMemory = Unit {0}
 
--- The job ends by a fault of its plan of which this is so, or memory ran out.
+-- The job stops for a fault of its plan with this property, or memory ran out.
 abbrev pub StopsBy : (PlanFault → Type 0) → Stop → Type 0
 StopsBy IsSo (Unreadable name) = ⊥
 StopsBy IsSo (Plan fault) = IsSo fault

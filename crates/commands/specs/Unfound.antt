@@ -1,4 +1,4 @@
--- The lines of the claims that a search found no certificate for.
+-- The lines of claims for which a search found no certificate.
 use Rattle.std.specs.Prelude.{ℕ, List, [], ◌∷◌, ◌++◌, Option, Some, None, codes, if◌then◌else◌, is_none}
 use Rattle.std.specs.Fmt.{decimal}
 use Rattle.std.specs.List.{list_any}
@@ -23,6 +23,6 @@ unfound_lines [] rules = []
 unfound_lines (claim ∷ claims) [] = []
 unfound_lines (claim ∷ claims) (rule ∷ rules) = unfound_line claim rule ++ unfound_lines claims rules
 
--- 1 where a claim has no certificate
+-- 1 if a claim has no certificate, else 0
 abbrev pub found_status : List (Option Rule) → ℕ
 found_status rules = if list_any (λ rule. is_none rule) rules then 1 else 0

@@ -1,4 +1,4 @@
--- What is printed in place of a job.
+-- The text that is printed in place of a job.
 use Rattle.std.specs.Prelude.{◌≡◌, ◌≢◌, true, List, Option}
 use Rattle.clap.specs.Words.{Row, Text, kind_of, subcommand_of, takes}
 use Rattle.clap.specs.declared.error.kind.ErrorKind.TheVariants.{DisplayHelp, DisplayVersion, OutOfMemory}
@@ -9,26 +9,26 @@ use Rattle.commands.specs.declared.action.Job.{Job}
 use Rattle.commands.specs.declared.usage.Usage.{Usage}
 use Rattle.commands.specs.declared.usage.Usage.TheVariants.{Words, Missing, Memory}
 
--- The words asked for it: it is the help or the version.
+-- The words ask for it: it is the help or the version.
 abbrev pub IsAskedFor : Usage → Type 0
 IsAskedFor (Words error) = (kind_of error ≢ DisplayHelp) × (kind_of error ≢ DisplayVersion) → ⊥
 IsAskedFor (Missing what) = ⊥
 IsAskedFor (Memory error) = ⊥
 
--- what is said where clap refuses the words with this error
+-- the text if clap refuses the words with this error
 abbrev pub IsRefusal : Error → Usage → Type 0
 IsRefusal error (Words said) = (said ≡ error) × (kind_of error ≢ OutOfMemory)
 IsRefusal error (Missing what) = ⊥
 IsRefusal error (Memory refused) = kind_of error ≡ OutOfMemory
 
--- a subcommand or a file is missing of what clap found: it names no job
+-- a subcommand or a file is missing: what clap found names no job
 abbrev pub IsMissing : Option (Text × List Row) → Usage → Type 0
 IsMissing found (Words error) = ⊥
 IsMissing found (Missing what) = (j : Job) → IsJob found j → ⊥
 IsMissing found (Memory error) = ⊥
 
--- It is said for a reason: a refusal of clap's only where clap doesn't take the words, and that a subcommand or a file
--- is missing only where clap's reading of the words names no job.
+-- The text has its reason: clap's refusal only if clap doesn't take the words, a missing subcommand or file only if
+-- clap's reading of the words names no job.
 abbrev pub IsRightFor : List Text → Usage → Type 0
 IsRightFor words (Words error) = takes tool words ≢ true
 IsRightFor words (Missing what) = IsMissing (subcommand_of tool words) (Missing what)

@@ -1,4 +1,4 @@
--- What the program finds in a plan's text.
+-- The fault of a plan's text.
 use Rattle.std.specs.Prelude.{◌≡◌, List, ℕ, Option, Some, None, Result, Ok, Err}
 use Rattle.volume_model.specs.Plan.{IsCertified}
 use Rattle.plan.specs.declared.fault.PlanFault.{PlanFault}
@@ -15,8 +15,8 @@ first_fault (Err fault) = Some fault
 abbrev pub text_fault : List ℕ → Option PlanFault
 text_fault text = first_fault (plan_of text)
 
--- The text spells a plan without a fault; in each of its configurations read sets meet write sets, and each step is
--- one.
+-- The text is that of a plan without a fault: in each configuration each read set shares a member with each write set,
+-- and each step is safe.
 pub record IsCertifiedText (text : List ℕ) : Type 0 where
   pub plan : PlanData
   pub spelled : plan_of text ≡ Ok plan

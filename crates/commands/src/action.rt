@@ -1,8 +1,8 @@
-//! What the program can do.
+//! The actions of the program.
 
 ghost use Rattle.std.specs.Prelude.{◌≤◌};
 
-/// What the program is to do.
+/// An action of the program.
 #[derive(Clone, Copy, Debug, PartialEq, Eq)]
 pub enum Action {
     /// Check a plan.
@@ -13,11 +13,11 @@ pub enum Action {
     Fleet,
     /// Search for the certificates of a plan.
     Search,
-    /// Say what a plan is, in words.
+    /// Describe a plan in words.
     Explain,
 }
 
-/// An action, the files that it is done on, by their names as given, and by how many workers.
+/// An action, the names of its files as given, and the number of workers.
 #[derive(Clone, Copy, Debug, PartialEq, Eq)]
 pub struct Job<'a> {
     /// What to do with the files.
@@ -26,7 +26,7 @@ pub struct Job<'a> {
     pub plan: &'a str,
     /// The script's file, where the action takes one.
     pub script: Option<&'a str>,
-    /// How many workers do it, 4 where the action takes no number of them.
+    /// The number of workers; 4 if the action takes no such number.
     pub workers: u8,
     /// Whether a plan is explained as JSON.
     pub json: bool,
@@ -38,5 +38,10 @@ impl Job<'_> {
     /// Returns whether the plan is read from standard input: that of `explain -`.
     pub fn reads_stdin(&self) -> bool {
         self.action == Action::Explain && self.plan == "-"
+    }
+
+    /// Returns whether the script is read from standard input: that of `explain PLAN -`.
+    pub fn reads_script_from_stdin(&self) -> bool {
+        self.action == Action::Explain && self.script == Some("-")
     }
 }

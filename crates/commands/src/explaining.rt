@@ -21,8 +21,8 @@ use explain::{place_lines, warning_lines};
 use plan::{Plan, PlanFault};
 use std::alloc::Global;
 
-/// Returns the warnings of a plan's text, and the plan in words, if it has claims: without a fault of its parents or
-/// fresh members.
+/// Returns the warnings about a plan's text, and the plan in words, if it has claims: its parents and fresh members
+/// have no fault.
 fn words_of(alloc: Global, text: &[u8], plan: &Plan) -> Result<String, Stop<'static>>
     ensures { IfErr result (λ stop. stop ≡ NoMemory) }
 {

@@ -17,7 +17,7 @@ pub(crate) fn is_interrupted(answer: &io::Result<usize>) -> bool
 
 /// A reader whose contract records the results of its reads.
 pub trait FallibleRead: Read {
-    // A read of a reader in this state answered this.
+    // A read of a reader in this state had this result.
     ghost answers: { Self → Result ℕ Error → Type 0 };
 
     /// Makes one read, as [`Read::read`] does.
@@ -37,7 +37,7 @@ impl<R: Read> FallibleRead for R {
 
 /// A writer whose contract records the results of its writes.
 pub trait FallibleWrite: Write {
-    // A write of these bytes to a writer in this state answered this.
+    // A write of these bytes to a writer in this state had this result.
     ghost answers: { Self → List ℕ → Result ℕ Error → Type 0 };
 
     /// Makes one write, as [`Write::write`] does.

@@ -9,7 +9,7 @@ use crate::reply::{Reply, Stop};
 use explain::{fault_lines, fault_words};
 use std::alloc::Global;
 
-/// Returns the number that a word spells, if it spells one below 256.
+/// Returns the number that a word is, if it is below 256.
 pub fn number_in(word: &str) -> Option<u8>
     ensures number { IfSome result (IsNumberOf (Some word.now)) }
     ensures none { IfNone result (IsFileName word.now) }

@@ -59,11 +59,15 @@ Example: plan_tool search examples/uncertified.json -w 4 > certified.json";
 pub const EXPLAIN: &str = "\
 Reads the plan, and prints of each configuration its members, its expressions with how many members each can lose, the
 step from its parent, and of each claim whether it is certified, or two sets that show why it fails; of a text that
-isn't a plan's, the place of its fault; then the line that `check` prints. With --json it prints the same as one line
-of JSON on standard output. The file `-` is standard input. With a number below 256 in place of a file it prints what
-the refusal with that number means.
+isn't a plan's, the place of its fault; then the line that `check` prints. With a number below 256 in place of a file
+it prints what the refusal with that number means.
 
-Exit status, as of `check`: 0 for yes; 1 for a fault; 2 where the file can't be read or its text isn't a plan's, or no
-refusal has the number (told on standard error).
+With a script it prints what is wrong with the script's first bad line; else it runs the script, and prints each refused
+line with what the refusal means, the nodes and the clients at the end, and the last lines of `run`.
+
+With --json it prints the same as one line of JSON on standard output. The file `-` is standard input.
+
+Exit status, as of `check`, or of `run` with a script: 0 for yes; 1 for a fault or a refused line; 2 where a file can't
+be read or its text isn't a plan's or a script's, or no refusal has the number (told on standard error).
 
 Example: plan_tool explain examples/write_three.json";

@@ -1,5 +1,4 @@
-//! Commands: what the words of a command line ask for, and what a command answers and prints over the contents of its
-//! files.
+//! Commands: reads the words of a command line, and performs a command on the contents of its files.
 #![tactic(auto)]
 
 mod action;
@@ -15,6 +14,10 @@ mod outputs;
 mod performing;
 mod reply;
 mod reporting;
+mod run_explaining;
+mod run_json;
+mod run_state;
+mod run_tables;
 mod run_text;
 mod running;
 mod search;

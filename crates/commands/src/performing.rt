@@ -1,6 +1,6 @@
 //! A job, done on the contents of its files.
 
-ghost use Rattle.std.specs.Prelude.{◌≡◌, ◌≢◌, ◌≤◌, ◌<◌, IfErr, IfOk, string_bytes};
+ghost use Rattle.std.specs.Prelude.{◌≡◌, ◌≢◌, ◌≤◌, ◌<◌, IfErr, IfOk, None, string_bytes};
 ghost use Rattle.plan.specs.CheckedModel.{checked_model};
 ghost use Rattle.commands.specs.declared.action.Action.TheVariants.{Check, Explain, Fleet, Run, Search};
 ghost use Rattle.commands.specs.Answer.{IsSaid};
@@ -26,6 +26,7 @@ use crate::names::shown_name;
 use crate::outputs::{Output, deliver};
 use crate::reply::{Reply, Stop};
 use crate::reporting::reported;
+use crate::run_explaining::explain_script;
 use crate::run_text::checked_line;
 use crate::running::{fleet, run};
 use crate::search::search;
@@ -332,10 +333,64 @@ fn perform_explain<P: FallibleRead, O: FallibleWrite, E: FallibleWrite>(
     }
 }
 
+/// Performs the explanation of a script over a plan, whose files are printed with these names.
+fn perform_told<P: FallibleRead, S: FallibleRead, O: FallibleWrite, E: FallibleWrite>(
+    alloc: Global,
+    json: bool,
+    names: (&str, &str),
+    plan: &mut Source<P>,
+    script: &mut Source<S>,
+    out: &mut Output<O>,
+    err: &mut Output<E>,
+) -> u8
+    ensures status { result ≤ 2 }
+    ensures quiet { result < 2 → err.new ≡ err.old }
+    ensures plan_read { FailsByRead P.answers plan.old plan.new }
+    ensures script_read { FailsByRead S.answers script.old script.new }
+    ensures out_written { FailsByWrite O.answers out.old out.new }
+    ensures err_written { FailsByWrite E.answers err.old err.new }
+{
+    match explain_script(alloc, json, names, plan, script) {
+        Ok(report) => deliver(
+            report.status,
+            report.value.as_bytes(),
+            report.line.as_bytes(),
+            out,
+            err,
+        ),
+        Err(stop) => refuse(alloc, &stop, out, err),
+    }
+}
+
+/// Performs the explanation of a script's file with this name over a plan, as [`perform`] does.
+fn perform_explain_script<P: FallibleRead, S: FallibleRead, O: FallibleWrite, E: FallibleWrite>(
+    alloc: Global,
+    job: &Job<'_>,
+    name: &str,
+    plan: &mut Source<P>,
+    script: &mut Source<S>,
+    out: &mut Output<O>,
+    err: &mut Output<E>,
+) -> u8
+    ensures status { result ≤ 2 }
+    ensures quiet { result < 2 → err.new ≡ err.old }
+    ensures plan_read { FailsByRead P.answers plan.old plan.new }
+    ensures script_read { FailsByRead S.answers script.old script.new }
+    ensures out_written { FailsByWrite O.answers out.old out.new }
+    ensures err_written { FailsByWrite E.answers err.old err.new }
+{
+    let (Ok(plan_name), Ok(script_name)) = (shown_name(alloc, job.plan), shown_name(alloc, name))
+    else {
+        return refuse(alloc, &Stop::NoMemory, out, err);
+    };
+    let names = (plan_name.as_str(), script_name.as_str());
+    perform_told(alloc, job.json, names, plan, script, out, err)
+}
+
 /// Performs a job on the contents of its files, prints its answer, and returns the exit status: 0 for yes, 1 for a
-/// refusal, 2 for an input that can't be used (printed to `err` alone) or an output that can't be written. Only `run`
-/// and `fleet` read the script; only `fleet` and `search` start threads. It may leak memory to the end of the
-/// process.
+/// refusal, 2 for an input that can't be used (printed to `err` alone) or an output that can't be written. Only `run`,
+/// `fleet` and an `explain` with a script read the script; only `fleet` and `search` start threads. It may leak memory
+/// to the end of the process.
 pub fn perform<
     H: Threads + Wait + Sync,
     P: FallibleRead,
@@ -394,7 +449,8 @@ pub fn perform<
 
     // An explanation of a plan's text has the status and the last line of a check, on the same output; as JSON, the
     // status and what a check prints to standard error. One of a number prints the refusal with that number in words.
-    ensures explains { job.now.action ≡ Explain → Ends O.contents E.contents
+    // Of one with a script nothing is said here but its status and that a status below 2 leaves `err` as it was.
+    ensures explains { job.now.action ≡ Explain → job.now.script ≡ None → Ends O.contents E.contents
         (ExplainsJob P.remaining job.now plan.old plan.new) result out.old out.new err.old err.new }
 
     // A file is said to be one that can't be read only where it couldn't be opened, or a read of it failed; and an
@@ -409,6 +465,9 @@ pub fn perform<
         Action::Run => perform_run(alloc, job, plan, script, out, err),
         Action::Fleet => perform_fleet(rt, alloc, job, plan, script, out, err),
         Action::Search => perform_search(rt, alloc, job, plan, out, err),
-        Action::Explain => perform_explain(alloc, job, plan, out, err),
+        Action::Explain => match job.script {
+            Some(name) => perform_explain_script(alloc, job, name, plan, script, out, err),
+            None => perform_explain(alloc, job, plan, out, err),
+        },
     }
 }

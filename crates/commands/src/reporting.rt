@@ -67,7 +67,7 @@ fn reported_plan(alloc: Global, text: &[u8], plan: Plan) -> Result<Report, Stop<
 }
 
 /// Returns the status of a check that finds a fault.
-fn status_of(fault: &PlanFault) -> u8
+pub(crate) fn status_of(fault: &PlanFault) -> u8
     ensures { result ≡ status_of (is_input fault.now) }
 {
     match fault.is_input() {

@@ -6,7 +6,7 @@ ghost use Rattle.std.specs.Option.{option_copied};
 ghost use Rattle.plan.specs.CheckedModel.{checked_model};
 ghost use Rattle.world.specs.Outcomes.{find_of, opened_of};
 ghost use Rattle.plan.specs.Sums.{sum_below};
-ghost use Rattle.commands.specs.RunText.{PrintsRun, counts_line, each_line, find_line, first_if, next_lsn, plan_line, refused_line, rest_if, writer_line};
+ghost use Rattle.commands.specs.RunText.{PrintsRun, counts_line, each_line, find_line, first_if, next_lsn, plan_line, refused_line, rest_if, status_of, writer_line};
 ghost use Rattle.commands.specs.FleetText.{PrintsDriven, journal_line, numbers_lines};
 ghost use Rattle.commands.specs.RunLines.{AppendsLine, AppendsLines};
 
@@ -233,6 +233,21 @@ fn add_writers(text: &mut String, writers: &[WriterOutcome]) -> Result<(), Alloc
         add_writer(text, writer)?;
     }
     Ok(())
+}
+
+/// Returns the lines of the opened writers and of the recoveries that have cut, and the status of a run: 1 if a step
+/// was refused.
+pub fn end_lines(alloc: Global, outcome: &Outcome) -> Result<Reply, AllocError>
+    ensures status { IfOk result (λ reply. reply.status ≡ status_of outcome.now.results.items) }
+    ensures text { IfOk result (λ reply. string_bytes reply.text ≡ each_line writer_line
+        (map opened_of outcome.now.writers.items) ++ each_line find_line (map find_of outcome.now.finds.items)) }
+{
+    let ends = outcome.writers.len().saturating_add(outcome.finds.len());
+    let mut text = String::with_capacity(alloc, room_for(0, ends))?;
+    add_writers(&mut text, outcome.writers.as_slice())?;
+    add_finds(&mut text, outcome.finds.as_slice())?;
+    let status = u8::from(has_refusal(outcome.results.as_slice()));
+    Ok(Reply { status, text })
 }
 
 /// Returns a line for each step of a script, for each opened writer, and for each recovery that has cut. The status

@@ -3,7 +3,7 @@
 ghost use Rattle.std.specs.Prelude.{◌≡◌, IfOk, false};
 ghost use Rattle.clap.specs.Words.{app_of, rule_of, with_subcommand};
 ghost use Rattle.clap.specs.declared.builder.command.Command.TheViews.{out-Command as fields_of};
-ghost use Rattle.commands.specs.CommandLine.{IsLeaf, file_rule, json_leaf, json_rule, tool, program};
+ghost use Rattle.commands.specs.CommandLine.{IsLeaf, file_rule, json_leaf, json_rule, other_file_rule, tool, program};
 ghost use Rattle.commands.specs.CommandLine.{file_leaf, fleet_leaf, script_leaf, workers_leaf, workers_rule};
 
 use crate::help;
@@ -19,6 +19,14 @@ fn file<'a>(alloc: Global, id: &'a str, about: &'a str) -> Arg<'a>
         .required(true)
         .action(ArgAction::Set)
         .help(about)
+}
+
+/// Returns an argument that names a file, and may be left out.
+fn other_file<'a>(alloc: Global, id: &'a str, about: &'a str) -> Arg<'a>
+    ensures rule { rule_of result ≡ other_file_rule id.entry.now }
+    ensures local { result.global ≡ false }
+{
+    Arg::new(alloc, id).action(ArgAction::Set).help(about)
 }
 
 /// Returns the program before its subcommands.
@@ -109,10 +117,10 @@ fn json<'a>(alloc: Global) -> Arg<'a>
     Arg::new(alloc, "json")
         .long("json")
         .action(ArgAction::SetTrue)
-        .help("Print a plan as one line of JSON, of the form in docs/EXPLAIN.md")
+        .help("Print the same as one line of JSON, of the form in docs/EXPLAIN.md")
 }
 
-/// Returns a subcommand of a plan's file that may write JSON.
+/// Returns a subcommand of a plan's file, and of a script's if it is named, that may write JSON.
 fn of_json<'a>(
     alloc: Global,
     name: &'a str,
@@ -121,7 +129,9 @@ fn of_json<'a>(
 ) -> Result<Command<'a>, AllocError>
     ensures { IfOk result (IsLeaf (json_leaf name.entry.now)) }
 {
-    of_file(alloc, name, about, notes)?.arg(json(alloc))
+    let script = other_file(alloc, "script", "A script's file, whose run is explained");
+    let command = of_file(alloc, name, about, notes)?.arg(script)?;
+    command.arg(json(alloc))
 }
 
 fn add<'a>(command: Command<'a>, leaf: Command<'a>) -> Result<Command<'a>, AllocError>
@@ -163,7 +173,7 @@ pub fn command_line<'a>(alloc: Global) -> Result<Command<'a>, AllocError>
     let explain = of_json(
         alloc,
         "explain",
-        "Says what a plan survives and why its claims fail, or what a refusal means",
+        "Says what a plan survives, why its claims fail and where a script fails, or what a refusal means",
         help::EXPLAIN,
     )?;
     add(command, explain)

@@ -3,14 +3,13 @@
 use std::alloc::AllocError;
 use thiserror::Error;
 
-/// What is printed in place of a job.
+/// The text that is printed in place of a job.
 #[derive(Debug, Drop, Error)]
 pub enum Usage {
-    /// What clap answers: a mistake in the words, or the help or the version that they ask for; never that memory ran
-    /// out.
+    /// Clap's answer: a mistake in the words, or the help or the version that they ask for. Never that memory ran out.
     #[error(transparent)]
     Words(#[from] clap::Error),
-    /// A subcommand, a file or a number that clap let pass, though it asks for it.
+    /// A required subcommand, file or number that clap let pass.
     #[error("error: {0}\n")]
     Missing(&'static str),
     /// Memory ran out.

@@ -17,8 +17,8 @@ use std::alloc::{AllocError, Global};
 /// Returns the job that the words of a command line name; the first is the program's own name.
 ///
 /// # Errors
-/// What clap says of words that it doesn't take, or the help or version that they ask for; that clap's reading names
-/// no job; or running out of memory.
+/// Clap's answer to words that it doesn't take, or the help or version that they ask for; that clap's reading names no
+/// job; or that memory ran out.
 pub fn job<'a>(alloc: Global, words: &'a [&'a str]) -> Result<Job<'a>, Usage>
     ensures job { IfOk result (IsJob (subcommand_of tool (map (λ w. w.now) words.entry.now))) }
     ensures refused { IfErr result (IsRightFor (map (λ w. w.now) words.entry.now)) }
@@ -64,7 +64,7 @@ fn action_of(name: &str) -> Option<Action>
     }
 }
 
-/// Returns the number that the option of workers spells, 4 where there is none.
+/// Returns the number of workers that the option gives, 4 if there is no option.
 fn number_of(matches: &ArgMatches<'_>) -> Option<u8>
     ensures number { IfSome result (IsNumberOf (one_of (codes "workers") (rows_of (found_of matches.now)))) }
     ensures none { IfNone result ((n : ℕ) → n < 2 ^ 8
@@ -77,7 +77,7 @@ fn number_of(matches: &ArgMatches<'_>) -> Option<u8>
     }
 }
 
-/// Returns how many workers there are to be, 4 where no option says so.
+/// Returns the number of workers if it is from 1 to 16; 4 if there is no option.
 fn workers_of(matches: &ArgMatches<'_>) -> Option<u8>
     ensures number { IfSome result (IsNumberOf (one_of (codes "workers") (rows_of (found_of matches.now)))) }
     ensures range { IfSome result (λ n. (1 ≤ n) × (n ≤ 16)) }
@@ -90,7 +90,7 @@ fn workers_of(matches: &ArgMatches<'_>) -> Option<u8>
     }
 }
 
-/// Returns whether the option of JSON stands there.
+/// Returns whether the JSON option is given.
 fn json_of(matches: &ArgMatches<'_>) -> bool
     ensures { result ≡ is_asked (first_of (codes "json") (rows_of (found_of matches.now))) }
 {

@@ -1,4 +1,4 @@
--- What is said of a claim.
+-- The answers about claims.
 use Rattle.refutation.specs.Rule.{Rule}
 use Rattle.quorum_checker.specs.Refutes.{Refutes, State}
 use Rattle.explain.specs.declared.claims.ClaimAnswer.{ClaimAnswer}
@@ -8,8 +8,8 @@ use Rattle.explain.specs.declared.claims.ClaimAnswer.TheVariants.{Certified, Unc
 abbrev pub IsRefuted : State → Type 0
 IsRefuted state = (rule : Rule) × Refutes rule state
 
--- Where it is said that the claim is certified or uncertified, some rule refutes it, so it holds; where it is said that
--- it fails, none does.
+-- If the answer is that the claim is certified or uncertified, a rule refutes it, so it is true; if the answer is that
+-- it fails, no rule does.
 abbrev pub IsClaimAnswer : State → ClaimAnswer → Type 0
 IsClaimAnswer state Certified = IsRefuted state
 IsClaimAnswer state Uncertified = IsRefuted state

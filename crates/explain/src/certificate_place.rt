@@ -17,7 +17,7 @@ fn has_number(node: &TapeNode<'_, '_>, key: &str, most: u64) -> bool {
     }
 }
 
-/// Returns whether an array has whole numbers up to 255 alone.
+/// Returns whether an array has only whole numbers up to 255.
 fn has_numbers(value: &TapeNode<'_, '_>) -> bool {
     let Some(mut rest) = value.items() else {
         return false;
@@ -35,7 +35,7 @@ fn has_numbers(value: &TapeNode<'_, '_>) -> bool {
     true
 }
 
-/// Returns whether an array has pairs of whole numbers up to 255 alone.
+/// Returns whether an array has only pairs of whole numbers up to 255.
 fn has_pairs(value: &TapeNode<'_, '_>) -> bool {
     let Some(mut rest) = value.items() else {
         return false;
@@ -127,7 +127,7 @@ fn keys_fault(
     trail.expect("the keys of its rule, and no others")
 }
 
-/// Finds the fault of a rule beside its branches.
+/// Finds the fault of a rule itself, without its branches.
 fn level_fault(
     node: &TapeNode<'_, '_>,
     name: &TapeNode<'_, '_>,

@@ -1,15 +1,21 @@
-//! What is known of the configurations of a plan.
+//! Facts about the configurations of a plan.
+
+ghost use Rattle.std.specs.Prelude.{◌≡◌};
+ghost use Rattle.std.specs.FinSet.{contains, intersection};
+ghost use Rattle.volume_model.specs.Formula.{sat};
+ghost use Rattle.quorum_expr.specs.Expr.{formula_of};
 
 use crate::claims::{answer_claim, claim_facts};
 use crate::facts::{ClaimFacts, ConfigurationFacts, Members, StepFacts};
 use crate::survival::quorum_facts;
 use plan::{ClaimRef, Configuration, Plan, PlanFault, lent_claims};
+use quorum_expr::holds;
 use std::alloc::Global;
 use volume_model::Fault;
 
 /// How many members and thresholds are looked at to find what the expressions of a plan survive, and whether its claims
 /// hold.
-const LOOKS: u64 = 400_000_000;
+const LOOKS: u64 = 150_000_000;
 
 /// Returns what is known of the configuration of a claim that read sets meet write sets.
 fn configuration_facts(
@@ -34,12 +40,21 @@ fn configuration_facts(
     })
 }
 
+/// Returns whether the members that are those of a parent too satisfy the read expression. Only they can be whole when
+/// an advance leads to the configuration.
+fn kept_can_read(this: &Configuration, parent: &Configuration) -> bool
+    ensures { result ≡ sat (formula_of this.now.read) (contains (intersection this.now.members parent.now.members)) }
+{
+    holds(&this.read, this.members.intersection(parent.members))
+}
+
 /// Returns what is known of a step.
 fn step_facts(this: &Configuration, parent: &Configuration, claim: ClaimFacts) -> StepFacts {
     StepFacts {
         parent: this.parent,
         adds: Members(this.members.difference(parent.members)),
         drops: Members(parent.members.difference(this.members)),
+        kept_can_read: kept_can_read(this, parent),
         claim,
     }
 }
@@ -63,8 +78,8 @@ fn add_claim(
     Ok(())
 }
 
-/// Returns what is known of each configuration of a plan: its members, what its expressions ask for and survive, its
-/// step, and whether its claims hold. All claims are judged, not only the first without a certificate.
+/// Returns the facts about each configuration of a plan: its members, what its expressions require and survive, its
+/// step, and whether its claims hold. All claims are decided, also after the first without a certificate.
 ///
 /// # Errors
 /// The plan's first fault of parents or fresh members, or [`NoMemory`](Fault::NoMemory).

@@ -1,4 +1,4 @@
-//! A plan in words.
+//! Describes a plan in words.
 
 use crate::configurations::plan_facts;
 use crate::facts::{
@@ -20,7 +20,7 @@ fn add_kind(text: &mut String, word: &str, members: Members) -> Result<(), Alloc
     add_members(text, members.0)
 }
 
-/// Appends the members of a configuration: which keep whole pages, and which the log alone.
+/// Appends the members of a configuration: those that keep whole pages, and those that keep only the log.
 fn add_membership(
     alloc: Global,
     page: &mut Page,
@@ -64,7 +64,7 @@ fn add_of_set(
     page.add(6, text.as_str())
 }
 
-/// Appends whether an expression survives the loss of all members of a list in its list.
+/// Appends whether an expression survives the loss of all members of one of its child lists.
 fn add_block(alloc: Global, page: &mut Page, block: &BlockFacts) -> Result<(), AllocError> {
     let before = if block.survived {
         "survives the loss of the whole block "
@@ -187,6 +187,19 @@ fn add_step(alloc: Global, page: &mut Page, step: &StepFacts) -> Result<(), Allo
     page.add(4, text.as_str())
 }
 
+/// Appends that a step can't be taken safely, and what to do.
+fn add_warning(page: &mut Page) -> Result<(), AllocError> {
+    page.add(
+        6,
+        "warning: never take this step: the members kept from the parent don't satisfy `read`. Once its nodes have \
+            taken it, no recovery can read the group and no fresh member can hydrate",
+    )?;
+    page.add(
+        8,
+        "do: keep more members of the parent, and replace the others in later steps",
+    )
+}
+
 /// Appends the headings of a configuration, and of its group before the first one.
 fn add_headings(
     alloc: Global,
@@ -216,6 +229,9 @@ fn add_configuration(
     if let Some(step) = &this.step {
         add_step(alloc, page, step)?;
         add_claim(alloc, page, true, &step.claim)?;
+        if !step.kept_can_read {
+            add_warning(page)?;
+        }
     }
     Ok(())
 }

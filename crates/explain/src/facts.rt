@@ -22,7 +22,7 @@ impl Serialize for Members {
     }
 }
 
-/// A list in the list of an expression, such as a zone.
+/// A list among the children of an expression, such as a zone.
 #[derive(Clone, Copy, Serialize)]
 pub struct BlockFacts {
     /// The members that it names.
@@ -36,13 +36,13 @@ pub struct BlockFacts {
 pub struct QuorumFacts {
     /// What it asks for, in words.
     pub expression: String,
-    /// How many members it survives the loss of, whichever they are, if that is known.
+    /// The number of members that it survives the loss of, whichever they are, if that is known.
     pub survives: Option<u8>,
     /// A smallest set whose loss stops it, if one is known.
     pub stopped_by: Option<Members>,
     /// The members whose loss alone stops it.
     pub single: Members,
-    /// Each list in its list.
+    /// Each list among its children.
     pub blocks: Vec<BlockFacts>,
 }
 
@@ -52,11 +52,11 @@ pub struct QuorumFacts {
 pub enum ClaimState {
     /// Its certificate shows it.
     Certified,
-    /// It holds, though it has no certificate that shows it.
+    /// It holds, but no certificate shows it.
     Holds,
     /// It fails.
     Fails,
-    /// It has no certificate that shows it, and whether it holds is not known.
+    /// No certificate shows it, and it isn't known whether it holds.
     Unknown,
 }
 
@@ -65,7 +65,7 @@ pub enum ClaimState {
 pub struct WitnessFacts {
     /// A read set, without a fresh member.
     pub read: Members,
-    /// Of `meets` a write set; of a step members of which each read set of the parent has one.
+    /// For `meets` a write set; for a step a set of members that has one of each read set of the parent.
     pub other: Members,
 }
 
@@ -85,8 +85,10 @@ pub struct StepFacts {
     pub parent: Option<u64>,
     /// The fresh members.
     pub adds: Members,
-    /// The members of the parent alone.
+    /// The members that only the parent has.
     pub drops: Members,
+    /// Whether the members that the parent has too satisfy the read expression. Otherwise an advance can't wait for it.
+    pub kept_can_read: bool,
     /// Whether the step is safe.
     pub claim: ClaimFacts,
 }
@@ -102,7 +104,7 @@ pub struct ConfigurationFacts {
     pub members: Members,
     /// The members that keep whole pages.
     pub full: Members,
-    /// The members that keep the log alone.
+    /// The members that keep only the log.
     pub tail: Members,
     /// What a read needs.
     pub read: QuorumFacts,

@@ -108,7 +108,8 @@ pub const FAULTS: &[FaultWords] = &[
     FaultWords {
         fault: Fault::BadParent,
         of: "a plan",
-        words: "the root has a parent, or another configuration none that stands before it.",
+        words: "configuration 0 has a parent, or the parent of another configuration isn't one \
+            that comes before it.",
     },
     FaultWords {
         fault: Fault::MemberReused,
@@ -129,7 +130,8 @@ pub const FAULTS: &[FaultWords] = &[
     FaultWords {
         fault: Fault::OverLimit,
         of: "a plan",
-        words: "more than a limit.",
+        words: "the text, an expression or a certificate is larger than allowed: `PLANS.md` \
+            has the limits.",
     },
     FaultWords {
         fault: Fault::Superseded,
@@ -140,9 +142,9 @@ pub const FAULTS: &[FaultWords] = &[
     FaultWords {
         fault: Fault::NotInPlan,
         of: "the authority, a node, a client",
-        words: "no child of the group's present configuration; or a message that names a place \
-            which the plan doesn't have; or a View whose list is longer than the plan's \
-            groups or shorter than those at birth.",
+        words: "the configuration isn't a child of the group's present one; or a message names \
+            a group or a configuration that the plan doesn't have; or a View lists fewer \
+            groups than the volume has at birth, or more than the plan has.",
     },
     FaultWords {
         fault: Fault::NoGroup,
@@ -200,9 +202,9 @@ pub const FAULTS: &[FaultWords] = &[
     FaultWords {
         fault: Fault::NotEnough,
         of: "a node",
-        words: "the members whose copies it has in full don't satisfy the read expression of the \
-            configuration that it took last, or it isn't a member of that: send it the \
-            pieces that are missing.",
+        words: "the members whose complete copies it has don't satisfy the read expression of \
+            the configuration that it took last, or it isn't a member of that \
+            configuration: send it the missing pieces.",
     },
     FaultWords {
         fault: Fault::NoRecord,
@@ -212,10 +214,10 @@ pub const FAULTS: &[FaultWords] = &[
     FaultWords {
         fault: Fault::BadPiece,
         of: "a node",
-        words: "no piece of an Install or a copy: of none or of more than 4,096, of a number \
-            that isn't below that, with more than 256 records, or of another number of \
-            pieces than those that it keeps of the same. No actor here makes one: look at \
-            what carries the messages.",
+        words: "a piece of an Install or of a copy that can't be one: the count of its pieces \
+            is 0 or above 4,096, its number isn't below that count, it has more than 256 \
+            records, or its count isn't that of the pieces received before. No actor makes \
+            such a piece: check the transport.",
     },
     FaultWords {
         fault: Fault::TailSegment,
@@ -275,7 +277,7 @@ pub const FAULTS: &[FaultWords] = &[
         fault: Fault::NotJoined,
         of: "a writer",
         words: "it learned of the group after it opened, and no write quorum has acknowledged \
-            the group's install yet: deliver that.",
+            the group's Install yet: deliver the Install.",
     },
     FaultWords {
         fault: Fault::NoMessage,
@@ -314,14 +316,19 @@ pub fn fault_words(number: u8) -> Option<&'static FaultWords>
     FAULTS.iter().find(|entry| entry.fault.number() == number)
 }
 
+/// Appends what a refusal means.
+pub fn add_meaning(alloc: Global, page: &mut Page, entry: &FaultWords) -> Result<(), AllocError> {
+    let sentence = format!(in alloc; "{}: {}", entry.of, entry.words)?;
+    page.add(4, sentence.as_str())
+}
+
 /// Returns the lines of a refusal: its number and name, and below them what it means.
 pub fn fault_lines(alloc: Global, entry: &FaultWords) -> Result<String, AllocError>
     ensures { IfOk result (λ text. (words : List ℕ)
         × (string_bytes text ≡ fault_text entry.now.fault ++ codes "\n" ++ words)) }
 {
     let mut page = Page::new(alloc);
-    let sentence = format!(in alloc; "{}: {}", entry.of, entry.words)?;
-    page.add(4, sentence.as_str())?;
+    add_meaning(alloc, &mut page, entry)?;
     let words = page.into_text();
     let fault = entry.fault;
     let mut text = String::new(alloc);

@@ -2,16 +2,16 @@
 
 use std::alloc::{AllocError, Global};
 
-/// How many columns a line has at most, as long as no word is longer.
+/// The most columns of a line, unless a word is longer.
 pub const COLUMNS: usize = 100;
 
-/// Lines of words. A line that would be too long goes on in the next one, further to the right.
+/// Lines of words. A line that would be too long continues in the next one, further indented.
 #[derive(Drop)]
 pub struct Page {
     text: String,
-    /// How wide the last line is.
+    /// The width of the last line.
     column: usize,
-    /// How far to the right it begins.
+    /// The indentation of the last line.
     indent: usize,
 }
 

@@ -7,7 +7,7 @@ use json::Scratch;
 use plan::PLAN_BYTES;
 use std::alloc::{AllocError, Global};
 
-/// Returns the offset of the first key of a text that its object has already.
+/// Returns the offset of the first key in a text that its object has already.
 pub(crate) fn repeated_key(alloc: Global, text: &[u8]) -> Result<Option<usize>, AllocError> {
     if text.len() > PLAN_BYTES as usize {
         return Ok(None);
@@ -20,7 +20,7 @@ pub(crate) fn repeated_key(alloc: Global, text: &[u8]) -> Result<Option<usize>, 
     Ok(walked.repeated)
 }
 
-/// Appends where a key comes twice in one object, if one does.
+/// Appends the place of the first repeated key of an object, if there is one.
 fn add_warning(alloc: Global, page: &mut Page, text: &[u8]) -> Result<(), AllocError> {
     let Some(offset) = repeated_key(alloc, text)? else {
         return Ok(());
@@ -47,7 +47,7 @@ fn add_place(alloc: Global, page: &mut Page, place: &FaultPlace) -> Result<(), A
     page.add(0, text.as_str())
 }
 
-/// Returns the line of a key that comes twice in one object of a plan's text, or no line.
+/// Returns the line about the first repeated key of an object in a plan's text, or no line.
 ///
 /// # Errors
 /// Memory ran out.
@@ -57,7 +57,7 @@ pub fn warning_lines(alloc: Global, text: &[u8]) -> Result<String, AllocError> {
     Ok(page.into_text())
 }
 
-/// Returns the same line of a text that isn't a plan's, and below it the place of its fault.
+/// Returns the same line for a text that isn't a plan's, and after it the place of its fault.
 ///
 /// # Errors
 /// Memory ran out.

@@ -26,7 +26,7 @@ const MEMBERS: &str = "an array of one or more members";
 
 const MEMBER: &str = "a whole number from 0 to 63, greater than the one before it";
 
-/// Returns the format that a node spells.
+/// Returns the format with a node's number.
 fn format_of(node: &TapeNode<'_, '_>) -> Option<Format> {
     match node.as_u64() {
         Some(1) => Some(Format::Plain),

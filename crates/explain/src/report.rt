@@ -68,8 +68,8 @@ fn line_of(alloc: Global, report: &Report<'_>) -> Result<String, AllocError> {
     }
 }
 
-/// Returns what is known of a text as one line of JSON, beside the status and the line of `check`: the configurations
-/// of the plan that it spells, or the place of its fault.
+/// Returns one line of JSON about a text: the status and the line of `check`, and the configurations of its plan or the
+/// place of its fault.
 ///
 /// # Errors
 /// Memory ran out.

@@ -3,14 +3,15 @@
 ghost use Rattle.std.specs.Prelude.{◌≡◌, ℕ, IfOk, IfSome};
 ghost use Rattle.std.specs.FinSet.{contains};
 ghost use Rattle.quorum_expr.specs.Expr.{formula_of};
-ghost use Rattle.witness.specs.Tolerance.{IsLeastLoss, is_stopping};
+ghost use Rattle.explain.specs.Tolerance.{IsLeastLoss, is_stopping};
 
 use crate::facts::{BlockFacts, Members, QuorumFacts};
+use crate::naming::members_named;
+use crate::tolerance::{stopping_members, stopping_set};
 use crate::wording::{add_expr, nodes};
 use quorum_expr::{Expr, MemberSet, holds};
 use std::alloc::{AllocError, Allocator, Global};
 use volume_model::Fault;
-use witness::{members_named, stopping_members, stopping_set};
 
 /// What an expression survives.
 #[derive(Debug, Drop)]
@@ -40,8 +41,8 @@ pub fn survival_of<A: Allocator>(
     Ok(Survival { smallest, alone })
 }
 
-/// Returns each list in an expression's list, such as a zone, and whether it survives the loss of all members that the
-/// list names.
+/// Returns each list among an expression's children, such as a zone, and whether the expression survives the loss of
+/// all members that the list names.
 fn blocks_of(
     alloc: Global,
     expr: &Expr<Global>,

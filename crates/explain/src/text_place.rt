@@ -96,7 +96,7 @@ fn offset_of(text: &str, steps: &[Step], scratch: &mut Scratch) -> Result<usize,
     Ok(at)
 }
 
-/// Returns the line and the column of an offset of a text, both from 1.
+/// Returns the line and the column of an offset in a text, both from 1.
 pub(crate) fn position(text: &[u8], offset: usize) -> (usize, usize) {
     let (mut line, mut column) = (1usize, 1usize);
     for byte in text.iter().take(offset) {
@@ -160,7 +160,7 @@ fn value_place(
     Ok(Some(place))
 }
 
-/// Returns the place of the first fault of a plan's text, `None` if the text spells a plan.
+/// Returns the place of the first fault of a plan's text, or `None` if it is the text of a plan.
 ///
 /// # Errors
 /// Memory ran out.

@@ -58,7 +58,7 @@ pub fn add_set(text: &mut String, members: MemberSet) -> Result<(), AllocError> 
     text.push_str("}")
 }
 
-/// Returns the set of a list of different members that weigh one each, and nothing for any other list.
+/// Returns the set of a list of different members of weight 1, or `None` for any other list.
 fn plain_members(of: &[(u8, Expr<Global>)]) -> Option<MemberSet> {
     let mut members = MemberSet::empty();
     for (weight, child) in of {
@@ -75,7 +75,7 @@ fn plain_members(of: &[(u8, Expr<Global>)]) -> Option<MemberSet> {
     Some(members)
 }
 
-/// Returns how many members and thresholds an expression has, at least one.
+/// Returns the number of members and thresholds of an expression, at least one.
 pub fn nodes(expr: &Expr<Global>) -> u64
     ensures { 1 ≤ result }
 {

@@ -13,7 +13,7 @@ use std::thread::Threads;
 use std::{fs, io};
 use trial::try_case;
 
-/// Tries the cases of a book, and prints of each what is wrong with it, if anything, or at last that nothing is.
+/// Tries the cases of a book. Prints what is wrong with each, if anything, or at the end that nothing is.
 fn try_cases<H: Threads + Wait + Sync>(
     rt: &HostRuntime,
     threads: &H,
@@ -33,7 +33,7 @@ fn try_cases<H: Threads + Wait + Sync>(
     Ok(is_right)
 }
 
-/// Tries the book of a file. Returns false if something is wrong with it, which is printed.
+/// Tries the book of a file. Prints what is wrong with it, and returns false if anything is.
 fn try_book<H: Threads + Wait + Sync>(
     rt: &HostRuntime,
     threads: &H,
@@ -52,7 +52,7 @@ fn try_book<H: Threads + Wait + Sync>(
     }
 }
 
-/// Tries the books that words of the command line name; the exit status is 1 where something is wrong with one.
+/// Tries the books that the command line names. The exit status is 1 if something is wrong with one.
 pub fn try_books<H: Threads + Wait + Sync>(
     rt: &HostRuntime,
     threads: &H,

@@ -1,4 +1,4 @@
-//! What is wrong with a run.
+//! Broken promises of a run.
 
 use std::alloc::AllocError;
 use std::fmt;

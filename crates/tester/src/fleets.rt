@@ -1,4 +1,4 @@
-//! Whether what a fleet prints goes with what a run prints.
+//! Checks the output of a fleet against that of a run.
 
 use crate::broken::Broken;
 use crate::judge::check_promises;
@@ -34,7 +34,7 @@ pub fn check_fleet(
     Ok(())
 }
 
-/// Returns whether a fleet with one driver says what the run says.
+/// Checks that a fleet with one driver prints what the run prints.
 pub fn check_alike(run: &Outcome, fleet: &Outcome) -> Result<(), Broken> {
     let what = if run.writers != fleet.writers {
         "writers"

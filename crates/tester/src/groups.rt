@@ -8,7 +8,7 @@ pub const SIX_COPIES: &str = "\
 \"left\":0,\"right\":0},{\"rule\":\"clash\",\"left\":0,\"right\":0},{\"rule\":\"clash\",\"left\":0,\"right\":0},\
 {\"rule\":\"clash\",\"left\":0,\"right\":0},{\"rule\":\"clash\",\"left\":0,\"right\":0}]},\"step\":null}]}";
 
-/// Three members keep whole pages and three the log alone; any four write, or the three with pages.
+/// Three members keep whole pages, and three only the log. Any four write, or the three with pages.
 pub const FULL_AND_TAIL: &str = "\
 {\"configurations\":[{\"parent\":null,\"members\":[0,1,2,3,4,5],\"full\":[0,1,2],\"read\":{\"k\":2,\
 \"of\":[{\"k\":3,\"of\":\"all\"},{\"k\":1,\"of\":\"full\"}]},\"write\":{\"k\":1,\"of\":[{\"k\":4,\"of\":\"all\"},{\"k\":3,\
@@ -20,7 +20,7 @@ pub const FULL_AND_TAIL: &str = "\
 \"left\":1,\"right\":0,\"pairs\":[[0,0],[1,1],[2,2]],\"then\":[{\"rule\":\"clash\",\"left\":1,\"right\":0},\
 {\"rule\":\"clash\",\"left\":1,\"right\":0},{\"rule\":\"clash\",\"left\":1,\"right\":0}]}]}},\"step\":null}]}";
 
-/// Two large members and three small ones, of which what weighs 4 of 7 reads and writes; then member 2 is large too.
+/// Two large members and three small ones: sets of weight 4 of 7 read and write. Then member 2 is large too.
 pub const LARGE_AND_SMALL: &str = "\
 {\"configurations\":[{\"parent\":null,\"members\":[0,1,2,3,4],\"full\":[0,1,2,3,4],\"read\":{\"k\":4,\
 \"of\":\"all\",\"weights\":[2,2,1,1,1]},\"write\":{\"k\":4,\"of\":\"all\",\"weights\":[2,2,1,1,1]},\
@@ -37,7 +37,7 @@ pub const LARGE_AND_SMALL: &str = "\
 {\"rule\":\"clash\",\"left\":0,\"right\":0},{\"rule\":\"clash\",\"left\":0,\"right\":0},{\"rule\":\"clash\",\
 \"left\":0,\"right\":0}]}}]}";
 
-/// Member 5 is replaced by member 6, or the step is taken back.
+/// Member 5 is replaced by member 6, or the step is reverted.
 pub const MEMBER_REPLACED: &str = "\
 {\"configurations\":[{\"parent\":null,\"members\":[0,1,2,3,4,5],\"full\":[0,1,2,3,4,5],\"read\":{\"k\":3,\
 \"of\":\"all\"},\"write\":{\"k\":4,\"of\":\"all\"},\"meets\":{\"rule\":\"match\",\"left\":0,\"right\":0,\"pairs\":[[0,\
@@ -81,7 +81,7 @@ pub const MEMBER_REPLACED: &str = "\
 \"left\":0,\"right\":1},{\"rule\":\"clash\",\"left\":0,\"right\":1},{\"rule\":\"clash\",\"left\":0,\"right\":1},\
 {\"rule\":\"clash\",\"left\":0,\"right\":1}]}}}]}";
 
-/// While member 5 is being replaced by 6, member 7 comes for member 4.
+/// While member 5 is being replaced by 6, member 7 replaces member 4.
 pub const TWO_REPLACED: &str = "\
 {\"configurations\":[{\"parent\":null,\"members\":[0,1,2,3,4,5],\"full\":[0,1,2,3,4,5],\"read\":{\"k\":3,\
 \"of\":\"all\"},\"write\":{\"k\":4,\"of\":\"all\"},\"meets\":{\"rule\":\"match\",\"left\":0,\"right\":0,\"pairs\":[[0,\

@@ -1,4 +1,4 @@
-//! Commands over texts in memory, and what they print.
+//! Commands over texts in memory, and their outputs.
 
 ghost use Rattle.std.specs.Prelude.{◌≤◌};
 
@@ -9,7 +9,7 @@ use std::io;
 use std::sync::Wait;
 use std::thread::Threads;
 
-/// Returns a plan's check.
+/// Returns the job of a check.
 pub fn check() -> Job<'static> {
     Job {
         action: Action::Check,
@@ -20,7 +20,7 @@ pub fn check() -> Job<'static> {
     }
 }
 
-/// Returns a script's run over a plan.
+/// Returns the job of a run.
 pub fn run() -> Job<'static> {
     Job {
         action: Action::Run,
@@ -31,7 +31,7 @@ pub fn run() -> Job<'static> {
     }
 }
 
-/// Returns a script's run on threads by this many drivers.
+/// Returns the job of a fleet with this many drivers.
 pub fn fleet(workers: u8) -> Job<'static>
     requires some { 1 ≤ workers }
     requires few { workers ≤ 16 }

@@ -1,4 +1,4 @@
-//! Whether what was printed keeps what the volume promises.
+//! Checks that a run's output keeps the volume's promises.
 
 use crate::broken::Broken;
 use crate::outcome::{Find, Outcome, Writer};
@@ -13,7 +13,7 @@ struct End {
     last: u64,
 }
 
-/// What a run has shown.
+/// What was checked in a run.
 #[derive(Clone, Copy)]
 pub struct Shown {
     /// Transactions that are acknowledged: at or below their writer's durable point.
@@ -22,7 +22,7 @@ pub struct Shown {
     pub finds: u64,
 }
 
-/// Returns whether each line of a script has its answer, in order.
+/// Checks that each line of a script has its answer, in order.
 fn check_answers(outcome: &Outcome, lines: u64) -> Result<(), Broken> {
     let mut place = 0u64;
     for answer in outcome.answers.iter() {
@@ -41,7 +41,7 @@ fn check_answers(outcome: &Outcome, lines: u64) -> Result<(), Broken> {
     Ok(())
 }
 
-/// Where the numbers of a writer begin: above this one.
+/// Returns the start of a writer's own LSNs: all are above it.
 fn start_of(outcome: &Outcome, client: u64) -> u64 {
     match outcome.find_of(client) {
         Some(find) => find.start,
@@ -49,7 +49,7 @@ fn start_of(outcome: &Outcome, client: u64) -> u64 {
     }
 }
 
-/// Up to where the recovery of a writer has found the log; 0 where it was none.
+/// Returns the cut of a writer's recovery; 0 if there was none.
 fn cut_of(outcome: &Outcome, client: u64) -> u64 {
     match outcome.find_of(client) {
         Some(find) => find.cut,
@@ -57,7 +57,7 @@ fn cut_of(outcome: &Outcome, client: u64) -> u64 {
     }
 }
 
-/// Returns the last record that a writer has issued, of these transactions.
+/// Returns the last LSN of a writer, given the ends of its transactions.
 fn last_of(outcome: &Outcome, ends: &[End], client: u64) -> u64 {
     let mut last = start_of(outcome, client);
     for end in ends.iter() {
@@ -68,7 +68,7 @@ fn last_of(outcome: &Outcome, ends: &[End], client: u64) -> u64 {
     last
 }
 
-/// Returns how many messages a line made, where it wasn't refused.
+/// Returns the number of messages that a line made, if it wasn't refused.
 fn made_by(outcome: &Outcome, line: u64) -> Option<u64> {
     outcome
         .answers
@@ -77,7 +77,7 @@ fn made_by(outcome: &Outcome, line: u64) -> Option<u64> {
         .made
 }
 
-/// Returns the ends of the transactions that were issued.
+/// Returns the last LSN of each transaction that was issued.
 fn ends_of(alloc: Global, outcome: &Outcome, issues: &[Issue]) -> Result<Vec<End>, Broken> {
     let mut ends: Vec<End> = Vec::new(alloc);
     for issue in issues.iter() {
@@ -102,7 +102,6 @@ fn ends_of(alloc: Global, outcome: &Outcome, issues: &[Issue]) -> Result<Vec<End
     Ok(ends)
 }
 
-/// Adds an end.
 fn push_end(ends: &mut Vec<End>, end: End) -> Result<(), AllocError> {
     ends.push(end)?;
     Ok(())
@@ -120,8 +119,7 @@ fn ends_before(ends: &[End], client: u64, last: u64) -> bool {
         .any(|end| end.client < client && end.last == last)
 }
 
-/// Returns whether a writer's points are below its next number, and its durable point isn't below the cut of its own
-/// recovery.
+/// Checks that a writer's points are below its next LSN, and its durable point isn't below the cut of its own recovery.
 fn check_points(outcome: &Outcome, writer: Writer) -> Result<(), Broken> {
     let Writer {
         client,
@@ -146,7 +144,7 @@ fn check_points(outcome: &Outcome, writer: Writer) -> Result<(), Broken> {
     Ok(())
 }
 
-/// Returns whether a recovery starts at its cut or above.
+/// Checks that a recovery starts at its cut or above.
 fn check_start(find: Find) -> Result<(), Broken> {
     let Find { client, cut, start } = find;
     if !is_kept(cut, start) {
@@ -159,8 +157,8 @@ fn check_start(find: Find) -> Result<(), Broken> {
     Ok(())
 }
 
-/// Returns whether a writer has numbered the records of its transactions one after the other, and its durable point
-/// parts none of them.
+/// Checks that a writer numbered the records of its transactions consecutively, and that its durable point doesn't
+/// divide a transaction.
 fn check_log(outcome: &Outcome, ends: &[End], writer: Writer) -> Result<(), Broken> {
     let Writer {
         client,
@@ -184,7 +182,7 @@ fn check_log(outcome: &Outcome, ends: &[End], writer: Writer) -> Result<(), Brok
     Ok(())
 }
 
-/// Returns whether the cut of a recovery parts no transaction.
+/// Checks that the cut of a recovery doesn't divide a transaction.
 fn check_cut(ends: &[End], find: Find) -> Result<(), Broken> {
     let Find { client, cut, .. } = find;
     if cut != 0 && !ends_before(ends, client, cut) {
@@ -196,7 +194,7 @@ fn check_cut(ends: &[End], find: Find) -> Result<(), Broken> {
     Ok(())
 }
 
-/// Returns whether a writer's commits stand in a later recovery, which gives none of the writer's numbers again.
+/// Checks that a later recovery has a writer's commits, and reuses none of the writer's LSNs.
 fn check_pair(writer: Writer, find: Find) -> Result<(), Broken> {
     if !is_kept(writer.durable, find.cut) {
         return Err(Broken::Lost {
@@ -217,7 +215,7 @@ fn check_pair(writer: Writer, find: Find) -> Result<(), Broken> {
     Ok(())
 }
 
-/// Returns whether all earlier writers go with a recovery; how many these are.
+/// Checks a recovery against all earlier writers. Returns their number.
 fn check_commits(writers: &[Writer], find: Find) -> Result<u64, Broken> {
     let mut compared = 0u64;
     for writer in writers.iter() {
@@ -240,7 +238,7 @@ fn acknowledged_by(ends: &[End], writer: Writer) -> u64 {
     acknowledged
 }
 
-/// Returns whether writers and recoveries go with each other as the volume promises; how many pairs were compared.
+/// Checks all recoveries against all earlier writers. Returns the number of pairs.
 pub fn check_promises(outcome: &Outcome) -> Result<u64, Broken> {
     for writer in outcome.writers.iter() {
         check_points(outcome, *writer)?;
@@ -253,8 +251,7 @@ pub fn check_promises(outcome: &Outcome) -> Result<u64, Broken> {
     Ok(compared)
 }
 
-/// Returns whether what a run prints of a script is as the volume promises: the answer to each line, and the points
-/// of all clients.
+/// Checks what a run prints for a script: the answer to each line, and the points of all clients.
 pub fn check_run(
     alloc: Global,
     outcome: &Outcome,

@@ -1,20 +1,20 @@
-//! A log that is longer than a piece: what is copied and installed of it are two messages.
+//! A log that is longer than a piece, so that copies and installs of it take two messages.
 
 use crate::schedule::Schedule;
 use crate::written::{Delivery, Issue, Receiver};
 use std::alloc::AllocError;
 
-/// How many transactions such a script begins with.
+/// The number of transactions with which such a script begins.
 const TRANSACTIONS: u8 = 9;
 
-/// How many records each of them has, all of the first group.
+/// The number of records of each of them, all of the first group.
 const CHANGES: u64 = 32;
 
-/// How many pieces this many records make.
+/// The number of pieces of this many records.
 const PIECES: u64 = 2;
 
 impl Schedule {
-    /// The first writer issues the records of a transaction.
+    /// Appends an issue of the first writer with the records of a transaction.
     fn issue_many(&mut self) -> Result<u64, AllocError> {
         self.written.text.push_str("issue 1")?;
         for _ in 0..CHANGES {
@@ -30,7 +30,7 @@ impl Schedule {
         Ok(line)
     }
 
-    /// The records of a line are delivered to a member; gives the line that delivers the last.
+    /// Appends the deliveries of a line's records to a member. Returns the number of the last of these lines.
     fn deliver_many(&mut self, line: u64, member: u8) -> Result<u64, AllocError> {
         let mut last = line;
         for change in 0..CHANGES {
@@ -45,7 +45,7 @@ impl Schedule {
         Ok(last)
     }
 
-    /// The first writer commits the records of a transaction.
+    /// Appends lines in which the first writer commits the records of a transaction.
     fn commit_many(&mut self) -> Result<(), AllocError> {
         let line = self.issue_many()?;
         for member in self.members(0).iter() {
@@ -55,7 +55,7 @@ impl Schedule {
         Ok(())
     }
 
-    /// Begins a script by this many records of the first group that they make two pieces.
+    /// Begins a script with enough records of the first group for two pieces.
     pub fn lengthen(&mut self) -> Result<(), AllocError> {
         for _ in 0..TRANSACTIONS {
             self.commit_many()?;

@@ -1,6 +1,6 @@
-//! Tries the program: `tester [BOOK..] [SEED [COUNT]]`. Each word that ends in `.book` is a book, whose cases are
-//! tried; then come the random plans and scripts of this many seeds, of which only what is printed decides whether the
-//! volume's promises are kept.
+//! Tries the program: `tester [BOOK..] [SEED [COUNT]]`. Each word that ends in `.book` is a case file, whose cases are
+//! tried. Then come the random plans and scripts of COUNT seeds; whether the volume's promises are kept is judged from
+//! the printed output only.
 #![tactic(auto)]
 
 mod books;
@@ -30,10 +30,10 @@ use std::thread::Threads;
 use std::{env, io};
 use words::{Wish, asked_by};
 
-/// What is said of wrong words.
+/// The text for wrong words.
 const USAGE: &str = "usage: tester [BOOK.book ..] [SEED [COUNT]] | tester show SEED";
 
-/// Does what the words of the command line ask for; the exit status is 1 where a book or a run isn't as it should be.
+/// Does what the command line asks for. The exit status is 1 if something is wrong with a book or a run.
 fn obey<H: Threads + Wait + Sync>(rt: &HostRuntime, threads: &H) -> io::Result<u8> {
     let words: Vec<String> = env::args(rt)?.collect(rt.alloc())?;
     let Some(wish) = asked_by(words.as_slice()) else {

@@ -1,14 +1,14 @@
-//! What a run or a fleet prints, read back.
+//! Reads back what a run or a fleet prints.
 
 use crate::broken::Broken;
 use fuzzing::CommandOutput;
 use std::alloc::{AllocError, Global};
 
-/// What was answered to a line of the script.
+/// The answer to a line of the script.
 #[derive(Clone, Copy)]
 pub struct Answer {
     pub line: u64,
-    /// How many messages it made, unless it was refused.
+    /// The number of messages that it made, unless it was refused.
     pub made: Option<u64>,
 }
 
@@ -20,7 +20,7 @@ pub struct Writer {
     pub next: u64,
 }
 
-/// What a recovery has found.
+/// A recovery that has cut.
 #[derive(Clone, Copy, PartialEq, Eq)]
 pub struct Find {
     pub client: u64,
@@ -38,28 +38,27 @@ enum Printed {
     Journal(bool),
 }
 
-/// All that was printed.
+/// The whole output.
 #[derive(Drop)]
 pub struct Outcome {
     pub answers: Vec<Answer>,
     pub writers: Vec<Writer>,
     pub finds: Vec<Find>,
-    /// How many events happened, as a fleet says.
+    /// The number of events that were made, in the output of a fleet.
     pub steps: Option<u64>,
-    /// How many were refused, as a fleet says.
+    /// The number of events that were refused, in the output of a fleet.
     pub refused: Option<u64>,
-    /// Whether the journal is a run, as a fleet says.
+    /// Whether the journal agrees, in the output of a fleet.
     pub journal: Option<bool>,
-    /// How many lines are none of these.
+    /// The number of lines of any other form.
     pub strange: u64,
 }
 
-/// Returns a number in decimal.
 fn number(word: &str) -> Option<u64> {
     word.parse::<u64>().ok()
 }
 
-/// Returns the line of a writer, of these numbers.
+/// Returns the line of a writer with these numbers.
 fn of_writer(client: &str, durable: &str, next: &str) -> Option<Printed> {
     Some(Printed::Writer(Writer {
         client: number(client)?,
@@ -68,7 +67,7 @@ fn of_writer(client: &str, durable: &str, next: &str) -> Option<Printed> {
     }))
 }
 
-/// Returns the line of a recovery, of these numbers.
+/// Returns the line of a recovery with these numbers.
 fn of_find(client: &str, cut: &str, start: &str) -> Option<Printed> {
     Some(Printed::Find(Find {
         client: number(client)?,
@@ -85,7 +84,6 @@ fn done(line: &str, made: &str) -> Option<Printed> {
     }))
 }
 
-/// Returns a refusal.
 fn refusal(line: &str, fault: &str) -> Option<Printed> {
     number(fault)?;
     Some(Printed::Answer(Answer {
@@ -94,7 +92,7 @@ fn refusal(line: &str, fault: &str) -> Option<Printed> {
     }))
 }
 
-/// Returns what a line of six words says.
+/// Reads a line of six words.
 fn of_six(words: [&str; 6]) -> Option<Printed> {
     let [who, client, first, low, second, high] = words;
     if who == "writer" && first == "durable" && second == "next" {
@@ -106,7 +104,7 @@ fn of_six(words: [&str; 6]) -> Option<Printed> {
     None
 }
 
-/// Returns what a line of two words says.
+/// Reads a line of two words.
 fn of_two(what: &str, word: &str) -> Option<Printed> {
     if what == "steps" {
         return Some(Printed::Steps(number(word)?));
@@ -120,7 +118,6 @@ fn of_two(what: &str, word: &str) -> Option<Printed> {
     None
 }
 
-/// Returns what a line says.
 fn of_line(words: &[&str]) -> Option<Printed> {
     match words {
         [who, client, first, low, second, high] => {
@@ -134,7 +131,6 @@ fn of_line(words: &[&str]) -> Option<Printed> {
 }
 
 impl Outcome {
-    /// Nothing printed yet.
     fn new(alloc: Global) -> Outcome {
         Outcome {
             answers: Vec::new(alloc),
@@ -147,7 +143,7 @@ impl Outcome {
         }
     }
 
-    /// Adds what a line says.
+    /// Adds a line that was read.
     fn add(&mut self, line: Option<Printed>) -> Result<(), AllocError> {
         match line {
             Some(Printed::Answer(answer)) => self.answers.push(answer)?,
@@ -161,7 +157,7 @@ impl Outcome {
         Ok(())
     }
 
-    /// What this text says, line by line.
+    /// Reads a text, line by line.
     fn read(alloc: Global, text: &str) -> Result<Outcome, AllocError> {
         let mut outcome = Outcome::new(alloc);
         for line in text.split('\n') {
@@ -173,7 +169,7 @@ impl Outcome {
         Ok(outcome)
     }
 
-    /// Returns what a job of this name printed, where it wasn't refused.
+    /// Returns the output of a job, unless the job was refused.
     pub fn of(
         alloc: Global,
         output: &CommandOutput,
@@ -190,17 +186,17 @@ impl Outcome {
         Ok(outcome)
     }
 
-    /// Returns how many lines weren't refused.
+    /// Returns the number of lines that weren't refused.
     pub fn happened(&self) -> u64 {
         (self.answers.len() as u64).saturating_sub(self.refusals())
     }
 
-    /// Returns how many lines were refused.
+    /// Returns the number of lines that were refused.
     pub fn refusals(&self) -> u64 {
         self.answers.iter().filter(|a| a.made.is_none()).count() as u64
     }
 
-    /// Returns what the recovery of a client has found.
+    /// Returns the recovery of a client, if it has cut.
     pub fn find_of(&self, client: u64) -> Option<Find> {
         self.finds
             .iter()

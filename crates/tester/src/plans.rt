@@ -1,10 +1,10 @@
-//! Certified plans, and which sets of members read and write in them.
+//! Certified plans, and their read and write quorums.
 
 use crate::groups::{FULL_AND_TAIL, LARGE_AND_SMALL, MEMBER_REPLACED, SIX_COPIES, TWO_REPLACED};
 use fuzzing::Rng;
 use std::alloc::{AllocError, Global};
 
-/// The groups of a plan by what they are about.
+/// The kinds of groups.
 #[derive(Clone, Copy, PartialEq, Eq)]
 pub enum Family {
     SixCopies,
@@ -14,14 +14,14 @@ pub enum Family {
     TwoReplaced,
 }
 
-/// Members of which any `least` are a read set, or a write set.
+/// Members of which any `least` are a read quorum, or a write quorum.
 #[derive(Clone, Copy)]
 pub struct Side {
     pub members: &'static [u8],
     pub least: usize,
 }
 
-/// The allowance of plans that are run with a long log.
+/// The LAL of plans that are run with a long log.
 const LONG: usize = 40;
 
 const FIVE: &[u8] = &[0, 1, 2, 3, 4];
@@ -78,7 +78,7 @@ impl Family {
         }
     }
 
-    /// Returns the member that a configuration has and its parent lacks.
+    /// Returns the fresh member of a configuration.
     pub fn fresh(self, configuration: u8) -> Option<u8> {
         match (self, configuration) {
             (Family::MemberReplaced | Family::TwoReplaced, 1) => Some(6),
@@ -87,7 +87,7 @@ impl Family {
         }
     }
 
-    /// Large and small members that read: they weigh 4 of 7 together, or 5 of 8 once member 2 is large.
+    /// Returns large and small members that read: they weigh 4 of 7 together, or 5 of 8 once member 2 is large.
     fn weighed_readers(configuration: u8, choice: usize) -> Side {
         let (members, least): (&'static [u8], usize) = match (configuration, choice) {
             (0, 0) => (&[0, 1], 2),
@@ -101,7 +101,7 @@ impl Family {
         Side { members, least }
     }
 
-    /// Large and small members that write: they weigh 4 together.
+    /// Returns large and small members that write: they weigh 4 together.
     fn weighed_writers(configuration: u8, choice: usize) -> Side {
         let (members, least): (&'static [u8], usize) = match (configuration, choice) {
             (_, 0) => (&[0, 1], 2),
@@ -114,7 +114,7 @@ impl Family {
         Side { members, least }
     }
 
-    /// Members of which this many read.
+    /// Returns members, and how many of them read.
     pub fn read_side(self, configuration: u8, rng: &mut Rng) -> Side {
         let choice = rng.below(4);
         if self == Family::LargeAndSmall {
@@ -131,7 +131,7 @@ impl Family {
         Side { members, least: 3 }
     }
 
-    /// Members of which this many write.
+    /// Returns members, and how many of them write.
     pub fn write_side(self, configuration: u8, rng: &mut Rng) -> Side {
         if self == Family::LargeAndSmall {
             return Family::weighed_writers(configuration, rng.below(4));
@@ -150,18 +150,18 @@ impl Family {
     }
 }
 
-/// A plan of groups that are alike.
+/// A plan with groups of one kind.
 #[derive(Clone, Copy)]
 pub struct Plan {
     pub family: Family,
     pub groups: u8,
-    /// How many of them are there when the volume is born.
+    /// The number of groups at birth.
     pub born: u8,
     allowance: usize,
 }
 
 impl Plan {
-    /// Returns a plan by chance.
+    /// Returns a random plan.
     pub fn draw(rng: &mut Rng) -> Plan {
         let family = match rng.below(7) {
             0 | 1 => Family::MemberReplaced,
@@ -183,12 +183,12 @@ impl Plan {
         }
     }
 
-    /// Returns whether its allowance is great enough for a long log.
+    /// Returns whether its LAL is great enough for a long log.
     pub fn is_long(&self) -> bool {
         self.allowance == LONG
     }
 
-    /// Returns its text, on one line.
+    /// Returns the plan's text, on one line.
     pub fn text(&self, alloc: Global) -> Result<String, AllocError> {
         let allowance = self.allowance;
         let format = self.family.format();

@@ -1,4 +1,4 @@
-//! A random script: tasks that go on by turns, and lines that belong to none.
+//! A random script: tasks that take turns, and lines that belong to no task.
 
 use crate::plans::{Plan, Side};
 use crate::tasks::{Answered, Stage, Task};
@@ -12,30 +12,30 @@ const MOST_CLIENTS: u32 = 24;
 /// The most tasks at a time.
 const MOST_TASKS: usize = 3;
 
-/// A script in the making.
+/// A script under construction.
 #[derive(Drop)]
 pub struct Schedule {
     pub plan: Plan,
     pub rng: Rng,
     pub written: Written,
-    /// How many clients there are.
+    /// The number of clients.
     pub clients: u32,
-    /// Those that may be open, in the order of their opening.
+    /// The clients that may be open, in the order in which they opened.
     pub open: Vec<u32>,
     /// The configuration of each group.
     pub places: [u8; 2],
-    /// How many groups have joined.
+    /// The number of groups that have joined.
     pub joined: u8,
-    /// How many groups the newest client has taken a View of.
+    /// The number of groups in the last View that the newest client took.
     pub viewed: u8,
     /// Members in the order in which writes prefer them.
     favourites: Vec<u8>,
-    /// Messages that weren't delivered in their time.
+    /// Messages that weren't delivered in time.
     late: Vec<Delivery>,
     tasks: Vec<Task>,
     /// How many of 100 messages are lost.
     loss: usize,
-    /// How many messages a copy or an install of the first group is.
+    /// The number of messages of a copy or an install of the first group.
     pub pieces: u64,
 }
 
@@ -63,7 +63,7 @@ impl Schedule {
         })
     }
 
-    /// Where a group stands.
+    /// Returns the configuration of a group.
     pub fn place(&self, group: u8) -> u8 {
         let [first, second] = self.places;
         if group == 0 { first } else { second }
@@ -87,7 +87,7 @@ impl Schedule {
         self.rng.one_of(self.open.as_slice()).unwrap_or(1)
     }
 
-    /// Some of these members, at least as many as do.
+    /// Returns some of these members, at least as many as needed.
     fn some_of(&mut self, alloc: Global, side: Side) -> Result<Vec<u8>, AllocError> {
         let mut members = self.rng.shuffled(alloc, side.members)?;
         let more = members.len().saturating_sub(side.least);
@@ -96,7 +96,7 @@ impl Schedule {
         Ok(members)
     }
 
-    /// Returns the first of these members that writes prefer, as many as do.
+    /// Returns the first of these members that writes prefer, as many as needed.
     fn preferred(&self, alloc: Global, side: Side) -> Result<Vec<u8>, AllocError> {
         let mut members = Vec::new(alloc);
         for member in self.favourites.iter() {
@@ -130,7 +130,7 @@ impl Schedule {
         self.some_of(alloc, side)
     }
 
-    /// Has a task send a message to members of a group.
+    /// Lets a task send a message to members of a group.
     pub fn send(
         &mut self,
         task: &mut Task,
@@ -151,12 +151,12 @@ impl Schedule {
         Ok(())
     }
 
-    /// Returns how many messages a copy or an install of a group is.
+    /// Returns the number of messages of a copy or an install of a group.
     pub fn pieces_of(&self, group: u8) -> u64 {
         if group == 0 { self.pieces } else { 1 }
     }
 
-    /// Has a recovery send the fences that a line made to members that read.
+    /// Lets a recovery send the Fences that a line made to a read quorum.
     pub fn send_fences(
         &mut self,
         alloc: Global,
@@ -172,7 +172,7 @@ impl Schedule {
         Ok(())
     }
 
-    /// Has a recovery send the installs that a line made, all pieces of them, to members that write.
+    /// Lets a recovery send the Installs that a line made, with all their pieces, to a write quorum.
     pub fn send_installs(
         &mut self,
         alloc: Global,
@@ -191,7 +191,7 @@ impl Schedule {
         Ok(())
     }
 
-    /// Has a writer send its records, which lie in these groups.
+    /// Lets a writer send its records, which are in these groups.
     pub fn send_records(
         &mut self,
         alloc: Global,
@@ -247,7 +247,7 @@ impl Schedule {
         Ok(())
     }
 
-    /// Returns the next line of a task.
+    /// Writes the next line of a task.
     fn go_on(&mut self, alloc: Global, task: &mut Task) -> Result<(), AllocError> {
         let chosen = self.rng.below(task.deliveries.len());
         if chosen < task.deliveries.len() {
@@ -262,7 +262,7 @@ impl Schedule {
         self.next_stage(alloc, task)
     }
 
-    /// A task that was begun goes on, or a new one begins.
+    /// Continues a task, or begins a new one.
     fn take_turn(&mut self, alloc: Global) -> Result<(), AllocError> {
         let chosen = self.rng.below(self.tasks.len());
         if chosen < self.tasks.len() {
@@ -273,7 +273,7 @@ impl Schedule {
         self.begin(alloc)
     }
 
-    /// Keeps a task in which something is left to do.
+    /// Keeps a task unless it is done.
     pub fn keep(&mut self, task: Task) -> Result<(), AllocError> {
         if !task.is_done() {
             self.tasks.push(task)?;
@@ -281,7 +281,6 @@ impl Schedule {
         Ok(())
     }
 
-    /// Begins a task.
     fn begin(&mut self, alloc: Global) -> Result<(), AllocError> {
         match self.rng.below(20) {
             0..=3 if self.clients < MOST_CLIENTS => self.begin_recovery(alloc),
@@ -292,7 +291,7 @@ impl Schedule {
         }
     }
 
-    /// Messages that are late are delivered after all.
+    /// Begins a task that delivers the messages that are late.
     fn begin_late(&mut self, alloc: Global) -> Result<(), AllocError> {
         let client = self.newest();
         let mut task = Task::new(alloc, Stage::Finished, client);
@@ -305,7 +304,7 @@ impl Schedule {
         self.keep(task)
     }
 
-    /// Writes a line, or lets one be lost.
+    /// Writes a line, or loses one.
     fn turn(&mut self, alloc: Global) -> Result<(), AllocError> {
         match self.rng.below(100) {
             0..=9 if self.tasks.len() < MOST_TASKS => self.begin(alloc),
@@ -324,8 +323,9 @@ impl Schedule {
         all.get(chosen).copied()
     }
 
-    /// Writes a script: over a plan with a great allowance it begins by a long log, and else one in three by a write that arrives
-    /// late, where the plan has a step; then come its turns, the more of two draws between 30 and 400, each of which is a line at most.
+    /// Writes a script. Over a plan with a great LAL it begins with a long log; else one in three begins with a write
+    /// that arrives late, if the plan has a step. Then come its turns, of at most one line each; their number is the
+    /// greater of two draws between 30 and 400.
     pub fn fill(&mut self, alloc: Global) -> Result<(), AllocError> {
         if self.plan.is_long() {
             self.lengthen()?;

@@ -1,4 +1,4 @@
-//! The runs of seeds: random plans and scripts, judged by what is printed of them.
+//! Random runs: a plan and a script for each seed, judged by what is printed.
 
 use crate::broken::Broken;
 use crate::trial::{Counts, Trial};
@@ -7,7 +7,7 @@ use std::io;
 use std::sync::Wait;
 use std::thread::Threads;
 
-/// A run that has broken a promise.
+/// A run that breaks a promise.
 #[derive(Drop)]
 struct Found {
     seed: u64,
@@ -26,7 +26,8 @@ fn try_one<H: Threads + Wait + Sync>(
     trial.try_all(rt, alloc, several, counts)
 }
 
-/// Tries the runs of this many seeds, every fourth on several drivers too, up to the first that breaks a promise.
+/// Tries the runs of this many seeds, up to the first that breaks a promise. Each fourth is also run on several
+/// drivers.
 fn try_many<H: Threads + Wait + Sync>(
     rt: &H,
     alloc: Global,
@@ -44,7 +45,7 @@ fn try_many<H: Threads + Wait + Sync>(
     Ok(counts)
 }
 
-/// Tries runs, and prints what they have shown, or the first that breaks a promise; the exit status is 1 where one does.
+/// Tries runs. Prints what was checked, or the first run that breaks a promise; the exit status is 1 then.
 pub fn report<H: Threads + Wait + Sync>(
     rt: &HostRuntime,
     threads: &H,

@@ -1,4 +1,4 @@
-//! How tasks begin, and what they do stage by stage.
+//! The stages of tasks.
 
 use crate::schedule::Schedule;
 use crate::tasks::{Stage, Task};
@@ -6,7 +6,7 @@ use crate::written::{Issue, Receiver};
 use std::alloc::{AllocError, Global};
 
 impl Schedule {
-    /// Adds a change by chance to the line of an issue.
+    /// Adds a random change to an Issue's line.
     fn add_change(&mut self, group: u8) -> Result<(), AllocError> {
         let block = self.rng.below(3);
         let offset = self.rng.below(500);
@@ -30,7 +30,7 @@ impl Schedule {
         Ok(groups)
     }
 
-    /// A writer issues a transaction, and sends its records.
+    /// Begins a task in which a writer issues a transaction and sends its records.
     pub fn begin_write(&mut self, alloc: Global) -> Result<(), AllocError> {
         let client = self.writer();
         let groups = self.groups_of_changes(alloc)?;
@@ -50,7 +50,7 @@ impl Schedule {
         self.keep(task)
     }
 
-    /// The authority assigns a volume epoch to a recovery.
+    /// Begins a task in which the authority assigns a volume epoch to a recovery.
     pub fn begin_recovery(&mut self, alloc: Global) -> Result<(), AllocError> {
         let line = self.written.put("assign")?;
         self.clients = self.clients.saturating_add(1);
@@ -59,7 +59,7 @@ impl Schedule {
         self.keep(Task::new(alloc, Stage::View(line), client))
     }
 
-    /// A group steps to a child of its configuration.
+    /// Begins a task in which a group steps to a child of its configuration.
     pub fn begin_step(&mut self, alloc: Global) -> Result<(), AllocError> {
         let group = if self.joined == 2 && self.rng.chance(50) {
             1
@@ -85,7 +85,7 @@ impl Schedule {
         self.keep(task)
     }
 
-    /// A task has delivered and taken all: it goes on to its next stage.
+    /// Moves a task that has delivered and taken all to its next stage.
     pub fn next_stage(&mut self, alloc: Global, task: &mut Task) -> Result<(), AllocError> {
         match task.stage {
             Stage::View(line) => self.be_born(alloc, task, line),
@@ -102,21 +102,21 @@ impl Schedule {
         }
     }
 
-    /// A recovery takes its View, and fences members that read.
+    /// Lets a recovery take its View, and sends its Fences to a read quorum.
     fn be_born(&mut self, alloc: Global, task: &mut Task, view: u64) -> Result<(), AllocError> {
         let line = self.written.take(task.client, view, 1)?;
         task.stage = Stage::Cut;
         self.send_fences(alloc, task, line)
     }
 
-    /// A recovery cuts, and installs what it has found.
+    /// Lets a recovery cut, and sends its Installs.
     fn cut(&mut self, alloc: Global, task: &mut Task) -> Result<(), AllocError> {
         let line = self.written.of_client("cut", task.client)?;
         task.stage = Stage::Open;
         self.send_installs(alloc, task, line)
     }
 
-    /// A recovery opens.
+    /// Lets a recovery open.
     fn open(&mut self, task: &mut Task) -> Result<(), AllocError> {
         self.written.of_client("open", task.client)?;
         self.open.push(task.client)?;
@@ -124,7 +124,7 @@ impl Schedule {
         Ok(())
     }
 
-    /// A fresh member's question for copies goes to the old members.
+    /// Sends a new member's request for copies to the old members.
     fn ask(&mut self, task: &mut Task) -> Result<(), AllocError> {
         let group = task.group;
         let members = self.members(group);
@@ -142,7 +142,7 @@ impl Schedule {
         Ok(())
     }
 
-    /// The copies go to the fresh member.
+    /// Sends the copies to the new member.
     fn copy(&mut self, task: &mut Task) -> Result<(), AllocError> {
         let group = task.group;
         task.stage = Stage::Hydrate;
@@ -162,7 +162,7 @@ impl Schedule {
         Ok(())
     }
 
-    /// The fresh member becomes whole.
+    /// Lets the new member become whole.
     fn hydrate(&mut self, task: &mut Task) -> Result<(), AllocError> {
         task.answers.clear();
         task.stage = Stage::Refresh;
@@ -188,7 +188,7 @@ impl Schedule {
         self.written.note_each(line, self.joined)
     }
 
-    /// The next group joins.
+    /// Begins a task in which the next group joins.
     pub fn begin_growth(&mut self, alloc: Global) -> Result<(), AllocError> {
         self.written.put("grow")?;
         let mut task = Task::new(alloc, Stage::Tell, self.clients);
@@ -206,7 +206,7 @@ impl Schedule {
         Ok(())
     }
 
-    /// Lets it take the View, and sends the messages that it makes to members of the group.
+    /// Lets the newest client take its View, and sends the messages that it makes to members of the group.
     fn join(&mut self, task: &mut Task, view: u64) -> Result<(), AllocError> {
         let line = self.written.take(task.client, view, 1)?;
         let group = task.group;

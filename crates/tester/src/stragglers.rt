@@ -1,30 +1,30 @@
-//! A write that reaches its group late: behind a step of the group, and while its writer doesn't know of that step.
+//! A write that reaches its group late: after a step of the group, which its writer doesn't know yet.
 
 use crate::schedule::Schedule;
 use crate::tasks::{Stage, Task};
 use crate::written::{Delivery, Issue, Receiver};
 use std::alloc::{AllocError, Global};
 
-/// The members that the first step of a family keeps.
+/// The members that the first step of a plan keeps.
 const KEPT: &[u8] = &[0, 1, 2, 3, 4];
 
-/// The member that it may give up, which takes no part in the step.
+/// The member that the step may remove, which takes no part in it.
 const LEAVING: u8 = 5;
 
-/// Who hears of a step, and who doesn't.
+/// The members of a group that learn of a step, and those that don't.
 #[derive(Drop)]
 struct Parties {
     group: u8,
-    /// The member that the step brings.
+    /// The member that the step adds.
     fresh: u8,
-    /// Those that hear of it, a read set with the fresh one or without it.
+    /// The members that learn of the step; they are a read quorum with the fresh one or without it.
     stepped: Vec<u8>,
-    /// Those that don't, the last of which hears of it later.
+    /// The members that don't learn of it; the last of them does later.
     behind: Vec<u8>,
 }
 
 impl Schedule {
-    /// Returns the parties of a step of a group from its first configuration, where there is one.
+    /// Returns the parties of a group's step from its first configuration, if there is one.
     fn parties(&mut self, alloc: Global, group: u8) -> Result<Option<Parties>, AllocError> {
         let Some(fresh) = self.plan.family.fresh(1) else {
             return Ok(None);
@@ -44,7 +44,7 @@ impl Schedule {
         }))
     }
 
-    /// The first writer issues a record of a group.
+    /// Lets the first writer issue a record of a group.
     fn issue_one(&mut self, group: u8) -> Result<u64, AllocError> {
         let byte = self.rng.below(256);
         write!(self.written.text, "issue 1 {group}:0:0:{byte:02x}")?;
@@ -58,7 +58,7 @@ impl Schedule {
         Ok(line)
     }
 
-    /// A line's first message is delivered to members of a group; gives the lines.
+    /// Delivers a line's first message to members of a group. Returns the lines.
     fn deliver_to(
         &mut self,
         alloc: Global,
@@ -81,7 +81,7 @@ impl Schedule {
         Ok(lines)
     }
 
-    /// A client takes the first message of each of these lines.
+    /// Lets a client take the first message of each of these lines.
     fn take_all(&mut self, client: u32, lines: &[u64]) -> Result<(), AllocError> {
         for line in lines.iter() {
             self.written.take(client, *line, 1)?;
@@ -89,7 +89,7 @@ impl Schedule {
         Ok(())
     }
 
-    /// The first writer commits a record of a group.
+    /// Lets the first writer commit a record of a group.
     fn commit_one(&mut self, alloc: Global, group: u8) -> Result<(), AllocError> {
         let line = self.issue_one(group)?;
         let members = self.members(group);
@@ -98,7 +98,7 @@ impl Schedule {
         self.take_all(1, acks.as_slice())
     }
 
-    /// The question of the fresh member goes to those that hear of the step, and their copies go to it.
+    /// Sends the fresh member's request to the members that learn of the step, and their copies to it.
     fn copy_all(&mut self, alloc: Global, parties: &Parties, ask: u64) -> Result<(), AllocError> {
         let Parties {
             group,
@@ -115,7 +115,8 @@ impl Schedule {
         Ok(())
     }
 
-    /// A group steps on, and the fresh member becomes whole from those that hear of it. Gives the step's line.
+    /// Lets a group step, and the fresh member become whole from the members that learn of the step. Returns the step's
+    /// line.
     fn step_with(&mut self, alloc: Global, parties: &Parties) -> Result<u64, AllocError> {
         let Parties {
             group,
@@ -138,8 +139,8 @@ impl Schedule {
         Ok(line)
     }
 
-    /// The last of those that are behind hears of a step, and offers a record to the first that has heard of it before.
-    /// Gives the lines that the offer was delivered by.
+    /// Lets the last member that is behind learn of a step, and offer a record to the first one that knew of it.
+    /// Returns the lines that delivered the offer.
     fn pass_on(
         &mut self,
         alloc: Global,
@@ -160,8 +161,8 @@ impl Schedule {
         self.deliver_to(alloc, (offer, 1), group, &[to], Receiver::Client(1))
     }
 
-    /// A record reaches those that are behind, and by one of them another; all their acknowledgements reach the writer,
-    /// the last of them of a membership epoch that it doesn't know.
+    /// Delivers a record to the members that are behind, and through one of them to another. All their acknowledgements
+    /// reach the writer, the last one with a membership epoch that it doesn't know.
     fn arrive_late(
         &mut self,
         alloc: Global,
@@ -178,7 +179,7 @@ impl Schedule {
         self.take_all(1, early.as_slice())
     }
 
-    /// The fences of a recovery are sent to members that the late record hasn't reached, and to all of another group.
+    /// Sends the Fences of a recovery to members that the late record hasn't reached, and to all of another group.
     fn fence_without(
         &mut self,
         task: &mut Task,
@@ -201,7 +202,7 @@ impl Schedule {
         Ok(())
     }
 
-    /// A recovery reads members that the late record hasn't reached, and any others of another group.
+    /// Lets a recovery read members that the late record hasn't reached, and any members of another group.
     fn recover_without(&mut self, alloc: Global, parties: &Parties) -> Result<(), AllocError> {
         let line = self.written.put("assign")?;
         self.clients = self.clients.saturating_add(1);
@@ -213,7 +214,7 @@ impl Schedule {
         self.keep(task)
     }
 
-    /// Begins a script by such a write, where the plan has a step.
+    /// Begins a script with such a write, if the plan has a step.
     pub fn straggle(&mut self, alloc: Global) -> Result<(), AllocError> {
         let group = u8::from(self.joined == 2 && self.rng.chance(50));
         let Some(parties) = self.parties(alloc, group)? else {

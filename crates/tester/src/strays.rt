@@ -6,23 +6,21 @@ use crate::written::{Delivery, Receiver};
 use std::alloc::{AllocError, Global};
 
 impl Schedule {
-    /// Returns a group by chance.
     fn any_group(&mut self) -> u8 {
         u8::from(self.plan.groups == 2 && self.rng.chance(50))
     }
 
-    /// Returns a member of a group by chance.
     fn any_member(&mut self, group: u8) -> u8 {
         let members = self.members(group);
         self.rng.one_of(members).unwrap_or(0)
     }
 
-    /// Returns the number of a record that there may be.
+    /// Returns a random LSN.
     fn any_record(&mut self) -> usize {
         self.rng.from(1, 24)
     }
 
-    /// Returns a line that belongs to no task.
+    /// Writes a line that belongs to no task.
     pub fn stray(&mut self, alloc: Global) -> Result<(), AllocError> {
         match self.rng.below(20) {
             0..=9 => self.repeat(),
@@ -36,7 +34,7 @@ impl Schedule {
         }
     }
 
-    /// A message is delivered or taken once more.
+    /// Delivers a message, or lets a client take it, once more.
     fn repeat(&mut self) -> Result<(), AllocError> {
         let Some(message) = self.any_message() else {
             return Ok(());
@@ -60,7 +58,6 @@ impl Schedule {
         Ok(())
     }
 
-    /// A node starts again.
     fn restart(&mut self) -> Result<(), AllocError> {
         let group = self.any_group();
         let member = self.any_member(group);
@@ -68,7 +65,7 @@ impl Schedule {
         Ok(())
     }
 
-    /// A node offers a record to its peers.
+    /// Lets a node offer a record to its peers.
     fn offer(&mut self) -> Result<(), AllocError> {
         let group = self.any_group();
         let member = self.any_member(group);
@@ -78,7 +75,7 @@ impl Schedule {
         self.written.note(line, 1, Receiver::Nodes(group))
     }
 
-    /// A writer sends a record again, to all members of a group.
+    /// Lets a writer send a record again, to all members of a group.
     fn resend(&mut self, alloc: Global) -> Result<(), AllocError> {
         let client = self.writer();
         let group = self.any_group();
@@ -92,7 +89,7 @@ impl Schedule {
         self.keep(task)
     }
 
-    /// A writer asks for a block.
+    /// Lets a writer request a block.
     fn read(&mut self) -> Result<(), AllocError> {
         let client = self.writer();
         let group = self.any_group();
@@ -109,7 +106,7 @@ impl Schedule {
         self.keep(Task::new(alloc, Stage::Learn(line), client))
     }
 
-    /// Returns a line that is wrong on purpose.
+    /// Writes a line that is wrong on purpose.
     fn mistake(&mut self) -> Result<(), AllocError> {
         let client = self.writer();
         let line: &str = match self.rng.below(8) {

@@ -1,9 +1,9 @@
-//! What several lines of a script do together.
+//! Tasks: several lines of a script that belong together.
 
 use crate::written::Delivery;
 use std::alloc::Global;
 
-/// What a task does once its messages are delivered and their answers taken.
+/// What a task does after its messages are delivered and their answers taken.
 #[derive(Clone, Copy)]
 pub enum Stage {
     /// A recovery takes the View that this line made.
@@ -12,25 +12,25 @@ pub enum Stage {
     Cut,
     /// A recovery opens.
     Open,
-    /// A fresh member asks for copies.
+    /// A new member requests copies.
     Ask,
-    /// The copies are sent to it.
+    /// The copies are sent to the new member.
     Send,
-    /// It becomes whole from them.
+    /// The new member becomes whole.
     Hydrate,
-    /// Sends the newest client a View of the places.
+    /// The newest client is sent a View of the places.
     Refresh,
-    /// It takes the View that this line made.
+    /// The newest client takes the View that this line made.
     Learn(u64),
-    /// Sends the newest client a View with a group that has joined.
+    /// The newest client is sent a View with a group that has joined.
     Tell,
-    /// It takes the View that this line made, and what it makes of it is sent to the group.
+    /// The newest client takes the View that this line made, and its messages are sent to the group.
     Join(u64),
-    /// Nothing is left to do.
+    /// The task is done.
     Finished,
 }
 
-/// What a node has answered.
+/// The answer of a node.
 #[derive(Clone, Copy)]
 pub struct Answered {
     pub line: u64,
@@ -38,17 +38,17 @@ pub struct Answered {
     pub member: u8,
 }
 
-/// Lines that are written one after the other, those of other tasks between them.
+/// Lines that are written in order, with lines of other tasks between them.
 #[derive(Drop)]
 pub struct Task {
     pub stage: Stage,
-    /// Who takes the answers.
+    /// The client that takes the answers.
     pub client: u32,
-    /// The group of a step.
+    /// The group of a membership step.
     pub group: u8,
-    /// Messages that are to be delivered.
+    /// The messages to deliver.
     pub deliveries: Vec<Delivery>,
-    /// Answers that are to be taken.
+    /// The answers to take.
     pub answers: Vec<Answered>,
 }
 
@@ -64,7 +64,7 @@ impl Task {
         }
     }
 
-    /// Returns whether nothing is left to do.
+    /// Returns whether the task is done.
     pub fn is_done(&self) -> bool {
         matches!(self.stage, Stage::Finished)
             && self.deliveries.is_empty()
@@ -76,7 +76,7 @@ impl Task {
         !matches!(self.stage, Stage::Ask | Stage::Send | Stage::Hydrate)
     }
 
-    /// Forgets the earlier answers of a node, which its next one covers.
+    /// Drops the earlier answers of a node, since its next one includes them.
     pub fn forget(&mut self, group: u8, member: u8) {
         self.answers
             .retain(|a| a.group != group || a.member != member);

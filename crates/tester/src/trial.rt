@@ -1,4 +1,4 @@
-//! One run of a seed: a plan, a script, and what is said of them.
+//! A run of a seed: its plan, its script, and the check of its output.
 
 use crate::broken::Broken;
 use crate::fleets::{check_alike, check_fleet};
@@ -21,20 +21,20 @@ pub struct Trial {
     pub script: Written,
 }
 
-/// What many runs have shown.
+/// What was checked in all runs.
 #[derive(Clone, Copy)]
 pub struct Counts {
     pub runs: u64,
-    /// Events that weren't refused.
+    /// The number of events that weren't refused.
     pub events: u64,
-    /// Transactions that are acknowledged: at or below their writer's durable point.
+    /// The number of acknowledged transactions: those up to their writer's durable point.
     pub acknowledged: u64,
-    /// Pairs of a writer and a later recovery that were compared.
+    /// The number of pairs of a writer and a later recovery that were compared.
     pub finds: u64,
 }
 
 impl Counts {
-    /// Nothing was run yet.
+    /// Makes zero counts.
     pub fn new() -> Counts {
         Counts {
             runs: 0,
@@ -67,12 +67,12 @@ impl Trial {
         })
     }
 
-    /// Returns how many events a fleet counts.
+    /// Returns the number of events in the output of a fleet.
     fn events(&self) -> u64 {
         self.script.lines.saturating_sub(self.script.waits)
     }
 
-    /// Returns what a job says of the plan and the script.
+    /// Returns the output of a job over the plan and the script.
     fn output<H: Threads + Wait + Sync>(
         &self,
         rt: &H,
@@ -83,7 +83,7 @@ impl Trial {
         say(rt, alloc, job, plan, self.script.text.as_str())
     }
 
-    /// Runs the script on threads by this many drivers, and judges what it prints.
+    /// Runs the script on threads with this many drivers, and checks the output.
     fn try_fleet<H: Threads + Wait + Sync>(
         &self,
         rt: &H,
@@ -100,7 +100,7 @@ impl Trial {
         }
     }
 
-    /// Runs the script, judges what it prints, and counts it; on several drivers too where that is wanted.
+    /// Runs the script, checks the output, and counts it; also on several drivers, if asked to.
     pub fn try_all<H: Threads + Wait + Sync>(
         &self,
         rt: &H,

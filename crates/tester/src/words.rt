@@ -1,6 +1,6 @@
-//! What the words of the command line ask for.
+//! The words of the command line.
 
-/// What the program is to do once it has tried the books that the words name.
+/// What to do after the books that the words name.
 #[derive(Clone, Copy)]
 pub enum Wish {
     /// Nothing else.
@@ -16,7 +16,7 @@ pub fn is_book(word: &str) -> bool {
     word.ends_with(".book")
 }
 
-/// What these words ask for beside books, behind the program's own name.
+/// Returns what these words ask for besides books. The first word is the program's own name.
 pub fn asked_by(words: &[String]) -> Option<Wish> {
     let mut others = words.iter().skip(1).filter(|word| !is_book(word.as_str()));
     match (others.next(), others.next(), others.next()) {
@@ -36,7 +36,6 @@ pub fn asked_by(words: &[String]) -> Option<Wish> {
     }
 }
 
-/// Returns a number in decimal.
 fn number(word: &String) -> Option<u64> {
     word.as_str().parse::<u64>().ok()
 }

@@ -1,8 +1,8 @@
-//! The text of a script as it grows, and what may be named in it.
+//! The text of a script under construction, and the messages that it may name.
 
 use std::alloc::{AllocError, Global};
 
-/// Who takes a message.
+/// The receiver of a message.
 #[derive(Clone, Copy)]
 pub enum Receiver {
     /// The nodes of a group.
@@ -15,12 +15,12 @@ pub enum Receiver {
 #[derive(Clone, Copy)]
 pub struct Message {
     pub line: u64,
-    /// Which of the line's messages it is, from 1.
+    /// The place of the message among the line's, from 1.
     pub place: u64,
     pub to: Receiver,
 }
 
-/// A message that a node is to take.
+/// A message to deliver to a node.
 #[derive(Clone, Copy)]
 pub struct Delivery {
     pub line: u64,
@@ -29,7 +29,7 @@ pub struct Delivery {
     pub member: u8,
 }
 
-/// A line that asks for a transaction.
+/// A line that issues a transaction.
 #[derive(Clone, Copy)]
 pub struct Issue {
     pub line: u64,
@@ -37,13 +37,13 @@ pub struct Issue {
     pub changes: u64,
 }
 
-/// A script, and what its lines may have made.
+/// A script, and the messages that its lines may have made.
 #[derive(Drop)]
 pub struct Written {
     pub text: String,
-    /// How many lines it has.
+    /// The number of lines.
     pub lines: u64,
-    /// How many of them are a `wait`.
+    /// The number of `wait` lines.
     pub waits: u64,
     pub issues: Vec<Issue>,
     pub messages: Vec<Message>,
@@ -61,20 +61,20 @@ impl Written {
         }
     }
 
-    /// Ends the line that the text ends with, and gives its number.
+    /// Ends the last line of the text. Returns its number.
     pub fn end(&mut self) -> Result<u64, AllocError> {
         self.text.push('\n')?;
         self.lines = self.lines.saturating_add(1);
         Ok(self.lines)
     }
 
-    /// Adds a line, and gives its number.
+    /// Adds a line. Returns its number.
     pub fn put(&mut self, line: &str) -> Result<u64, AllocError> {
         self.text.push_str(line)?;
         self.end()
     }
 
-    /// Notes a message.
+    /// Notes a message that a line may have made.
     pub fn note(&mut self, line: u64, place: u64, to: Receiver) -> Result<(), AllocError> {
         self.messages.push(Message { line, place, to })?;
         Ok(())
@@ -92,7 +92,7 @@ impl Written {
         Ok(())
     }
 
-    /// Delivers a message to a node; whom its answer is for is given.
+    /// Delivers a message to a node, and notes its answer for this receiver.
     pub fn deliver(&mut self, delivery: Delivery, answer: Receiver) -> Result<u64, AllocError> {
         let Delivery {
             line,
@@ -106,25 +106,25 @@ impl Written {
         Ok(number)
     }
 
-    /// A client takes a message.
+    /// Lets a client take a message.
     pub fn take(&mut self, client: u32, line: u64, place: u64) -> Result<u64, AllocError> {
         write!(self.text, "take {client} {line}.{place}")?;
         self.end()
     }
 
-    /// Returns a line of a word and a client.
+    /// Adds a line with a word and a client.
     pub fn of_client(&mut self, word: &str, client: u32) -> Result<u64, AllocError> {
         write!(self.text, "{word} {client}")?;
         self.end()
     }
 
-    /// Returns a line of a word, a group and a member.
+    /// Adds a line with a word, a group and a member.
     pub fn of_node(&mut self, word: &str, group: u8, member: u8) -> Result<u64, AllocError> {
         write!(self.text, "{word} {group} {member}")?;
         self.end()
     }
 
-    /// Returns a line that does nothing.
+    /// Adds a `wait` line.
     pub fn wait(&mut self) -> Result<(), AllocError> {
         self.put("wait")?;
         self.waits = self.waits.saturating_add(1);

@@ -1,16 +1,16 @@
-//! Books, line by line.
+//! Books (case files), line by line.
 //!
-//! A line begins with a mark and a space. Of a case `=` is the title, `-` a text of the plan and `+` what is to stand in its
-//! place, wherever it stands, `>` a line of the script, and `~` an end of the script, each of which is tried. Of a question `$`
-//! is the words of a job, `?` the exit status, 0 where there is none, `<` a line that is to be printed, `!` one that is to be
-//! written to standard error, and `%` what a check prints of the plan that is printed. An empty line and one that begins with
-//! `#` say nothing.
+//! A line begins with a mark and a space. In a case, `=` is the title; `-` a part of the plan's text, and `+` what
+//! replaces it wherever it occurs; `>` a line of the script, and `~` a last line of the script, each of which is tried.
+//! In a question, `$` has the words of a job; `?` the exit status, 0 by default; `<` a line of standard output; `!` one
+//! of standard error; and `%` the output of a check of the plan that is printed. Empty lines and those that begin with
+//! `#` are ignored.
 
 use crate::books::case::{Case, Edit, Question};
 use crate::books::wrong::Wrong;
 use std::alloc::{AllocError, Global};
 
-/// What a line says of a question's answer.
+/// A part of the expected answer.
 #[derive(Clone, Copy)]
 enum Answer<'b> {
     Status(u8),
@@ -19,7 +19,7 @@ enum Answer<'b> {
     Checked(&'b str),
 }
 
-/// What a line of a book says.
+/// A line of a book.
 #[derive(Clone, Copy)]
 enum Line<'b> {
     Nothing,
@@ -32,7 +32,7 @@ enum Line<'b> {
     Answer(Answer<'b>),
 }
 
-/// Returns what a line says, `None` if it isn't one of a book.
+/// Reads a line, `None` if it isn't one of a book.
 fn line_of(text: &str) -> Option<Line<'_>> {
     if text.is_empty() || text.starts_with('#') {
         return Some(Line::Nothing);
@@ -53,13 +53,12 @@ fn line_of(text: &str) -> Option<Line<'_>> {
     }
 }
 
-/// Adds a line to a text.
 fn add_line(text: &mut String, line: &str) -> Result<(), AllocError> {
     text.push_str(line)?;
     text.push('\n')
 }
 
-/// Takes up a job: of the last question where that has no answer yet, else of a new one.
+/// Adds a job to the last question if that has no answer yet, else to a new one.
 fn ask<'b>(
     alloc: Global,
     questions: &mut Vec<Question<'b>>,
@@ -77,7 +76,7 @@ fn ask<'b>(
     Ok(())
 }
 
-/// Takes up what a line says of a question's answer.
+/// Adds a part of the expected answer to a question.
 fn note<'b>(question: &mut Question<'b>, answer: Answer<'b>) -> Result<(), AllocError> {
     question.is_answered = true;
     match answer {
@@ -89,7 +88,7 @@ fn note<'b>(question: &mut Question<'b>, answer: Answer<'b>) -> Result<(), Alloc
     Ok(())
 }
 
-/// Takes up what a line says of a case. Returns false if it can't stand there.
+/// Adds a line to a case. Returns false if it can't come there.
 fn take<'b>(alloc: Global, case: &mut Case<'b>, line: Line<'b>) -> Result<bool, AllocError> {
     match line {
         Line::Nothing | Line::Title(_) => {}
@@ -109,7 +108,7 @@ fn take<'b>(alloc: Global, case: &mut Case<'b>, line: Line<'b>) -> Result<bool, 
     Ok(true)
 }
 
-/// Takes up a line of a book behind these cases. Returns false if it can't stand there.
+/// Adds a line of a book after these cases. Returns false if it can't come there.
 fn add<'b>(alloc: Global, cases: &mut Vec<Case<'b>>, text: &'b str) -> Result<bool, AllocError> {
     match line_of(text) {
         None => Ok(false),
@@ -128,7 +127,7 @@ fn add<'b>(alloc: Global, cases: &mut Vec<Case<'b>>, text: &'b str) -> Result<bo
 /// Returns the cases of a book, in order.
 ///
 /// # Errors
-/// The number of the first line that isn't one of a book, or running out of memory.
+/// The number of the first line that isn't one of a book, or that memory ran out.
 pub fn cases(alloc: Global, book: &str) -> Result<Vec<Case<'_>>, Wrong> {
     let mut cases = Vec::new(alloc);
     for (index, line) in book.lines().enumerate() {

@@ -2,7 +2,7 @@
 
 use std::alloc::{AllocError, Global};
 
-/// A text of the plan, and what stands in its place.
+/// A part of the plan's text, and what replaces it.
 #[derive(Drop)]
 pub struct Edit<'b> {
     pub old: &'b str,
@@ -14,15 +14,15 @@ pub struct Edit<'b> {
 pub struct Question<'b> {
     /// The words of each job, without the program's name.
     pub commands: Vec<&'b str>,
-    /// Whether something of the answer is known.
+    /// Whether a part of the expected answer is known.
     pub is_answered: bool,
     /// The expected exit status.
     pub status: u8,
-    /// What is to be printed; where `checked` is known that is asked of a check of what is printed.
+    /// The expected standard output. If `checked` is known, it is that of a check of the plan that is printed.
     pub printed: String,
-    /// What is to be written to standard error.
+    /// The expected standard error.
     pub reported: String,
-    /// What a check says of the plan that is printed, which is the same for all jobs.
+    /// The expected output of a check of the plan that is printed, the same for all jobs.
     pub checked: Option<&'b str>,
 }
 
@@ -43,19 +43,19 @@ impl<'b> Question<'b> {
 /// Questions over a plan and a script.
 #[derive(Drop)]
 pub struct Case<'b> {
-    /// What it is about.
+    /// The title.
     pub title: &'b str,
-    /// What is put into the plan of a job's file.
+    /// The edits of the plan of a job's file.
     pub edits: Vec<Edit<'b>>,
     /// The script.
     pub script: String,
-    /// The ends of scripts that each begin with the script; none where there is the script alone.
+    /// The last lines of the script, each of which is tried; none if there is only the script.
     pub ends: Vec<&'b str>,
     pub questions: Vec<Question<'b>>,
 }
 
 impl<'b> Case<'b> {
-    /// Returns a case of which only the title is known.
+    /// Makes a case with a title only.
     pub fn new(alloc: Global, title: &'b str) -> Case<'b> {
         Case {
             title,
@@ -66,7 +66,7 @@ impl<'b> Case<'b> {
         }
     }
 
-    /// What its script ends with: each of these, or nothing.
+    /// Returns the last lines of the script to try, or one empty line.
     pub fn ends(&self) -> &[&'b str] {
         if self.ends.is_empty() {
             &[""]
@@ -75,7 +75,7 @@ impl<'b> Case<'b> {
         }
     }
 
-    /// Returns the text of a plan with this case's edits, `None` if one of them finds no place.
+    /// Returns a plan's text with the edits of this case, `None` if a part to replace doesn't occur.
     pub fn edited(&self, alloc: Global, plan: &str) -> Result<Option<String>, AllocError> {
         let mut text = String::from_str(alloc, plan)?;
         for edit in &self.edits {

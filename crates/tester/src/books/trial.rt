@@ -1,4 +1,4 @@
-//! Cases that are tried.
+//! Tries cases.
 
 use crate::books::case::{Case, Question};
 use crate::books::wrong::Wrong;
@@ -73,7 +73,7 @@ fn plan_of(rt: &HostRuntime, case: &Case<'_>, name: &str) -> Result<PlanText, Wr
     }
 }
 
-/// Returns the words of a command, behind the program's name.
+/// Returns the words of a command, after the program's name.
 fn words_of(alloc: Global, command: &str) -> Result<Vec<&str>, AllocError> {
     let mut words = vec![in alloc; "plan_tool"]?;
     for word in command.split(' ') {
@@ -82,7 +82,7 @@ fn words_of(alloc: Global, command: &str) -> Result<Vec<&str>, AllocError> {
     Ok(words)
 }
 
-/// Tries a job of a question with each end of the case's script; what it prints at the last.
+/// Tries a job of a question with each last line of the case's script. Returns its last output.
 fn try_ends<H: Threads + Wait + Sync>(
     threads: &H,
     alloc: Global,
@@ -103,7 +103,7 @@ fn try_ends<H: Threads + Wait + Sync>(
     Ok(printed)
 }
 
-/// Tries a command of a question; what it prints at the last.
+/// Tries a command of a question. Returns its last output.
 fn try_command<H: Threads + Wait + Sync>(
     rt: &HostRuntime,
     threads: &H,
@@ -120,7 +120,7 @@ fn try_command<H: Threads + Wait + Sync>(
     try_ends(threads, alloc, case, question, &job, &plan)
 }
 
-/// Tries each command of a question, all of which print the same.
+/// Tries each command of a question. All of them must print the same.
 fn try_question<H: Threads + Wait + Sync>(
     rt: &HostRuntime,
     threads: &H,
@@ -142,7 +142,7 @@ fn try_question<H: Threads + Wait + Sync>(
 /// Tries each question of a case.
 ///
 /// # Errors
-/// Returns the first answer that isn't the expected one, or what is wrong with the case.
+/// The first answer that isn't the expected one, or what is wrong with the case.
 pub fn try_case<H: Threads + Wait + Sync>(
     rt: &HostRuntime,
     threads: &H,

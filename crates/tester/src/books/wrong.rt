@@ -4,7 +4,7 @@ use std::alloc::AllocError;
 use std::fmt;
 use thiserror::Error;
 
-/// Why a book's cases can't be tried, or are answered otherwise.
+/// Why a book's cases can't be tried, or which answer is wrong.
 #[derive(Drop, Error)]
 pub enum Wrong {
     #[error("memory ran out")]

@@ -1,4 +1,8 @@
+use Rattle.std.proofs.Common.{◌≡◌}
 use Rattle.commands.proofs.performing.perform.Goals as goal
 
-pub returns-in-Explain-clause-yes : goal.returns-in-Explain-clause-yes
-returns-in-Explain-clause-yes g c = λ other has zero. c.perform_explain.ensures.yes (has c.in-Explain.is) zero
+pub returns-in-None-clause-yes : goal.returns-in-None-clause-yes
+returns-in-None-clause-yes g c = λ other has zero. c.perform_explain.ensures.yes ((has c.in-Explain.is).1) zero
+
+pub returns-in-Some-clause-yes : goal.returns-in-Some-clause-yes
+returns-in-Some-clause-yes g c = λ other has zero. let none = (has c.in-Explain.is).0 in absurd cc

@@ -1,0 +1,141 @@
+//! A script's run in words or as JSON: `explain PLAN SCRIPT`.
+
+ghost use Rattle.std.specs.Prelude.{IfOk};
+ghost use Rattle.commands.specs.Reports.{IsQuiet};
+ghost use Rattle.commands.specs.Streams.{FailsByRead};
+
+use crate::fallible::FallibleRead;
+use crate::files::Source;
+use crate::inputs::{checked, contents};
+use crate::leaking::leak;
+use crate::reply::{Report, Stop};
+use crate::reporting::status_of;
+use crate::run_json::{refusal_report, run_report};
+use crate::run_state::run_facts;
+use crate::run_tables::run_words;
+use crate::run_text::end_lines;
+use drivers::{Script, ScriptFault, read_script};
+use explain::bad_line;
+use plan::{CheckedPlan, PlanFault};
+use std::alloc::Global;
+use std::sync::Arc;
+use world::run_orders;
+
+/// Returns the report of a script's run over a plan.
+fn told_run(
+    alloc: Global,
+    json: bool,
+    plan: Arc<CheckedPlan>,
+    script: Script,
+) -> Result<Report, Stop<'static>>
+    ensures quiet { IfOk result IsQuiet }
+{
+    let Script { steps, orders } = script;
+    let Ok(outcome) = run_orders(alloc, &plan, orders) else {
+        return Err(Stop::NoMemory);
+    };
+    leak(plan);
+    let ends = end_lines(alloc, &outcome)?;
+    let facts = run_facts(alloc, steps.as_slice(), outcome)?;
+    let value = if json {
+        run_report(alloc, facts, ends.status)?
+    } else {
+        let mut words = run_words(alloc, &facts)?;
+        words.push_str(ends.text.as_str())?;
+        words
+    };
+    Ok(Report {
+        status: ends.status,
+        value,
+        line: String::new(alloc),
+    })
+}
+
+/// Returns the report of a script whose line `number` is the first bad one.
+fn told_line(alloc: Global, json: bool, text: &[u8], number: usize) -> Result<Report, Stop<'static>>
+    ensures quiet { IfOk result IsQuiet }
+{
+    let mut lines = match bad_line(alloc, text, number)? {
+        Some(lines) => lines,
+        None => String::new(alloc),
+    };
+    let verdict = format!(in alloc; "input: line {number}\n")?;
+    let value = if json {
+        refusal_report(alloc, 2, verdict.as_str(), Some(lines.as_str().trim_end()))?
+    } else {
+        String::new(alloc)
+    };
+    if json {
+        lines = String::new(alloc);
+    }
+    lines.push_str(verdict.as_str())?;
+    Ok(Report {
+        status: 2,
+        value,
+        line: lines,
+    })
+}
+
+/// Returns the report of a plan's fault, as JSON.
+fn told_fault(alloc: Global, fault: PlanFault) -> Result<Report, Stop<'static>>
+    ensures quiet { IfOk result IsQuiet }
+{
+    let status = status_of(&fault);
+    let line = format!(in alloc; "{fault}\n")?;
+    let value = refusal_report(alloc, status, line.as_str(), None)?;
+    let shown = if status < 2 { String::new(alloc) } else { line };
+    Ok(Report {
+        status,
+        value,
+        line: shown,
+    })
+}
+
+/// Returns the report of a plan that can't be used, as JSON if the plan has a fault.
+fn told_stop<'a>(alloc: Global, stop: Stop<'a>) -> Result<Report, Stop<'a>>
+    ensures quiet { IfOk result IsQuiet }
+{
+    match stop {
+        Stop::Plan(fault) => told_fault(alloc, fault),
+        other => Err(other),
+    }
+}
+
+/// Returns the report of a script's text over a plan.
+fn told_script(
+    alloc: Global,
+    json: bool,
+    plan: CheckedPlan,
+    text: &[u8],
+) -> Result<Report, Stop<'static>>
+    ensures quiet { IfOk result IsQuiet }
+{
+    let plan = Arc::new(alloc, plan)?;
+    match read_script(alloc, text) {
+        Ok(script) => told_run(alloc, json, plan, script),
+        Err(ScriptFault::Line(number)) => told_line(alloc, json, text, number),
+        Err(ScriptFault::NoMemory) => Err(Stop::NoMemory),
+    }
+}
+
+/// Returns the answer of `explain PLAN SCRIPT`, where the files are printed with these names.
+pub fn explain_script<'a, P: FallibleRead, S: FallibleRead>(
+    alloc: Global,
+    json: bool,
+    names: (&'a str, &'a str),
+    plan: &mut Source<P>,
+    script: &mut Source<S>,
+) -> Result<Report, Stop<'a>>
+    ensures quiet { IfOk result IsQuiet }
+    ensures plan_read { FailsByRead P.answers plan.old plan.new }
+    ensures script_read { FailsByRead S.answers script.old script.new }
+{
+    match checked(alloc, names.0, plan) {
+        Ok(plan) => {
+            let text = contents(alloc, names.1, script)?;
+            told_script(alloc, json, plan, text.as_slice())
+        }
+        Err(stop) if json => told_stop(alloc, stop),
+        Err(stop) => Err(stop),
+    }
+}

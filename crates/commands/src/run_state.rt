@@ -1,0 +1,212 @@
+//! What is known of a script's run: the refused lines, and the nodes and clients at its end.
+
+ghost use Rattle.std.specs.Prelude.{◌≡◌, IfOk};
+ghost use Rattle.world.specs.Actors.{plan_of, world_of, AreActors};
+ghost use Rattle.world.specs.NodeStates.{nodes_in};
+
+use drivers::Step;
+use serde::Serialize;
+use std::alloc::{AllocError, Global};
+use volume_model::Fault;
+use world::{NodeState, Outcome, RecoveryOutcome, WriterOutcome};
+
+/// A line whose event was refused.
+#[derive(Clone, Copy, Debug, PartialEq, Eq)]
+pub struct RefusalFacts {
+    /// The line's number, from 1.
+    pub line: u32,
+    /// The refusal.
+    pub fault: Fault,
+}
+
+/// How far a client has come.
+#[derive(Clone, Copy, Debug, PartialEq, Eq, Serialize)]
+#[serde(rename_all = "snake_case")]
+pub enum ClientStage {
+    /// It is a recovery that hasn't cut.
+    Recovering,
+    /// It is a recovery that has cut.
+    Cut,
+    /// It is a writer.
+    Writer,
+}
+
+/// A client at the end of a run.
+#[derive(Clone, Copy, Debug, PartialEq, Eq, Serialize)]
+pub struct ClientFacts {
+    /// Its volume epoch.
+    pub volume_epoch: u32,
+    /// How far it has come.
+    pub stage: ClientStage,
+    /// The durable point of a writer.
+    pub durable_point: Option<u64>,
+    /// The LSN of a writer's next record.
+    pub next_lsn: Option<u64>,
+    /// The LSN up to which a recovery has found the log.
+    pub cut: Option<u64>,
+    /// The LSN after which a recovery's own records begin.
+    pub start: Option<u64>,
+}
+
+/// What is known of a script's run.
+#[derive(Drop)]
+pub struct RunFacts {
+    /// The lines whose events were refused, in order.
+    pub refused: Vec<RefusalFacts>,
+    /// The nodes that the plan names, by group and member.
+    pub nodes: Vec<NodeState>,
+    /// The clients that a View has reached, in growing volume epoch.
+    pub clients: Vec<ClientFacts>,
+}
+
+/// Returns the lines whose events were refused.
+fn refusals(
+    alloc: Global,
+    steps: &[Step],
+    results: &[Result<u32, Fault>],
+) -> Result<Vec<RefusalFacts>, AllocError> {
+    let mut refused = Vec::new(alloc);
+    let mut left = results;
+    for step in steps {
+        if step.has_event {
+            if let Some((first, later)) = left.split_first() {
+                if let Err(fault) = first {
+                    refused.push(RefusalFacts {
+                        line: step.line,
+                        fault: *fault,
+                    })?;
+                }
+                left = later;
+            }
+        }
+    }
+    Ok(refused)
+}
+
+/// Returns the facts of a client that has no more than a volume epoch.
+fn recovering(volume_epoch: u32) -> ClientFacts {
+    ClientFacts {
+        volume_epoch,
+        stage: ClientStage::Recovering,
+        durable_point: None,
+        next_lsn: None,
+        cut: None,
+        start: None,
+    }
+}
+
+/// Returns these facts of a recovery that has cut.
+fn with_cut(facts: ClientFacts, find: &RecoveryOutcome) -> ClientFacts {
+    ClientFacts {
+        stage: ClientStage::Cut,
+        cut: Some(find.found.cut),
+        start: Some(find.found.lineage.last_start()),
+        ..facts
+    }
+}
+
+/// Returns these facts of an opened writer.
+fn with_log(facts: ClientFacts, writer: &WriterOutcome) -> ClientFacts {
+    let last = writer.log.last_lsn().max(writer.start);
+    ClientFacts {
+        stage: ClientStage::Writer,
+        durable_point: Some(writer.durable),
+        next_lsn: Some(last.saturating_add(1)),
+        ..facts
+    }
+}
+
+/// The clients of a run that aren't listed yet, each list in growing volume epoch.
+#[derive(Clone, Copy)]
+struct ClientLists<'a> {
+    writers: &'a [WriterOutcome],
+    finds: &'a [RecoveryOutcome],
+    readers: &'a [u32],
+}
+
+impl ClientLists<'_> {
+    /// Returns the least volume epoch in the lists.
+    fn least_volume(&self) -> Option<u32> {
+        let mut least = None;
+        if let Some(writer) = self.writers.first() {
+            least = Some(writer.volume);
+        }
+        if let Some(find) = self.finds.first() {
+            least = Some(least_of(least, find.volume));
+        }
+        if let Some(volume) = self.readers.first() {
+            least = Some(least_of(least, *volume));
+        }
+        least
+    }
+
+    /// Takes the client with a volume epoch from the lists.
+    fn take_client(&mut self, volume: u32) -> ClientFacts {
+        let mut facts = recovering(volume);
+        if let Some((find, later)) = self.finds.split_first() {
+            if find.volume == volume {
+                facts = with_cut(facts, find);
+                self.finds = later;
+            }
+        }
+        if let Some((writer, later)) = self.writers.split_first() {
+            if writer.volume == volume {
+                facts = with_log(facts, writer);
+                self.writers = later;
+            }
+        }
+        if let Some((reader, later)) = self.readers.split_first() {
+            if *reader == volume {
+                self.readers = later;
+            }
+        }
+        facts
+    }
+}
+
+/// Returns the lesser of two volume epochs, of which the first may be missing.
+fn least_of(first: Option<u32>, second: u32) -> u32 {
+    match first {
+        Some(first) => first.min(second),
+        None => second,
+    }
+}
+
+/// Returns the clients of a run that a View has reached.
+fn clients_of(alloc: Global, outcome: &Outcome) -> Result<Vec<ClientFacts>, AllocError> {
+    let readers = outcome.readers(alloc)?;
+    let mut lists = ClientLists {
+        writers: outcome.writers.as_slice(),
+        finds: outcome.finds.as_slice(),
+        readers: readers.as_slice(),
+    };
+    let most = lists.writers.len().saturating_add(lists.finds.len());
+    let most = most.saturating_add(lists.readers.len());
+    let mut clients = Vec::new(alloc);
+    for _ in 0..most {
+        let Some(volume) = lists.least_volume() else {
+            return Ok(clients);
+        };
+        clients.push(lists.take_client(volume))?;
+    }
+    Ok(clients)
+}
+
+/// Returns what is known of a run, whose script has these steps.
+///
+/// # Errors
+/// Memory ran out.
+pub fn run_facts(alloc: Global, steps: &[Step], outcome: Outcome) -> Result<RunFacts, AllocError>
+    requires { AreActors outcome.actors }
+    ensures nodes { IfOk result (λ facts. facts.nodes.items ≡ nodes_in (plan_of outcome.actors)
+        (world_of outcome.actors)) }
+{
+    let refused = refusals(alloc, steps, outcome.results.as_slice())?;
+    let clients = clients_of(alloc, &outcome)?;
+    let nodes = outcome.into_nodes(alloc)?;
+    Ok(RunFacts {
+        refused,
+        nodes,
+        clients,
+    })
+}

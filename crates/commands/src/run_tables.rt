@@ -1,0 +1,112 @@
+//! A script's run in words.
+
+use crate::run_state::{ClientFacts, ClientStage, RefusalFacts, RunFacts};
+use explain::{FAULTS, Page, add_meaning, fault_words};
+use std::alloc::{AllocError, Global};
+use volume_model::Fault;
+use world::NodeState;
+
+/// How many refused lines are printed in full.
+const SHOWN: usize = 100;
+
+/// The heading of the table of nodes.
+const NODES: &str = "nodes\n  group  member  volume epoch  membership epoch  whole  \
+    complete point  records\n";
+
+/// The heading of the table of clients.
+const CLIENTS: &str = "clients\n  volume epoch  state         durable point         next LSN\
+    \u{20}             cut            start\n";
+
+/// Appends a refused line, and what the refusal means.
+fn add_refusal(alloc: Global, page: &mut Page, refusal: &RefusalFacts) -> Result<(), AllocError> {
+    let (line, fault) = (refusal.line, refusal.fault);
+    let text = format!(in alloc; "line {line} refused {fault}")?;
+    page.add(0, text.as_str())?;
+    match fault_words(fault.number()) {
+        Some(entry) => add_meaning(alloc, page, entry),
+        None => Ok(()),
+    }
+}
+
+/// Returns how many of these refusals are for this reason.
+fn count_of(refused: &[RefusalFacts], fault: Fault) -> usize {
+    let mut count = 0usize;
+    for refusal in refused {
+        if refusal.fault == fault {
+            count = count.saturating_add(1);
+        }
+    }
+    count
+}
+
+/// Appends how many lines were refused for each reason.
+fn add_counts(alloc: Global, page: &mut Page, refused: &[RefusalFacts]) -> Result<(), AllocError> {
+    for entry in FAULTS {
+        let fault = entry.fault;
+        let count = count_of(refused, fault);
+        if count > 0 {
+            let text = format!(in alloc; "{count} more refused {fault}")?;
+            page.add(0, text.as_str())?;
+        }
+    }
+    Ok(())
+}
+
+/// Appends a node's row.
+fn add_node(text: &mut String, node: &NodeState) -> Result<(), AllocError> {
+    let (group, member) = (node.group, node.member);
+    let (volume, epoch) = (node.volume_epoch, node.membership_epoch);
+    write!(text, "  {group:>5}  {member:>6}  {volume:>12}  {epoch:>16}")?;
+    text.push_str(if node.is_whole { "    yes" } else { "     no" })?;
+    let (point, records) = (node.complete_point, node.records);
+    write!(text, "  {point:>14}  {records:>7}\n")
+}
+
+/// Appends a number, or a dash where there is none.
+fn add_number(text: &mut String, number: Option<u64>) -> Result<(), AllocError> {
+    match number {
+        Some(number) => write!(text, "  {number:>15}"),
+        None => text.push_str("                -"),
+    }
+}
+
+/// Appends a client's row.
+fn add_client(text: &mut String, client: &ClientFacts) -> Result<(), AllocError> {
+    let volume = client.volume_epoch;
+    write!(text, "  {volume:>12}")?;
+    text.push_str(match client.stage {
+        ClientStage::Recovering => "  recovering",
+        ClientStage::Cut => "  cut       ",
+        ClientStage::Writer => "  writer    ",
+    })?;
+    add_number(text, client.durable_point)?;
+    add_number(text, client.next_lsn)?;
+    add_number(text, client.cut)?;
+    add_number(text, client.start)?;
+    text.push_str("\n")
+}
+
+/// Returns a run in words: its refused lines, of the first 100 also why, how many more were refused for each reason,
+/// and a table of its nodes and of its clients.
+///
+/// # Errors
+/// Memory ran out.
+pub fn run_words(alloc: Global, facts: &RunFacts) -> Result<String, AllocError> {
+    let mut page = Page::new(alloc);
+    let refused = facts.refused.as_slice();
+    let (shown, others) = refused.split_at(refused.len().min(SHOWN));
+    for refusal in shown {
+        add_refusal(alloc, &mut page, refusal)?;
+    }
+    add_counts(alloc, &mut page, others)?;
+    let mut text = page.into_text();
+    text.push_str(NODES)?;
+    for node in &facts.nodes {
+        add_node(&mut text, node)?;
+    }
+    text.push_str(CLIENTS)?;
+    for client in &facts.clients {
+        add_client(&mut text, client)?;
+    }
+    Ok(text)
+}

@@ -1,5 +1,0 @@
-pub mod Witness
-pub mod Naming
-pub mod Cases
-pub mod Decision
-pub mod Tolerance
