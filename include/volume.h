@@ -30,7 +30,7 @@
 extern "C" {
 #endif
 
-/* A plan or an actor; all zeros where it is empty. */
+/* A plan, an actor or a snapshot; all zeros where it is empty. */
 struct volume_handle {
     void *at;
     bool live;
@@ -46,15 +46,15 @@ enum volume_status {
     VOLUME_BAD_COUNT = 10, /* A threshold that isn't 1 <= k <= n <= 64. */
     VOLUME_TOO_DEEP = 11, /* An expression of more than six levels. */
     VOLUME_NOT_A_MEMBER = 12, /* No member of the configuration. */
-    VOLUME_MALFORMED = 13, /* A text of another shape. */
-    VOLUME_NO_SUCH_ITEM = 20, /* No item of this number. */
-    VOLUME_NOT_DEAD = 21, /* The item can still hold. */
+    VOLUME_MALFORMED = 13, /* The text has another shape than it must. */
+    VOLUME_NO_SUCH_ITEM = 20, /* There is no item with this number. */
+    VOLUME_NOT_DEAD = 21, /* The item could still be satisfied. */
     VOLUME_NO_CLASH = 22, /* The items aren't the same member. */
-    VOLUME_NOT_ALL = 23, /* The item doesn't ask for all its children. */
-    VOLUME_TOO_FEW_PICKED = 24, /* The other children could be enough. */
-    VOLUME_BAD_PAIR = 25, /* A child that isn't there, or that is named twice. */
-    VOLUME_COUNT_TOO_SMALL = 26, /* The pairs are too few. */
-    VOLUME_BRANCH_COUNT = 27, /* Another number of branches than of children or pairs. */
+    VOLUME_NOT_ALL = 23, /* The item doesn't need all its children. */
+    VOLUME_TOO_FEW_PICKED = 24, /* The children that weren't picked could be enough. */
+    VOLUME_BAD_PAIR = 25, /* A child doesn't exist, or is named twice. */
+    VOLUME_COUNT_TOO_SMALL = 26, /* There are too few pairs. */
+    VOLUME_BRANCH_COUNT = 27, /* The number of branches isn't that of the children or pairs. */
     VOLUME_BAD_PARENT = 30, /* Configuration 0 has a parent, or the parent of another one doesn't come before it. */
     VOLUME_MEMBER_REUSED = 31, /* A fresh member that an ancestor has. */
     VOLUME_NO_CERTIFICATE = 32, /* A claim without a certificate. */
@@ -81,24 +81,24 @@ enum volume_status {
     VOLUME_NOT_OPEN = 70, /* The client isn't an open writer. */
     VOLUME_LIMIT_REACHED = 71, /* The log would run too far ahead of the durable point. */
     VOLUME_BAD_TRANSACTION = 72, /* Not a transaction of 1 to 32 valid changes. */
-    VOLUME_LSN_SPENT = 73, /* No log sequence number is left. */
+    VOLUME_LSN_SPENT = 73, /* No log sequence number (LSN) is left. */
     VOLUME_NOT_READY = 74, /* Too few members have answered for this step. */
-    VOLUME_ALREADY_DONE = 75, /* The client has taken this step before. */
-    VOLUME_NO_LOG_RECORD = 76, /* The log has no such record. */
+    VOLUME_ALREADY_DONE = 75, /* The client has already taken this step. */
+    VOLUME_NO_LOG_RECORD = 76, /* The log has no record with this LSN. */
     VOLUME_NOT_JOINED = 77, /* No write quorum has acknowledged the group's Install yet. */
     VOLUME_NO_MESSAGE = 80, /* No such message was made. */
     VOLUME_NOT_ADDRESSED = 81, /* The message isn't for this actor. */
-    VOLUME_NO_ACTOR = 82, /* The actor isn't there. */
+    VOLUME_NO_ACTOR = 82, /* There is no such actor. */
     VOLUME_NO_SLOT = 83, /* No slot is left for a client. */
     VOLUME_JOURNAL_FULL = 84, /* The journal has no cell left. */
     VOLUME_WRONG_HANDLE = 90, /* The handle is empty, or full where it must be empty, or holds another actor. */
     VOLUME_UNSENT = 91, /* The actor has messages that weren't taken. */
     VOLUME_TOO_SMALL = 92, /* The buffer is too small. */
     VOLUME_NO_MORE = 93, /* All messages were taken. */
-    VOLUME_BAD_LENGTH = 94, /* A number of bytes that the struct can't hold. */
+    VOLUME_BAD_LENGTH = 94, /* A number of bytes that the struct doesn't have room for. */
 };
 
-/* A change of a block: the first length of bytes, 1 to 64, are to stand in the block from offset on. */
+/* A change of a block: writes the first length of bytes, 1 to 64, to the block from offset on. */
 struct volume_change {
     /* The block of the group. */
     uint32_t block;
@@ -116,11 +116,11 @@ struct volume_change {
 struct volume_points {
     /* The greatest LSN up to which each record is acknowledged by a write quorum of its group. */
     uint64_t complete;
-    /* The greatest consistency point up to there. A commit at or below it is durable. */
+    /* The greatest consistency point up to complete. A commit at or below it is durable. */
     uint64_t durable;
     /* The LSN after which the writer's own records begin. */
     uint64_t start;
-    /* The greatest LSN of the log: after an issue that of the commit. */
+    /* The greatest LSN of the log. After an issue it is the commit's. */
     uint64_t last;
 };
 
@@ -140,7 +140,7 @@ struct volume_segment_state {
     uint32_t is_whole;
 };
 
-/* What the whole members of a group allow after an advance. */
+/* What the whole members of a group can do after an advance. */
 struct volume_readiness {
     /* Whether they satisfy the configuration's read expression. Advance only if they do. */
     bool can_read;
@@ -164,8 +164,8 @@ void volume_close(struct volume_handle *handle);
 /* Reads a plan and checks it. out must be empty. On success it holds the plan. A plan may be closed as soon as each
  * actor over it was made.
  *
- * Where the plan has a fault, the fault's number is returned, as docs/FAULTS.md lists them. Its line, which says the
- * place too, is written to line, as much of it as there is room for; needed is its whole length. */
+ * If the plan has a fault, returns its number (docs/FAULTS.md) and writes to line as much as fits of a line with its
+ * name and place. needed is the length of the whole line. */
 uint8_t volume_plan_read(const uint8_t *text, size_t text_length, struct volume_handle *out, uint8_t *line,
     size_t line_length, size_t *needed);
 
@@ -176,9 +176,9 @@ uint8_t volume_plan_read(const uint8_t *text, size_t text_length, struct volume_
  * Refused 82 where the plan names no such member. */
 uint8_t volume_segment_new(struct volume_handle *plan, uint8_t group, uint8_t member, struct volume_handle *out);
 
-/* Makes a segment from the bytes that volume_segment_snapshot wrote: the segment that was saved, after a restart. Then
- * pass it, by volume_segment_take, each message that was logged since, in the order of the log, and drop the answers.
- * out must be empty. On success it holds the segment.
+/* Makes a segment from the bytes of a snapshot, all that volume_snapshot_read wrote: the segment that was saved, after
+ * a restart. Then pass it, by volume_segment_take, each message that was logged since, in the order of the log, and
+ * drop the answers. out must be empty. On success it holds the segment.
  *
  * Refused 1, 2 or 3 where the bytes aren't a snapshot's, and 82 where the plan names no such member. */
 uint8_t volume_segment_resume(struct volume_handle *plan, uint8_t group, uint8_t member, const uint8_t *bytes,
@@ -218,32 +218,41 @@ uint8_t volume_segment_page(struct volume_handle *segment, uint32_t block, uint6
 uint8_t volume_segment_scl(struct volume_handle *segment, uint64_t *scl);
 
 /* Returns a segment's epochs, its complete point and the number of its records in state. A node has taken a step once
- * membership_epoch is that of the step. The call may need 8 bytes of memory and some nanoseconds for each record, once
- * after the last record that came: call it now and then, and volume_segment_scl for each message. */
+ * membership_epoch is that of the step. */
 uint8_t volume_segment_state(struct volume_handle *segment, struct volume_segment_state *state);
 
-/* Writes the state of a segment, as docs/WIRE.md lays it out, and drops the pieces of copies and installs that are
- * under way, as a restart does. The handle then holds exactly what the bytes are resumed to. A resumed segment that
- * takes the messages logged since, in order, reaches the same state. needed is the length, some 109 bytes a record at
- * most.
+/* Takes a snapshot of a segment, and drops the pieces of copies and installs that are under way, as a restart does.
+ * out must be empty. On success it holds the snapshot, whose bytes volume_snapshot_read hands out, and the segment's
+ * handle holds exactly what the bytes are resumed to. A resumed segment that takes the messages logged since, in
+ * order, reaches the same state.
  *
- * Refused 92 where out is shorter than needed; 91 while there are messages to hand out. */
-uint8_t volume_segment_snapshot(struct volume_handle *segment, uint8_t *out, size_t out_length, size_t *needed);
+ * The snapshot shares the segment's records: it takes some 8 bytes for each of them, and stays as it is whatever the
+ * segment does meanwhile. It may be read in another thread.
+ *
+ * Refused 91 while there are messages to hand out. */
+uint8_t volume_segment_snapshot(struct volume_handle *segment, struct volume_handle *out);
 
-/* Passes a segment a frame: messages for its node in one buffer, each behind its length, a big-endian number of 4
- * bytes. It takes them in order, as volume_segment_take does, up to the end or to the first that it refuses, and sets
- * taken to the number of bytes that were taken. Log these before an answer leaves the node; they are a frame too, and
- * may be replayed whole or message by message. volume_next_message hands the answers out. An Ack that comes right
- * after an Ack of the same label, and says no less, stands for both: a frame of Writes makes one Ack.
+/* Writes the next bytes of a snapshot to the front of out, as docs/WIRE.md lays them out: of its records as many as
+ * fit whole. written is their number. What the calls write, one after the other, is what volume_segment_resume takes.
+ * A snapshot has some 50 to 109 bytes for each record; a buffer that is large enough gets all bytes at once.
  *
- * A number below 90 is the refusal of the message at taken, and the messages before it were taken. To skip that
- * message, hand the answers out and pass what follows it; after 9 pass it again. 1 is also returned where the frame
- * ends within a message. On 90 and 91 nothing was taken. */
+ * Returns 93 where all bytes were written before, 92 where out is too short for the next record: 109 bytes suffice. */
+uint8_t volume_snapshot_read(struct volume_handle *snapshot, uint8_t *out, size_t out_length, size_t *written);
+
+/* Passes a segment a frame: messages for its node in one buffer, each after its length, a big-endian number of 4
+ * bytes. The segment takes them in order, like volume_segment_take, up to the first that it refuses. taken is set to
+ * the number of bytes taken. Log these before an answer leaves the node; they are a frame too, and may be replayed
+ * whole or message by message. volume_next_message hands the answers out. An Ack replaces the Ack right before it if
+ * it has the same label and no smaller complete point, so a frame of Writes makes one Ack.
+ *
+ * A number below 90 is the refusal of the message at taken; the messages before it were taken. To skip that message,
+ * hand the answers out and pass the bytes after it; after 9 pass it again. Also returns 1 if the frame ends within a
+ * message. On 90 and 91 nothing was taken. */
 uint8_t volume_segment_take_frame(struct volume_handle *segment, const uint8_t *frame, size_t frame_length,
     size_t *taken);
 
-/* Makes the writer that a volume is born with: volume epoch 1, no record. Call it once in the life of the volume; each
- * later writer is what a recovery becomes. out must be empty. On success it holds the writer. */
+/* Makes the first writer of a new volume, with volume epoch 1 and no record. Call it once in the life of the volume;
+ * each later writer comes from a recovery. out must be empty. On success it holds the writer. */
 uint8_t volume_writer_first(struct volume_handle *plan, struct volume_handle *out);
 
 /* Makes a recovery from a View message of the authority, as volume_authority_assign makes it. Its Fence messages, one
@@ -264,7 +273,7 @@ uint8_t volume_recovery_new(struct volume_handle *plan, const uint8_t *view, siz
  * places aren't the plan's; 91 while there are messages to hand out. */
 uint8_t volume_client_take(struct volume_handle *client, const uint8_t *bytes, size_t bytes_length);
 
-/* Cuts the log that a recovery's reports hold, and makes the Install messages of it.
+/* Finds the log in a recovery's reports, cuts it, and makes its Install messages.
  *
  * Refused 74 until the senders of the reports are a read quorum of each group, 75 after the cut and of a writer, 73
  * where no LSNs are left. */
@@ -285,22 +294,22 @@ uint8_t volume_recovery_open(struct volume_handle *recovery);
  * change hasn't 1 to 64 bytes; 91 while there are messages to hand out. */
 uint8_t volume_writer_issue(struct volume_handle *writer, const struct volume_change *given, size_t given_count);
 
-/* Makes the Write of a record of the log once more, for members that it may not have reached.
+/* Makes the Write of a record of the log again, for members that may not have got it.
  *
  * Refused 70 of a recovery, 76 where the log has no record with this LSN. */
 uint8_t volume_writer_resend(struct volume_handle *writer, uint64_t lsn);
 
-/* Makes a PageAsk for a block as it is at the durable point. Send it to a full member of the group.
+/* Makes a PageAsk for a block as of the durable point. Send it to a full member of the group.
  *
  * Refused 70 of a recovery, 42 where the writer knows no such group. */
 uint8_t volume_writer_read(struct volume_handle *writer, uint8_t group, uint32_t block);
 
-/* Returns the points of a writer's log in points.
+/* Sets points to the points of a writer's log.
  *
  * Refused 70 of a recovery. */
 uint8_t volume_writer_points(struct volume_handle *writer, struct volume_points *points);
 
-/* Returns the LSN up to which a group's records are acknowledged by a write quorum in point.
+/* Sets point to the LSN up to which a write quorum has acknowledged a group's records.
  *
  * Refused 70 of a recovery, 42 where the writer knows no such group. */
 uint8_t volume_writer_group_point(struct volume_handle *writer, uint8_t group, uint64_t *point);
@@ -311,13 +320,13 @@ uint8_t volume_writer_group_point(struct volume_handle *writer, uint8_t group, u
  * Refused 70 of a recovery. */
 uint8_t volume_writer_acknowledged(struct volume_handle *writer, uint64_t lsn, bool *acknowledged);
 
-/* Makes the authority of a new volume: volume epoch 1 is assigned, and each group that is there at birth stands at its
+/* Makes the authority of a new volume: volume epoch 1 is assigned, and each group of the volume's birth is at its
  * first configuration. A volume has one authority; call it once in the life of the volume. out must be empty. On
  * success it holds the authority. */
 uint8_t volume_authority_new(struct volume_handle *plan, struct volume_handle *out);
 
-/* Makes an authority from the bytes that volume_authority_snapshot wrote: the one that was saved. out must be empty.
- * On success it holds the authority.
+/* Makes an authority from the bytes that volume_authority_snapshot wrote. out must be empty. On success it holds the
+ * authority.
  *
  * Refused 1 or 2 where the bytes aren't an authority's snapshot, and 2 where its last volume epoch is 0; 42 where it
  * has fewer groups than the plan has at birth, or more groups than the plan has. */
@@ -330,9 +339,9 @@ uint8_t volume_authority_resume(struct volume_handle *plan, const uint8_t *bytes
  * Refused 43 where no volume epoch is left. */
 uint8_t volume_authority_assign(struct volume_handle *authority);
 
-/* Advances a group to a child of its configuration, which is named by its number in the group's list, and makes the
- * StepTo for the nodes of the group, those of the old and of the new configuration. Put a snapshot of the authority on
- * the disk before the message leaves.
+/* Advances a group to a child of its configuration. configuration is the child's number in the group's list. Makes the
+ * StepTo for the nodes of the old and of the new configuration. Put a snapshot of the authority on the disk before the
+ * message leaves.
  *
  * Refused 42 where no such group has joined, 41 where the group's configuration has no such child. */
 uint8_t volume_authority_advance(struct volume_handle *authority, uint8_t group, uint32_t configuration);
@@ -352,9 +361,9 @@ uint8_t volume_authority_grow(struct volume_handle *authority);
  * is shorter. */
 uint8_t volume_authority_snapshot(struct volume_handle *authority, uint8_t *out, size_t out_length, size_t *needed);
 
-/* Returns in readiness what the whole members of a group allow after volume_authority_advance to a configuration.
- * whole has their numbers, from 0 to 63. Advance only if can_read is true: a recovery needs the reports of a read
- * quorum, and only whole members report. A member that was whole stays whole, so an older list serves as well.
+/* Sets readiness to what the whole members of a group can do after volume_authority_advance to a configuration. whole
+ * has their numbers, from 0 to 63. Advance only if can_read is true: a recovery needs the reports of a read quorum,
+ * and only whole members report. A whole member stays whole, so an older list is correct too.
  *
  * Refused 42 where no such group has joined, 41 where the group's configuration has no such child. */
 uint8_t volume_authority_may_advance(struct volume_handle *authority, uint8_t group, uint32_t configuration,

@@ -6,7 +6,7 @@ static uint64_t pick(struct cluster *cluster, uint64_t bound) {
     return random_below(&cluster->random, bound);
 }
 
-/* Adds a number to the sum of the traffic (FNV-1a). */
+/* Adds a byte to the hash of the traffic (FNV-1a). */
 static void note(struct cluster *cluster, uint8_t number) {
     cluster->traffic = (cluster->traffic ^ number) * 1099511628211u;
 }
@@ -19,7 +19,7 @@ static void put_on_wire(struct cluster *cluster, uint8_t to, const struct bytes 
     cluster->wire[cluster->wire_count++] = (struct letter){to, bytes_of(message->at, message->length)};
 }
 
-/* Sends a message to the client that it names, or to the other members of the group. */
+/* Sends a message: a Report, Ack or Page to the client, all others to each member but the sender. */
 static void post(struct cluster *cluster, const struct bytes *message, uint8_t from) {
     uint8_t kind = message->at[1];
     if (kind == REPORT || kind == ACK || kind == PAGE) {
@@ -39,7 +39,7 @@ static void keep(struct cluster *cluster, const struct bytes *message) {
         add_message(&cluster->kept, message->at, message->length);
 }
 
-/* Takes all that an actor made, and sends it. */
+/* Sends all messages that an actor made. */
 static void send_all(struct cluster *cluster, struct volume_handle *actor, uint8_t from) {
     struct bytes message;
     while (next_message(actor, &message)) {
@@ -60,8 +60,8 @@ void cluster_save(struct cluster *cluster, uint8_t member) {
     free_messages(&node->log);
 }
 
-/* The state of a node that is compared: its snapshot or, where it took copies, which a snapshot drops, its complete
- * point. */
+/* Returns the bytes that represent a node's state: its snapshot or, if it has copies, which a snapshot drops, its
+ * complete point. */
 static struct bytes state_of(struct node *node) {
     struct bytes state = {0};
     uint64_t scl = 0;
@@ -111,7 +111,7 @@ void cluster_resume(struct cluster *cluster, uint8_t member) {
     free_bytes(&after);
 }
 
-/* Gives a node a message; what it takes is in its log before the answers leave. */
+/* Passes a node a message. The node logs it before its answers are sent. */
 static uint8_t node_takes(struct cluster *cluster, uint8_t member, const struct bytes *message) {
     struct node *node = &cluster->nodes[member];
     uint8_t status = volume_segment_take(&node->segment, message->at, message->length);
@@ -139,14 +139,14 @@ static void deliver(struct cluster *cluster, const struct letter *letter) {
         note(cluster, message->at[i]);
 }
 
-/* Takes a letter off the wire. */
+/* Removes a letter from the wire and returns it. */
 static struct letter taken_off(struct cluster *cluster, size_t i) {
     struct letter letter = cluster->wire[i];
     cluster->wire[i] = cluster->wire[--cluster->wire_count];
     return letter;
 }
 
-/* Delivers any message; one in eight is lost, one in eight stays on its way too. */
+/* Delivers a random message. One in eight is lost instead, and one in eight is sent again. */
 static void deliver_any(struct cluster *cluster) {
     if (cluster->wire_count == 0)
         return;
@@ -159,7 +159,7 @@ static void deliver_any(struct cluster *cluster) {
     free_bytes(&letter.message);
 }
 
-/* Delivers all, in any order, without loss. */
+/* Delivers all messages in random order, without loss. */
 static void deliver_all(struct cluster *cluster) {
     while (cluster->wire_count > 0) {
         struct letter letter = taken_off(cluster, pick(cluster, cluster->wire_count));
@@ -175,7 +175,7 @@ static void lose_some(struct cluster *cluster) {
     }
 }
 
-/* Sends again what the client and the authority sent. */
+/* Sends the kept messages of the client and the authority again. */
 static void send_again(struct cluster *cluster) {
     for (size_t i = 0; i < cluster->steps.count; i++)
         post(cluster, &cluster->steps.at[i], CLIENT);
@@ -220,7 +220,7 @@ static void read_block(struct cluster *cluster) {
     send_all(cluster, &cluster->client, CLIENT);
 }
 
-/* The authority's state is on its disk before what it made leaves: it is resumed from there here. */
+/* Takes the authority's message, and restarts the authority from a snapshot. */
 static void resume_authority(struct cluster *cluster, struct bytes *made) {
     struct bytes disk = authority_snapshot(&cluster->authority);
     WANT(next_message(&cluster->authority, made));
@@ -232,7 +232,7 @@ static void resume_authority(struct cluster *cluster, struct bytes *made) {
     free_bytes(&disk);
 }
 
-/* The client fails, and a recovery comes in its place. */
+/* Replaces the client by a recovery of a new volume epoch. */
 static void fail_client(struct cluster *cluster) {
     struct bytes view;
     volume_close(&cluster->client);
@@ -259,7 +259,7 @@ static void go_on(struct cluster *cluster) {
     cluster->writes = cluster->writes || opened == VOLUME_OK;
 }
 
-/* Hands the authority's View to the client. */
+/* Hands a new View of the authority to the client. */
 static void refresh(struct cluster *cluster) {
     struct bytes view;
     DO(volume_authority_refresh(&cluster->authority, cluster->volume_epoch));
@@ -282,7 +282,7 @@ static void advance(struct cluster *cluster) {
     free_bytes(&step);
 }
 
-/* Asks for copies in the name of the fresh member, and makes it whole if it has enough. */
+/* Makes the fresh member whole if it has enough copies, or else asks the others for copies. */
 static void make_whole(struct cluster *cluster) {
     struct node *node = &cluster->nodes[FRESH];
     uint8_t epoch = cluster->configuration > 1 ? 3 : (uint8_t)(1 + cluster->configuration);
@@ -332,13 +332,13 @@ void cluster_act(struct cluster *cluster) {
     lose_some(cluster);
 }
 
-/* Whether a member is of the group's configuration, as it is now. */
+/* Returns whether a member is in the group's present configuration. */
 static bool is_member(const struct cluster *cluster, uint8_t member) {
     static const uint8_t absent[] = {FRESH, MEMBERS, FRESH - 1, FRESH};
     return member != absent[cluster->configuration];
 }
 
-/* The least SCL of the group's members. */
+/* Returns the least SCL of the group's members. */
 static uint64_t lowest_scl(struct cluster *cluster) {
     uint64_t lowest = UINT64_MAX;
     for (uint8_t member = 0; member < MEMBERS; member++) {
@@ -350,7 +350,8 @@ static uint64_t lowest_scl(struct cluster *cluster) {
     return lowest;
 }
 
-/* Whether the writer has all acknowledged, and each member has all. Sends again what some member lacks. */
+/* Returns whether all records are acknowledged, each member has all, and the wire is empty. Resends the records that
+ * some member lacks. */
 static bool is_settled(struct cluster *cluster) {
     struct volume_points points;
     uint64_t lowest = lowest_scl(cluster);
@@ -372,7 +373,7 @@ void cluster_settle(struct cluster *cluster) {
         refresh(cluster);
         make_whole(cluster);
         go_on(cluster);
-        /* a member that a step reached before the Install takes only that of a later recovery */
+        /* a member that took a step before the Install takes only the Install of a later recovery */
         if (round % PATIENCE == PATIENCE - 1)
             fail_client(cluster);
     }

@@ -9,7 +9,7 @@
 enum { ACTS = 4000, SAMPLES = 6 };
 
 /* A handle of each kind, and an empty one. */
-enum holder { EMPTY, PLAN, SEGMENT, RECOVERY, WRITER, AUTHORITY, HOLDERS };
+enum holder { EMPTY, PLAN, SEGMENT, RECOVERY, WRITER, AUTHORITY, SNAPSHOT, HOLDERS };
 
 static const uint8_t NO_VIEW[] = {1, VIEW, 0, 0, 0, 2, 0, 0, 0, 1, 0, 0, 0, 0, 1};
 static const uint8_t NO_FENCE[] = {1, FENCE, 0, 0, 0, 0, 2, 0, 0, 0, 1};
@@ -68,9 +68,17 @@ static uint8_t call_segment_take_frame(struct volume_handle *handle) {
 }
 
 static uint8_t call_segment_snapshot(struct volume_handle *handle) {
-    uint8_t out[100];
-    size_t needed;
-    return volume_segment_snapshot(handle, out, sizeof out, &needed);
+    uint8_t status = volume_segment_snapshot(handle, &made);
+    volume_close(&made);
+    return status;
+}
+
+static uint8_t call_snapshot_read(struct volume_handle *handle) {
+    uint8_t out[8];
+    size_t written = 77;
+    uint8_t status = volume_snapshot_read(handle, out, sizeof out, &written);
+    WANT(written == (status == VOLUME_OK ? sizeof out : 0));
+    return status;
 }
 
 static uint8_t call_writer_first(struct volume_handle *handle) {
@@ -161,7 +169,7 @@ struct call {
 #define ACTORS (OF(SEGMENT) | CLIENTS | OF(AUTHORITY))
 
 static const struct call CALLS[] = {
-    {"next_message", call_next_message, ACTORS | OF(PLAN)},
+    {"next_message", call_next_message, ACTORS | OF(PLAN) | OF(SNAPSHOT)},
     {"segment_new", call_segment_new, OF(PLAN)},
     {"segment_resume", call_segment_resume, OF(PLAN)},
     {"segment_take", call_segment_take, OF(SEGMENT)},
@@ -172,6 +180,7 @@ static const struct call CALLS[] = {
     {"segment_state", call_segment_state, OF(SEGMENT)},
     {"segment_take_frame", call_segment_take_frame, OF(SEGMENT)},
     {"segment_snapshot", call_segment_snapshot, OF(SEGMENT)},
+    {"snapshot_read", call_snapshot_read, OF(SNAPSHOT)},
     {"writer_first", call_writer_first, OF(PLAN)},
     {"recovery_new", call_recovery_new, OF(PLAN)},
     {"client_take", call_client_take, CLIENTS},
@@ -214,6 +223,7 @@ static void hold_all(const struct bytes *text, struct volume_handle handles[HOLD
     drop_messages(&handles[RECOVERY]);
     DO(volume_writer_first(&handles[PLAN], &handles[WRITER]));
     DO(volume_authority_new(&handles[PLAN], &handles[AUTHORITY]));
+    DO(volume_segment_snapshot(&handles[SEGMENT], &handles[SNAPSHOT]));
 }
 
 static void close_all(struct volume_handle handles[HOLDERS]) {
@@ -259,6 +269,8 @@ static void full_handles(const struct bytes *text) {
     made = (struct volume_handle){0};
     struct bytes after = segment_snapshot(&handles[SEGMENT]);
     WANT(are_same(&before, &after));
+    GIVES(VOLUME_WRONG_HANDLE, volume_segment_snapshot(&handles[SEGMENT], &handles[SNAPSHOT]));
+    DO(call_snapshot_read(&handles[SNAPSHOT]));
     DO(volume_segment_new(&handles[PLAN], 0, 1, &made));
     volume_close(&made);
     free_bytes(&before);
@@ -410,7 +422,6 @@ static void buffers(const struct bytes *text) {
     hold_all(text, handles);
     changes_of_bad_length(&handles[WRITER]);
     unsent(handles);
-    short_buffers(&handles[SEGMENT], volume_segment_snapshot);
     short_buffers(&handles[AUTHORITY], volume_authority_snapshot);
     short_page_buffers(&handles[SEGMENT]);
     GIVES(VOLUME_NOT_OPEN, call_writer_points(&handles[RECOVERY]));
@@ -479,12 +490,10 @@ static void readiness_of_members(const struct bytes *text) {
     volume_close(&plan);
 }
 
-/* A snapshot that is written drops the copies that a fresh member took, and one that doesn't fit leaves them. */
+/* A snapshot drops the copies that a fresh member took, and one that isn't made leaves them. */
 static void copies_and_snapshots(const struct bytes *text) {
     struct volume_handle plan = {0}, authority = {0}, fresh = {0}, again = {0}, whole[3] = {{0}};
     struct bytes step;
-    uint8_t out[1];
-    size_t needed;
     read_plan(text, &plan);
     DO(volume_authority_new(&plan, &authority));
     DO(volume_authority_advance(&authority, 0, 1));
@@ -501,7 +510,7 @@ static void copies_and_snapshots(const struct bytes *text) {
     GIVES(VOLUME_NOT_ENOUGH, volume_segment_hydrate(&again));
     GIVES(VOLUME_NOT_ENOUGH, volume_segment_hydrate(&fresh));
     take_copies(&fresh, whole, 3, &ask);
-    GIVES(VOLUME_TOO_SMALL, volume_segment_snapshot(&fresh, out, sizeof out, &needed));
+    GIVES(VOLUME_WRONG_HANDLE, volume_segment_snapshot(&fresh, &again));
     DO(volume_segment_hydrate(&fresh));
     struct volume_handle *const all[] = {&plan, &authority, &fresh, &again, &whole[0], &whole[1], &whole[2]};
     for (size_t i = 0; i < sizeof all / sizeof *all; i++)
@@ -509,6 +518,89 @@ static void copies_and_snapshots(const struct bytes *text) {
     free_bytes(&step);
     free_bytes(&ask);
     free_bytes(&snapshot);
+}
+
+/* A writer's record that writes so many bytes is delivered to a segment. Its Ack is taken as that of four members. */
+static void write_one(struct volume_handle *writer, struct volume_handle *segment, uint8_t length) {
+    struct volume_change change = {.block = length, .length = length};
+    struct bytes write;
+    memset(change.bytes, length, length);
+    DO(volume_writer_issue(writer, &change, 1));
+    WANT(next_message(writer, &write));
+    struct bytes ack = answer(segment, &write);
+    for (uint8_t member = 0; member < 4; member++) {
+        ack.at[11] = member;
+        DO(volume_client_take(writer, ack.at, ack.length));
+    }
+    free_bytes(&write);
+    free_bytes(&ack);
+}
+
+/* The bytes that a whole member's snapshot has after so many records of 1, 2, 3.. bytes: the fields before the lineage's
+ * entries have 24, the one entry of the volume's birth 20, the number of records 4, a record 45 and what it writes. */
+static size_t snapshot_length(size_t records) {
+    return 24 + 20 + 4 + records * 45 + records * (records + 1) / 2;
+}
+
+/* A snapshot in pieces of any length is the snapshot at once, whatever the segment does meanwhile. */
+static void pieces_of_a_snapshot(const struct bytes *text) {
+    enum { RECORDS = 40, LONGEST = 45 + RECORDS };
+    struct volume_handle handles[HOLDERS];
+    uint8_t out[LONGEST];
+    hold_all(text, handles);
+    for (uint8_t length = 1; length <= RECORDS; length++)
+        write_one(&handles[WRITER], &handles[SEGMENT], length);
+    struct bytes whole = segment_snapshot(&handles[SEGMENT]);
+    WANT(whole.length == snapshot_length(RECORDS));
+    for (size_t room = LONGEST; room <= whole.length; room++) {
+        size_t written = 0;
+        volume_close(&handles[SNAPSHOT]);
+        DO(volume_segment_snapshot(&handles[SEGMENT], &handles[SNAPSHOT]));
+        fill(out, sizeof out);
+        DO(volume_snapshot_read(&handles[SNAPSHOT], out, 1, &written));
+        WANT(written == 1 && out[0] == whole.at[0] && is_filled(out + 1, sizeof out - 1));
+        struct bytes rest = snapshot_bytes(&handles[SNAPSHOT], room);
+        WANT(rest.length == whole.length - 1 && memcmp(rest.at, whole.at + 1, rest.length) == 0);
+        free_bytes(&rest);
+    }
+    free_bytes(&whole);
+    close_all(handles);
+}
+
+/* The first bytes of a snapshot were read: its segment goes on and is closed, and the others are the same. */
+static void snapshot_stays(const struct bytes *text) {
+    struct volume_handle handles[HOLDERS], again = {0};
+    uint8_t out[300];
+    size_t written = 0;
+    hold_all(text, handles);
+    for (uint8_t length = 1; length <= 3; length++)
+        write_one(&handles[WRITER], &handles[SEGMENT], length);
+    struct bytes before = segment_snapshot(&handles[SEGMENT]);
+    volume_close(&handles[SNAPSHOT]);
+    DO(volume_segment_snapshot(&handles[SEGMENT], &handles[SNAPSHOT]));
+    DO(volume_snapshot_read(&handles[SNAPSHOT], out, 48, &written));
+    WANT(written == 48);
+    fill(out + 48, sizeof out - 48);
+    GIVES(VOLUME_TOO_SMALL, volume_snapshot_read(&handles[SNAPSHOT], out + 48, 45, &written));
+    GIVES(VOLUME_TOO_SMALL, volume_snapshot_read(&handles[SNAPSHOT], out + 48, 0, &written));
+    WANT(written == 0 && is_filled(out + 48, sizeof out - 48));
+    write_one(&handles[WRITER], &handles[SEGMENT], 4);
+    struct bytes after = segment_snapshot(&handles[SEGMENT]);
+    WANT(after.length == snapshot_length(4) && before.length == snapshot_length(3));
+    volume_close(&handles[SEGMENT]);
+    DO(volume_snapshot_read(&handles[SNAPSHOT], out + 48, sizeof out - 48, &written));
+    WANT(48 + written == before.length && memcmp(out, before.at, before.length) == 0);
+    WANT(is_filled(out + before.length, sizeof out - before.length));
+    GIVES(VOLUME_NO_MORE, volume_snapshot_read(&handles[SNAPSHOT], out, sizeof out, &written));
+    GIVES(VOLUME_NO_MORE, volume_snapshot_read(&handles[SNAPSHOT], out, 0, &written));
+    DO(volume_segment_resume(&handles[PLAN], 0, 0, before.at, before.length, &again));
+    struct bytes resumed = segment_snapshot(&again);
+    WANT(are_same(&resumed, &before));
+    volume_close(&again);
+    free_bytes(&before);
+    free_bytes(&after);
+    free_bytes(&resumed);
+    close_all(handles);
 }
 
 /* The first messages of each kind that a run makes. */
@@ -592,6 +684,8 @@ int main(int count, char **words) {
     grown(&growing);
     readiness_of_members(&text);
     copies_and_snapshots(&text);
+    pieces_of_a_snapshot(&text);
+    snapshot_stays(&text);
     messages_of_a_run(&text);
     free_bytes(&text);
     free_bytes(&growing);

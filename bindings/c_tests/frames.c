@@ -1,5 +1,5 @@
-/* Frames against messages one by one: two volumes of the same plan get the same messages, one of them in frames. After
- * each round the statuses, the answers, the segments and the writers' points must be the same.
+/* Compares frames with single messages: two volumes of the same plan get the same messages, one of them in frames.
+ * After each round the statuses, the answers, the segments and the writers' points must be the same.
  *
  *     frames PLAN RUNS
  *
@@ -39,14 +39,14 @@ static void take_all_out(struct volume_handle *actor, struct messages *list) {
     }
 }
 
-/* Whether an Ack of the same segment under the same label says no less than an earlier one. */
+/* Returns whether a message is an Ack like an earlier one, with the same segment and label and no smaller point. */
 static bool says_no_less(const struct bytes *ack, const struct bytes *earlier) {
     if (ack->at[1] != ACK || earlier->at[1] != ACK || memcmp(ack->at, earlier->at, ACK_HEAD) != 0)
         return false;
     return memcmp(ack->at + ACK_HEAD, earlier->at + ACK_HEAD, ack->length - ACK_HEAD) >= 0;
 }
 
-/* Adds the answers to one message, in place of the last answer before them if the first says what it says. */
+/* Appends the answers to a message. The first one replaces the answer before it if it is an Ack that includes it. */
 static void join(struct messages *joined, const struct messages *answers) {
     if (answers->count == 0)
         return;
@@ -64,7 +64,7 @@ static void want_same(const struct messages *left, const struct messages *right)
         WANT(are_same(&left->at[i], &right->at[i]));
 }
 
-/* Takes the messages one by one. `all` gets each answer, `joined` those that a frame makes between two refusals. */
+/* Takes the messages one by one. Adds each answer to `all`, and to `joined` the answers of frames between refusals. */
 static void take_singly(struct volume_handle *segment, const struct messages *batch, uint8_t *statuses,
                         struct messages *all, struct messages *joined) {
     struct messages part = {0};
@@ -85,7 +85,7 @@ static void take_singly(struct volume_handle *segment, const struct messages *ba
     }
 }
 
-/* Takes the messages as a frame, and goes on behind each that is refused. */
+/* Takes the messages as a frame, and skips each that is refused. */
 static void take_framed(struct volume_handle *segment, const struct messages *batch, const uint8_t *statuses,
                         struct messages *answers) {
     struct bytes frame = {0};
@@ -114,7 +114,7 @@ static void take_framed(struct volume_handle *segment, const struct messages *ba
     free_bytes(&frame);
 }
 
-/* Makes the same transaction in both volumes; adds its Writes to those that were made. */
+/* Issues the same transaction in both volumes, and adds its Writes to the list. */
 static void issue(struct world *plain, struct world *framed, uint64_t *random, struct messages *writes) {
     struct volume_change changes[MOST_CHANGES];
     struct messages fresh = {0}, same = {0};
@@ -137,7 +137,7 @@ static void issue(struct world *plain, struct world *framed, uint64_t *random, s
     free_messages(&same);
 }
 
-/* A message for a node: a Write, or one that is refused, spoilt, or answered by another message than an Ack. */
+/* Returns a message for a node: a Write, spoilt or not, a Gossip, a PageAsk or a CopyAsk. */
 static struct bytes any_message(const struct messages *writes, uint64_t *random) {
     static const uint8_t ask[] = {1, PAGE_ASK, 0, 0, 0, 0, 1, 0, 0, 0, 1, 0, 0, 0, 1, 0, 0, 0, 0, 0, 0, 0, 0};
     static const uint8_t copy[] = {1, COPY_ASK, 0, 0, 0, 0, 1};
@@ -166,7 +166,7 @@ static void want_same_segments(struct volume_handle *plain, struct volume_handle
     WANT(memcmp(&left, &right, sizeof left) == 0);
     struct bytes saved = segment_snapshot(plain), other = segment_snapshot(framed);
     WANT(are_same(&saved, &other));
-    /* docs/WIRE.md: volume epoch, place, whole; behind the lineage's one entry the number of the records */
+    /* docs/WIRE.md: volume epoch, place, whole; after the lineage's one entry the number of records */
     WANT(left.volume_epoch == number_at(saved.at + 2) && left.configuration == saved.at[6]);
     WANT(left.membership_epoch == number_at(saved.at + 7) && left.is_whole == saved.at[11]);
     WANT(left.complete_point == scl && number_at(saved.at + 20) == 1 && left.records == number_at(saved.at + 44));
@@ -223,7 +223,7 @@ static void run(const struct bytes *plan, uint64_t seed) {
     close_world(&framed);
 }
 
-/* A frame of five Writes whose third is spoilt, a frame that is cut off, one of nothing, and handles that take none. */
+/* Tests a frame of five Writes whose third is spoilt, one that is cut off, an empty one, and handles that take none. */
 static void by_hand(const struct bytes *plan) {
     struct world world;
     struct messages writes = {0}, answers = {0};
@@ -241,7 +241,7 @@ static void by_hand(const struct bytes *plan) {
     struct volume_handle *segment = &world.segments[0];
     DO(volume_segment_take_frame(segment, frame.at, 0, &taken));
     WANT(taken == 0);
-    frame.at[2 * 61 + 5] = 77; /* no kind of message */
+    frame.at[2 * 61 + 5] = 77; /* not a kind of message */
     GIVES(VOLUME_BAD_FIELD, volume_segment_take_frame(segment, frame.at, frame.length, &taken));
     WANT(taken == 2 * 61);
     GIVES(VOLUME_UNSENT, volume_segment_take_frame(segment, frame.at + 3 * 61, 2 * 61, &taken));

@@ -1,7 +1,7 @@
 #include "layout.h"
 
-/* The fields of each kind: a digit is a number of so many bytes, brackets are a list behind its count of 4 bytes, r is
- * a record, p is a page. */
+/* The fields of each kind: a digit is a number of so many bytes, brackets are a list after its count of 4 bytes, r is a
+ * record, p is a page. */
 static const char *const FIELDS[KINDS] = {
     [VIEW] = "4(14)",
     [STEP_TO] = "114",
@@ -17,7 +17,7 @@ static const char *const FIELDS[KINDS] = {
     [PAGE] = "144148p",
 };
 
-/* The fields of a record before its bytes; the last number is how many these are. */
+/* The fields of a record before its bytes; the last one is the number of bytes. */
 static const char RECORD[] = "8488814211";
 
 struct reading {
@@ -27,7 +27,7 @@ struct reading {
     bool is_good;
 };
 
-/* Reads a number of so many bytes, the first one the greatest, and writes it. */
+/* Reads a big-endian number of `size` bytes, and writes it. */
 static uint64_t number(struct reading *reading, size_t size) {
     uint64_t value = 0;
     uint8_t bytes[8];
@@ -65,7 +65,7 @@ static void record(struct reading *reading) {
 /* Reads the fields up to the end of the text or of a list. */
 static void fields(struct reading *reading, const char *text);
 
-/* Reads a list; returns the text behind it. */
+/* Reads a list; returns the text after it. */
 static const char *list(struct reading *reading, const char *text) {
     uint64_t count = number(reading, 4);
     for (uint64_t i = 0; i < count && reading->is_good; i++)

@@ -1,10 +1,10 @@
-/* The layout of messages, as docs/WIRE.md has it: a reading that is independent of the library's. */
+/* The layout of messages by docs/WIRE.md: a decoder that is independent of the library's. */
 #ifndef LAYOUT_H
 #define LAYOUT_H
 
 #include "support.h"
 
-/* Reads a message field by field, and writes the fields again. The bytes are empty where the message isn't one. */
+/* Reads a message field by field, and writes the fields again. Returns empty bytes if it isn't a message. */
 struct bytes rewritten(const struct bytes *message);
 
 #endif

@@ -145,9 +145,13 @@ WRAPPED(volume_segment_page, (struct volume_handle *segment, uint32_t block, uin
     REFUSING(__real_volume_segment_page(segment, block, point, page, length), scl_of(segment) == scl);
 }
 
-WRAPPED(volume_segment_snapshot, (struct volume_handle *segment, uint8_t *out, size_t length, size_t *needed)) {
+WRAPPED(volume_segment_snapshot, (struct volume_handle *segment, struct volume_handle *out)) {
     uint64_t scl = scl_of(segment);
-    REFUSING(__real_volume_segment_snapshot(segment, out, length, needed), scl_of(segment) == scl);
+    REFUSING(__real_volume_segment_snapshot(segment, out), is_empty(out) && scl_of(segment) == scl);
+}
+
+WRAPPED(volume_snapshot_read, (struct volume_handle *snapshot, uint8_t *out, size_t length, size_t *written)) {
+    REFUSING(__real_volume_snapshot_read(snapshot, out, length, written), false); /* it needs no memory */
 }
 
 WRAPPED(volume_writer_first, (struct volume_handle *plan, struct volume_handle *out)) {

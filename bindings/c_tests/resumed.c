@@ -1,5 +1,5 @@
-/* Segments that are saved and resumed at random points: each run, decided by its seed, is made twice, once with and
- * once without. Traffic, points, SCLs, pages and snapshots must be the same.
+/* Saves and resumes segments at random points. Each seed's run is made twice, with and without this: traffic, points,
+ * SCLs, pages and snapshots must be the same.
  *
  *     resumed PLAN RUNS
  *
@@ -8,7 +8,7 @@
 
 enum { ACTS = 250 };
 
-/* Saves or resumes a node, of those that a second sequence of random numbers picks. */
+/* Saves or resumes a node, or does nothing, by a second sequence of random numbers. */
 static void disturb(struct cluster *cluster, uint64_t *random, size_t *saved, size_t *resumed) {
     uint8_t member = (uint8_t)random_below(random, MEMBERS);
     uint64_t which = random_below(random, 8);

@@ -1,9 +1,10 @@
-/* Random runs of the library that are written as scripts too (docs/SCRIPTS.md), with what `plan_tool run` must print.
+/* Makes random runs of the library, and writes each as a script (docs/SCRIPTS.md) with the output that `plan_tool run`
+ * must print.
  *
  *     scripted PLAN RUNS FOLDER
  *
- * PLAN is examples/member_replaced.json. Run N goes into FOLDER/N.script and FOLDER/N.wanted; scripts/engine_tests has
- * the program run the scripts. */
+ * PLAN is examples/member_replaced.json. Run N is written to FOLDER/N.script and FOLDER/N.wanted;
+ * scripts/engine_tests runs the program on the scripts. */
 #include "support.h"
 
 enum { MEMBERS = 7, FRESH = 6, BLOCKS = 4, MOST_CLIENTS = 12, EVENTS = 1000, RECENT = 14, VIEW_EPOCH = 2, LABEL_EPOCH = 3 };
@@ -14,7 +15,7 @@ struct said {
     struct bytes bytes;
 };
 
-/* A client: its handle, empty before its first View. Once it has cut: its cut and its start. */
+/* A client: its handle, which is empty before its first View, and after the cut its cut and start. */
 struct client {
     struct volume_handle handle;
     bool has_cut, is_open;
@@ -51,7 +52,7 @@ static struct said *say(struct run *run, const struct bytes *message) {
     return &run->said[run->said_count++];
 }
 
-/* Ends an event: takes what the actor made, and writes what the program prints of the line. */
+/* Ends an event: takes the actor's messages, and writes the output that the program prints for the line. */
 static void ends(struct run *run, struct volume_handle *actor, uint8_t status) {
     struct bytes message;
     run->made = 0;
@@ -71,7 +72,7 @@ static void ends(struct run *run, struct volume_handle *actor, uint8_t status) {
     }
 }
 
-/* The client whose volume epoch is picked, of those that a View has reached. */
+/* Picks a client that has taken a View, and returns its volume epoch too. */
 static struct client *any_client(struct run *run, uint32_t *volume) {
     uint32_t last = pick(run, 4) == 0 ? 1 + (uint32_t)pick(run, run->last_volume) : run->last_volume;
     while (run->clients[last].handle.live == false)
@@ -80,7 +81,7 @@ static struct client *any_client(struct run *run, uint32_t *volume) {
     return &run->clients[last];
 }
 
-/* A message, mostly one of the last few. */
+/* Returns a random message, mostly one of the last few. */
 static const struct said *any_said(struct run *run) {
     size_t few = run->said_count < RECENT ? run->said_count : RECENT;
     uint64_t back = pick(run, pick(run, 6) == 0 ? run->said_count : few);
@@ -107,14 +108,14 @@ static void issue(struct run *run) {
     ends(run, &client->handle, volume_writer_issue(&client->handle, changes, count));
 }
 
-/* Delivers a message to a member, whatever it is. */
+/* Delivers a message of any kind to a member. */
 static void deliver(struct run *run, const struct said *said, uint8_t member) {
     struct volume_handle *segment = &run->segments[member];
     fprintf(run->script, "deliver 0 %d %zu.%zu\n", member, said->line, said->number);
     ends(run, segment, volume_segment_take(segment, said->bytes.at, said->bytes.length));
 }
 
-/* A View that no client was born of needs the client's handle; other messages need one that is there. */
+/* Delivers a message to a client, mostly to the one that it names. A View may make a new recovery. */
 static void take(struct run *run, const struct said *said) {
     uint32_t volume = 0;
     struct client *client = any_client(run, &volume);
@@ -134,7 +135,7 @@ static void take(struct run *run, const struct said *said) {
         : volume_client_take(&client->handle, said->bytes.at, said->bytes.length));
 }
 
-/* Delivers a message to whom it is for, mostly. */
+/* Delivers a random message, mostly to a client or member according to its kind. */
 static void bring(struct run *run) {
     if (run->said_count == 0)
         return;
@@ -174,7 +175,7 @@ static void grow(struct run *run) {
     ends(run, &run->authority, volume_authority_grow(&run->authority));
 }
 
-/* What a cut found stands in the last entry of the lineage of each Install. */
+/* Notes the cut and the start, which are in the lineage's last entry of each Install. */
 static void note_cut(struct run *run, struct client *client) {
     const struct bytes *install = &run->said[run->said_count - 1].bytes;
     const uint8_t *lineage = install->at + 2 + 1 + 8 + 4;
@@ -225,7 +226,7 @@ static void hydrate(struct run *run) {
     ends(run, &run->segments[member], volume_segment_hydrate(&run->segments[member]));
 }
 
-/* A restart is a snapshot, and the segment that is resumed from it. */
+/* Restarts a member: resumes its segment from a snapshot. */
 static void restart(struct run *run) {
     uint8_t member = (uint8_t)pick(run, MEMBERS);
     struct volume_handle *segment = &run->segments[member];
@@ -258,7 +259,7 @@ static void act(struct run *run) {
         RARE[pick(run, sizeof RARE / sizeof *RARE)](run);
 }
 
-/* The writers and recoveries at the end. */
+/* Writes the writers and recoveries at the end of the run. */
 static void end(struct run *run) {
     for (uint32_t volume = 1; volume <= run->last_volume; volume++) {
         struct volume_points points;

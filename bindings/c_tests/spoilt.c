@@ -1,21 +1,21 @@
-/* Spoilt messages and snapshots: each ends in a number, and what is refused changes nothing.
+/* Passes spoilt messages and snapshots: each call must return a status, and a refusal must change nothing.
  *
  *     spoilt PLAN MESSAGES SNAPSHOTS
  *
- * PLAN is examples/member_replaced.json; the others say how many. What is taken, because it is still a message or a
- * snapshot, must be one by docs/WIRE.md too; the actor is made anew then. */
+ * PLAN is examples/member_replaced.json, MESSAGES and SNAPSHOTS are numbers of tries. Spoilt bytes that are taken must
+ * still be a message or a snapshot by docs/WIRE.md; the test then makes the actor again. */
 #include "cluster.h"
 #include "layout.h"
 
 enum { ACTS = 1500, POOL = 24, CHECKED = 500, TARGETS = 4 };
 
-/* The last messages of each kind that a run made, and what a recovery after it is made of. */
+/* The last messages of each kind that a run made. */
 struct pool {
     struct messages of[KINDS];
     size_t next[KINDS];
 };
 
-/* What a recovery takes until it is a writer, and what it makes of its cut where nothing else reaches it. */
+/* All messages with which a recovery becomes a writer, and the Installs that it makes from them. */
 struct recovering {
     struct bytes view;
     struct messages reports, installs, acks;
@@ -46,7 +46,7 @@ static void put_in_pool(void *with, const struct bytes *message) {
     *at = bytes_of(message->at, message->length);
 }
 
-/* Replaces bytes from a place on by others. */
+/* Replaces the bytes from `from` to `to` by others. */
 static void splice(struct bytes *bytes, size_t from, size_t to, const uint8_t *at, size_t length) {
     struct bytes made = {memory(NULL, bytes->length - (to - from) + length), 0};
     memcpy(made.at, bytes->at, from);
@@ -91,7 +91,7 @@ static void spoil_once(struct bytes *bytes, uint64_t *random) {
         splice(bytes, 0, 0, noise, 1);
 }
 
-/* Other bytes than those that are given, and not far from them. */
+/* Returns a copy with one or a few spoilt places, which differs from the given bytes. */
 static struct bytes spoilt(const struct bytes *given, uint64_t *random) {
     struct bytes made = bytes_of(given->at, given->length);
     size_t times = 1 + random_below(random, 3);
@@ -100,7 +100,7 @@ static struct bytes spoilt(const struct bytes *given, uint64_t *random) {
     return made;
 }
 
-/* Takes all that a recovery made, in turn. */
+/* Takes all messages that an actor made, in order. */
 static struct messages all_messages(struct volume_handle *actor) {
     struct messages list = {0};
     struct bytes message;
@@ -116,7 +116,7 @@ static void take_all(struct volume_handle *client, const struct messages *list) 
         DO(volume_client_take(client, list->at[i].at, list->at[i].length));
 }
 
-/* Makes a recovery that took the first report. */
+/* Makes a recovery and passes it the first report. */
 static void make_recovery(struct spoiling *spoiling, struct volume_handle *out) {
     struct recovering *of = &spoiling->recovering;
     volume_close(out);
@@ -126,7 +126,7 @@ static void make_recovery(struct spoiling *spoiling, struct volume_handle *out) 
     DO(volume_client_take(out, of->reports.at[0].at, of->reports.at[0].length));
 }
 
-/* Gives a recovery all reports, and cuts: returns the Installs. */
+/* Passes a recovery all reports, and cuts. Returns the Installs. */
 static struct messages installs(struct spoiling *spoiling, struct volume_handle *recovery) {
     take_all(recovery, &spoiling->recovering.reports);
     DO(volume_recovery_cut(recovery));
@@ -150,7 +150,7 @@ static void resume_segment(struct spoiling *spoiling, int which) {
         spoiling->snapshots[which].length, &spoiling->segments[which]));
 }
 
-/* Gives a message to all nodes; adds what they answer to a list. */
+/* Passes a message to all nodes, and adds their answers to a list. */
 static void answers_of_all(struct spoiling *spoiling, const struct bytes *message, struct messages *list) {
     for (uint8_t member = 0; member < MEMBERS; member++) {
         struct volume_handle *segment = &spoiling->cluster.nodes[member].segment;
@@ -165,7 +165,7 @@ static void answers_of_all(struct spoiling *spoiling, const struct bytes *messag
     }
 }
 
-/* What a recovery takes that comes after the run. */
+/* Makes a recovery after the run, and keeps the messages that it takes and makes. */
 static void recovery_after(struct spoiling *spoiling) {
     struct cluster *cluster = &spoiling->cluster;
     struct recovering *of = &spoiling->recovering;
@@ -205,12 +205,12 @@ static void begin(struct spoiling *spoiling, const struct bytes *plan) {
     recovery_after(spoiling);
 }
 
-/* What takes the message: a segment, the writer or the recovery. */
+/* Returns the actor that takes the message: a segment, the writer or the recovery. */
 static struct volume_handle *target_of(struct spoiling *spoiling, int target) {
     return target < 2 ? &spoiling->segments[target] : target == 2 ? &spoiling->writer : &spoiling->recovery;
 }
 
-/* Checks that the target is as it was. */
+/* Checks that a refused message didn't change the target. */
 static void is_unchanged(struct spoiling *spoiling, int target) {
     struct volume_handle *actor = target_of(spoiling, target);
     struct bytes none;
@@ -234,7 +234,7 @@ static void is_unchanged(struct spoiling *spoiling, int target) {
     }
 }
 
-/* Makes the target as it was before it took a message. */
+/* Makes the target again, as it was before it took a message. */
 static void make_anew(struct spoiling *spoiling, int target) {
     if (target < 2)
         resume_segment(spoiling, target);
@@ -244,7 +244,7 @@ static void make_anew(struct spoiling *spoiling, int target) {
         make_recovery(spoiling, &spoiling->recovery);
 }
 
-/* The recovery goes on as one does that no spoilt message reached. */
+/* Checks that the recovery makes the same Installs as one that no spoilt message reached. */
 static void go_on(struct spoiling *spoiling) {
     struct messages made = installs(spoiling, &spoiling->recovery);
     WANT(made.count == spoiling->recovering.installs.count);
@@ -279,7 +279,7 @@ static void spoilt_message(struct spoiling *spoiling) {
     free_bytes(&message);
 }
 
-/* Resumes from spoilt bytes. What is still a snapshot is written as it was read. */
+/* Resumes from spoilt bytes. If they are still a snapshot, the resumed actor must write the same bytes. */
 static uint8_t spoilt_snapshot(struct spoiling *spoiling, uint8_t member) {
     struct cluster *cluster = &spoiling->cluster;
     struct volume_handle out = {0};

@@ -110,16 +110,26 @@ bool next_message(struct volume_handle *actor, struct bytes *out) {
     return true;
 }
 
-struct bytes segment_snapshot(struct volume_handle *segment) {
-    struct bytes made = {memory(NULL, 4096), 4096};
-    size_t needed = 0;
-    uint8_t status = volume_segment_snapshot(segment, made.at, made.length, &needed);
-    if (status == VOLUME_TOO_SMALL) {
-        made.at = memory(made.at, needed);
-        status = volume_segment_snapshot(segment, made.at, needed, &needed);
+struct bytes snapshot_bytes(struct volume_handle *snapshot, size_t room) {
+    struct bytes made = {0};
+    uint8_t *piece = memory(NULL, room);
+    size_t written = 0;
+    uint8_t status;
+    while ((status = volume_snapshot_read(snapshot, piece, room, &written)) == VOLUME_OK) {
+        WANT(written > 0 && written <= room);
+        append(&made, piece, written);
     }
-    DO(status);
-    made.length = needed;
+    GIVES(VOLUME_NO_MORE, status);
+    WANT(written == 0);
+    free(piece);
+    return made;
+}
+
+struct bytes segment_snapshot(struct volume_handle *segment) {
+    struct volume_handle snapshot = {0};
+    DO(volume_segment_snapshot(segment, &snapshot));
+    struct bytes made = snapshot_bytes(&snapshot, 4096);
+    volume_close(&snapshot);
     return made;
 }
 

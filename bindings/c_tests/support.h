@@ -80,6 +80,9 @@ uint64_t seeded(uint64_t seed);
 /* Takes the next message that an actor made; returns whether there was one. */
 bool next_message(struct volume_handle *actor, struct bytes *out);
 
+/* What is left of a snapshot, read into a buffer of so many bytes, again and again. */
+struct bytes snapshot_bytes(struct volume_handle *snapshot, size_t room);
+
 struct bytes segment_snapshot(struct volume_handle *segment);
 struct bytes authority_snapshot(struct volume_handle *authority);
 

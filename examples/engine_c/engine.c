@@ -1,5 +1,5 @@
-/* An engine over the volume's library: six segments, a writer that fails, a recovery, and a member that is replaced, over
- * a transport in memory that loses, repeats and reorders messages. Each node has a disk of its own, a snapshot and a log,
+/* An engine over the volume's library: six segments, a writer that fails, a recovery, and a member that is replaced.
+ * Its transport, in memory, loses, repeats and reorders messages. Each node has its own disk, a snapshot and a log,
  * from which it is resumed. docs/EMBEDDING.md says which call comes when.
  *
  *     engine PLAN GROWING SEED
@@ -24,13 +24,13 @@ enum { MEMBERS = 7, BLOCKS = 4, BLOCK = 512 };
     } while (0)
 #define DO(call) expect((call), 0, __LINE__, #call)
 
-/* Bytes that own their memory. */
+/* Bytes on the heap. */
 struct bytes {
     uint8_t *at;
     size_t length;
 };
 
-/* Messages on their way, each to a member, or to the client (member 255). */
+/* A message on its way to a member, or to the client (255). */
 struct letter {
     uint8_t to;
     struct bytes bytes;
@@ -41,7 +41,7 @@ struct letters {
     size_t count, room;
 };
 
-/* A node: its segment, and its disk. */
+/* A node: its segment and its disk. */
 struct node {
     struct volume_handle segment;
     struct bytes snapshot;
@@ -50,10 +50,10 @@ struct node {
 
 static struct volume_handle plan, authority, client;
 static struct node nodes[MEMBERS];
-static struct letters wire; /* what is on its way */
+static struct letters wire; /* the messages on their way */
 static struct letters kept; /* what the client sent, to be sent again */
-static struct letters steps; /* the steps of membership, which a node may miss as any message */
-static uint8_t pages[BLOCKS][BLOCK]; /* what the blocks must be at the durable point */
+static struct letters steps; /* the StepTo messages, which may be lost like any other */
+static uint8_t pages[BLOCKS][BLOCK]; /* the bytes that the blocks must have at the durable point */
 static uint32_t volume_epoch = 1;
 static uint32_t acknowledged[MEMBERS]; /* the volume epoch of each member's last acknowledgement */
 static struct bytes last_page;
@@ -108,7 +108,8 @@ static uint32_t number_at(const uint8_t *at) {
     return (uint32_t)at[0] << 24 | (uint32_t)at[1] << 16 | (uint32_t)at[2] << 8 | at[3];
 }
 
-/* Puts a message on the wire: for the client that it names, or for the members of the group. */
+/* Puts a message on the wire. Reports, Acks and Pages go to the client of the present volume epoch, all others to each
+ * member but the sender. */
 static void post(const uint8_t *at, size_t length, uint8_t from) {
     switch (at[1]) {
     case REPORT:
@@ -117,7 +118,7 @@ static void post(const uint8_t *at, size_t length, uint8_t from) {
         if (number_at(at + 3) == volume_epoch)
             add(&wire, 255, at, length);
         return;
-    case PAGE_ASK: /* any member that holds all up to the point may answer; ask one after the other */
+    case PAGE_ASK: /* sent to all: any member that is complete up to the point may answer */
     default:
         for (uint8_t member = 0; member < MEMBERS; member++)
             if (member != from)
@@ -125,7 +126,7 @@ static void post(const uint8_t *at, size_t length, uint8_t from) {
     }
 }
 
-/* Takes all messages that an actor made, and sends them. Those of the client and the authority are kept. */
+/* Sends all messages that an actor made. Keeps those of the client and the authority, to send them again. */
 static void send_all(struct volume_handle *handle, uint8_t from) {
     for (;;) {
         size_t needed;
@@ -143,17 +144,23 @@ static void send_all(struct volume_handle *handle, uint8_t from) {
     }
 }
 
+/* A snapshot goes to the disk piece by piece. */
 static void save(struct node *node) {
-    size_t needed;
-    uint8_t none[1];
-    expect(volume_segment_snapshot(&node->segment, none, 0, &needed), VOLUME_TOO_SMALL, __LINE__, "a snapshot's length");
-    free(node->snapshot.at);
-    node->snapshot = (struct bytes){memory(NULL, needed), needed};
-    DO(volume_segment_snapshot(&node->segment, node->snapshot.at, needed, &needed));
+    struct volume_handle snapshot = {0};
+    uint8_t piece[512];
+    size_t written;
+    DO(volume_segment_snapshot(&node->segment, &snapshot));
+    node->snapshot.length = 0;
+    while (volume_snapshot_read(&snapshot, piece, sizeof piece, &written) == 0) {
+        node->snapshot.at = memory(node->snapshot.at, node->snapshot.length + written);
+        memcpy(node->snapshot.at + node->snapshot.length, piece, written);
+        node->snapshot.length += written;
+    }
+    volume_close(&snapshot);
     clear(&node->log);
 }
 
-/* The messages in one buffer, each behind its length. */
+/* Returns the messages in one buffer, each after its length. */
 static struct bytes frame_of(const struct letters *list) {
     struct bytes frame = {memory(NULL, 0), 0};
     for (size_t i = 0; i < list->count; i++) {
@@ -168,7 +175,7 @@ static struct bytes frame_of(const struct letters *list) {
     return frame;
 }
 
-/* The node's memory is gone, and its disk stays: the segment is what it was, but for pieces. */
+/* Restarts a node from its disk, and checks that its segment has the same state. */
 static void crash(uint8_t member) {
     struct node *node = &nodes[member];
     struct volume_segment_state before = {0}, after = {0};
@@ -187,7 +194,7 @@ static void crash(uint8_t member) {
     free(frame.at);
 }
 
-/* Gives a message to whom it is for. A node logs it before its answers leave. */
+/* Delivers a message. A node logs it before it sends its answers. */
 static void deliver(const struct letter *letter) {
     uint8_t status;
     if (letter->to == 255) {
@@ -212,7 +219,7 @@ static void deliver(const struct letter *letter) {
     refused += status != 0;
 }
 
-/* Delivers what is on its way, in any order; one in eight is lost, one in eight comes twice. */
+/* Delivers the messages on the wire in random order. One in eight is lost, and one in eight is repeated. */
 static void pump(void) {
     while (wire.count > 0) {
         size_t i = next_random() % wire.count;
@@ -225,14 +232,14 @@ static void pump(void) {
             repeated += fate == 1;
         }
         if (fate != 1) {
-            /* its place may have moved: those that came meanwhile stand behind it */
+            /* `deliver` only appends to the list, so the message still has index i */
             wire.at[i] = wire.at[--wire.count];
             free(letter.bytes.at);
         }
     }
 }
 
-/* Sends again all that the client and the authority sent, as an engine does after a while. */
+/* Sends again all that the client and the authority sent, as an engine does after a timeout. */
 static void again(void) {
     for (size_t i = 0; i < steps.count; i++)
         post(steps.at[i].bytes.at, steps.at[i].bytes.length, 255);
@@ -248,7 +255,7 @@ static struct volume_change change_of(uint32_t block, uint16_t offset, uint8_t v
     return change;
 }
 
-/* The least complete point of all members. */
+/* Returns the least complete point of all members. */
 static uint64_t lowest_scl(void) {
     uint64_t lowest = UINT64_MAX;
     for (uint8_t member = 0; member < MEMBERS; member++) {
@@ -259,14 +266,14 @@ static uint64_t lowest_scl(void) {
     return lowest;
 }
 
-/* Sends the records again that some member lacks. */
+/* Sends again the records that some member lacks. */
 static void fill_gaps(uint64_t last) {
     for (uint64_t lsn = lowest_scl() + 1; lsn <= last; lsn++)
         if (volume_writer_resend(&client, lsn) == 0)
             send_all(&client, 255);
 }
 
-/* Commits two changes, and waits until that is durable. */
+/* Commits two changes, and waits until the commit is durable. */
 static void commit(void) {
     struct volume_change changes[2];
     struct volume_points points;
@@ -290,7 +297,7 @@ static void commit(void) {
     clear(&kept);
 }
 
-/* Reads a block as the writer does, and from a segment that holds all up to the durable point. */
+/* Reads a block through the writer, and from each segment that is complete up to the durable point. */
 static void read_block(uint32_t block) {
     struct volume_points points;
     bool read = false;
@@ -314,7 +321,7 @@ static void read_block(uint32_t block) {
     WANT(read);
 }
 
-/* Gossip fills the gaps of those that missed a record. */
+/* Each member that holds the record offers it to the others. */
 static void gossip(uint64_t lsn) {
     for (uint8_t member = 0; member < MEMBERS; member++)
         if (volume_segment_offer(&nodes[member].segment, lsn) == 0)
@@ -326,7 +333,7 @@ static void save_authority(uint8_t *disk, size_t *length) {
     DO(volume_authority_snapshot(&authority, disk, 40, length));
 }
 
-/* Hands the authority's View to the client that is there. */
+/* Hands a new View of the authority to the client. */
 static void refresh(void) {
     size_t needed;
     uint8_t view[60];
@@ -371,14 +378,14 @@ static void write_some(int commits) {
     printf("written: durable %llu, start %llu\n", (unsigned long long)points.durable, (unsigned long long)points.start);
 }
 
-/* The writer is heard of no more; a recovery finds what it acknowledged, and becomes the next writer. */
+/* The writer fails. A recovery finds what it acknowledged, and becomes the next writer. */
 static void recover(void) {
     struct volume_points old, points;
     struct volume_change lone = change_of(0, 0, 1);
     uint8_t view[60], disk[40];
     size_t needed, length;
     DO(volume_writer_points(&client, &old));
-    DO(volume_writer_issue(&client, &lone, 1)); /* it reaches nobody */
+    DO(volume_writer_issue(&client, &lone, 1)); /* its Write is never sent */
     volume_close(&client);
     clear(&kept);
     DO(volume_authority_assign(&authority));
@@ -399,7 +406,7 @@ static void recover(void) {
         again();
     DO(volume_writer_points(&client, &points));
     WANT(points.durable == old.durable && points.last == old.last && points.start > old.last);
-    /* a write quorum has the log; send it to the others too, before another member fails or is replaced */
+    /* a write quorum has the log; the others get it too before another member fails or is replaced */
     for (uint8_t member = 0; member < 6; member++)
         while (acknowledged[member] < volume_epoch)
             again();
@@ -407,7 +414,7 @@ static void recover(void) {
     printf("recovered: volume epoch %u, durable %llu\n", (unsigned)volume_epoch, (unsigned long long)points.durable);
 }
 
-/* Whether the members that are whole can read a configuration of the group. */
+/* Returns whether the members that are whole satisfy the configuration's read expression. */
 static bool may_advance(uint32_t configuration) {
     struct volume_readiness readiness;
     uint8_t whole[MEMBERS];
@@ -422,7 +429,7 @@ static bool may_advance(uint32_t configuration) {
     return readiness.can_read;
 }
 
-/* The authority leads the group to a configuration; the nodes and the writer follow. */
+/* Advances the group to a configuration, and tells the nodes and the writer. */
 static void advance(uint32_t configuration) {
     uint8_t disk[40];
     size_t length;
@@ -434,13 +441,13 @@ static void advance(uint32_t configuration) {
     refresh();
 }
 
-/* Member 6 comes in the place of member 5, by way of a configuration of both. */
+/* Replaces member 5 by member 6, through a configuration that has both. */
 static void replace(void) {
     uint8_t hydrated = VOLUME_NOT_ENOUGH;
     advance(1);
     commit();
     for (int tries = 0; tries < 100 && hydrated != 0; tries++) {
-        /* the new member asks those of the group for copies, again and again */
+        /* the new member asks the other members for copies */
         static const uint8_t ask[] = {1, COPY_ASK, 0, 0, 0, 0, 2};
         post(ask, sizeof ask, 6);
         again();
@@ -458,7 +465,7 @@ static void replace(void) {
     printf("replaced: member 6 is whole, and stands in the place of member 5\n");
 }
 
-/* The mistakes that the library finds. */
+/* Makes mistakes that the library must refuse. */
 static void mistakes(const uint8_t *text, size_t length) {
     struct volume_handle none = {0};
     struct volume_change much = {.length = 65};
@@ -497,7 +504,7 @@ static struct bytes read_file(const char *name) {
     return made;
 }
 
-/* A group joins a volume that is written to. */
+/* A group joins while the volume has a writer. */
 static void grow(const struct bytes *text) {
     struct volume_handle own = {0}, writer = {0}, grown = {0};
     uint8_t line[100], view[60];

@@ -1,10 +1,10 @@
-/* The authority of the volume: it assigns volume epochs, advances groups and lets them join.
+/* The authority of the volume: it assigns volume epochs, advances groups and lets new groups join.
  *
  *     volume_authority --cluster FILE --dir FOLDER [--new]
  *
- * Its state is on the disk before an answer leaves: `authority` is VAUT, length 4 and bytes of the snapshot, and of
- * each group the length 4 and bytes of its last StepTo; and the checksum 4 of all before. Nodes ask for the StepTos.
- */
+ * It writes its state to the disk before it answers. The file `authority` (a number is a field's bytes): VAUT; length
+ * 4 and bytes of the snapshot; for each group, length 4 and bytes of its last StepTo; checksum 4 of all before. Nodes
+ * ask for the StepTos. */
 #include "cluster.h"
 #include "net.h"
 
@@ -51,7 +51,7 @@ static size_t snapshot_of(struct authority *authority, uint8_t out[SNAPSHOT_ROOM
     return length;
 }
 
-/* Puts the state on the disk; where it can't, nothing leaves, and the next start has the old state. */
+/* Writes the state to the disk. Ends the program if it can't, before an answer is sent: the disk has the old state. */
 static void save(struct authority *authority) {
     struct buffer all = {0};
     uint8_t bytes[SNAPSHOT_ROOM], sum[SUM];
@@ -69,7 +69,7 @@ static void save(struct authority *authority) {
     buffer_free(&all);
 }
 
-/* Takes the next item of the file; false where there is none. */
+/* Reads the next item of the file. Returns false if there is none. */
 static bool take_item(const struct buffer *all, size_t *place, const uint8_t **at, size_t *length) {
     size_t left = all->length - SUM - *place;
     if (left < 4 || left - 4 < get32(all->at + *place))
@@ -98,7 +98,7 @@ static bool take_state(struct authority *authority, const struct buffer *all) {
     return place == all->length - SUM;
 }
 
-/* Reads the state; false where there is none. */
+/* Reads the state. Returns false if there is none. */
 static bool load(struct authority *authority) {
     struct buffer all = {0};
     char *path = path_in(authority->folder, "authority");
@@ -122,7 +122,7 @@ static bool take_message(struct authority *authority) {
     return taken;
 }
 
-/* Answers with the View that the authority made. */
+/* Sends the View that the authority made. */
 static void send_view(struct authority *authority, struct peer *peer) {
     if (take_message(authority))
         net_send(peer, FRAME_MESSAGE, 0, 0, authority->message.at, authority->message.length);
@@ -179,7 +179,7 @@ static void send_places(struct authority *authority, struct peer *peer) {
     net_send(peer, FRAME_PLACES, 0, 0, bytes, length);
 }
 
-/* Answers a call that has no message of its own. */
+/* Answers a call with a status. */
 static void answer(struct peer *peer, const struct frame *frame, uint8_t status) {
     net_send(peer, status == VOLUME_OK ? FRAME_DONE : FRAME_REFUSED, frame->group, status, NULL, 0);
 }
@@ -222,7 +222,7 @@ static void lock_folder(const char *folder) {
     int fd = path ? open(path, O_RDWR | O_CREAT | O_CLOEXEC, 0644) : -1;
     if (fd < 0)
         fail("%s: %s", folder, strerror(errno));
-    if (flock(fd, LOCK_EX | LOCK_NB) != 0) /* it stays open as long as the process lives */
+    if (flock(fd, LOCK_EX | LOCK_NB) != 0) /* `fd` stays open while the process runs */
         fail("%s: another process has this folder", folder);
     free(path);
 }

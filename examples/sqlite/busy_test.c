@@ -1,8 +1,8 @@
-/* Two connections of one process, each in a thread of its own: the second is told BUSY, and waits where it may.
+/* Two connections of one process, each in its own thread: the second gets SQLITE_BUSY, or waits if it has a timeout.
  *
  *     busy_test VFS URI
  *
- * Prints what the shell test compares with a run on a local file; VFS is `-` there. */
+ * The shell test compares its output with that of a run on a local file, for which VFS is `-`. */
 #include <sqlite3.h>
 
 #include <pthread.h>
@@ -42,7 +42,7 @@ static int number_of(sqlite3 *database, const char *text) {
     return number;
 }
 
-/* Adds to the counter, again and again; waits while the other connection writes. */
+/* Adds to the counter in many transactions, and waits while the other connection writes. */
 static void *add(void *unused) {
     sqlite3 *database = opened();
     sqlite3_busy_timeout(database, PATIENCE);
@@ -52,7 +52,7 @@ static void *add(void *unused) {
     return unused;
 }
 
-/* Holds the lock for a while. */
+/* Holds the lock for HELD microseconds, then commits. */
 static void *hold(void *database) {
     usleep(HELD);
     run(database, "COMMIT");

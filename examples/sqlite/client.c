@@ -5,16 +5,16 @@
 #include <string.h>
 
 enum {
-    TURN = 10,          /* milliseconds, at most, between two looks at what is due */
-    REFRESH_EACH = 100, /* between two questions for the View */
-    ASSIGN_EACH = 2000, /* between two questions for a volume epoch, each of which assigns another one */
-    PAGE_WAIT = 100,    /* for a member's page, before another one is asked */
-    LINGER = 100,       /* for slow members, at the end */
+    TURN = 10,          /* milliseconds between two checks of what is due, at most */
+    REFRESH_EACH = 100, /* between two requests for the View */
+    ASSIGN_EACH = 2000, /* between two requests for a volume epoch; each request assigns a new one */
+    PAGE_WAIT = 100,    /* for a member's page, before another member is asked */
+    LINGER = 100,       /* for slow members, before the client closes */
     LONG_FRAME = 1 << 16,
-    PUMP_EACH = 16, /* transactions between two looks at the sockets */
+    PUMP_EACH = 16, /* transactions between two polls of the sockets */
 };
 
-/* What keeps a client from going on, or CLIENT_OK. A full segment doesn't keep it from reading. */
+/* Returns the reason why a client can't go on, or CLIENT_OK. A full segment isn't one: the client can still read. */
 static enum client_result trouble(const struct client *client) {
     if (client->fenced && !testing_fault("ignores-fence"))
         return CLIENT_FENCED;
@@ -33,7 +33,7 @@ static void note_status(struct client *client, uint8_t status, const char *call)
     }
 }
 
-/* Goes on with the recovery where what it waits for may have come. */
+/* Tries the recovery's next step, the cut or the opening, if a message came since the last try. */
 static void step(struct client *client) {
     uint8_t status;
     if (!client->changed || (client->stage == FENCING && now_ms() < client->hold_until))
@@ -56,7 +56,7 @@ static void step(struct client *client) {
         note_status(client, status, "the recovery");
 }
 
-/* Asks the authority for a volume epoch, or for a View with later places. */
+/* Asks the authority for a volume epoch, or for a View with the groups' present places. */
 static void ask_for_view(struct client *client) {
     uint8_t epoch[4];
     if (client->stage == ASKING && client->authority->fd >= 0 && now_ms() >= client->assign_at) {
@@ -70,7 +70,7 @@ static void ask_for_view(struct client *client) {
     net_send(client->authority, FRAME_REFRESH, 0, 0, epoch, sizeof epoch);
 }
 
-/* A Report that is coming is progress: it may have a hundred megabytes. */
+/* Counts a long frame that is still arriving as progress: a Report may have a hundred megabytes. */
 static void note_long_frames(struct client *client) {
     for (int member = 0; member < MEMBERS; member++) {
         const struct peer *node = client->nodes[member];
@@ -79,7 +79,7 @@ static void note_long_frames(struct client *client) {
     }
 }
 
-/* One look at the sockets: sends what is due, waits at most so long, and takes what comes. */
+/* Polls the sockets once: sends what is due, waits up to `timeout` milliseconds, and takes what comes. */
 static void pump(struct client *client, uint64_t timeout) {
     serve_all(client);
     ask_for_view(client);
@@ -91,7 +91,7 @@ static void pump(struct client *client, uint64_t timeout) {
     net_flush(&client->net);
 }
 
-/* A View for this client: the one of its assignment, or one with later places. */
+/* Takes a View: that of the client's assignment, or a later one with new places. */
 static void take_view(struct client *client, const struct frame *frame) {
     uint8_t status;
     if (client->stage == ASKING) {
@@ -162,7 +162,7 @@ static void on_connect(struct net *net, struct peer *peer) {
         client->assign_at = client->refresh_at = 0;
 }
 
-/* Makes the recovery of the View that the authority assigned. */
+/* Begins the recovery with the View of the client's assignment. */
 static bool begin_recovery(struct client *client) {
     uint8_t status = volume_recovery_new(&client->plan, client->view.at, client->view.length, &client->handle);
     if (status != VOLUME_OK) {
@@ -189,7 +189,7 @@ static bool dial(struct client *client) {
     return good;
 }
 
-/* Whether there was progress of late. */
+/* Returns whether there was progress within `timeout`. */
 static bool is_patient(const struct client *client) { return now_ms() < client->progress + client->timeout; }
 
 /* Waits for the assignment, and then for the recovery. */
@@ -284,7 +284,7 @@ enum client_result client_sync(struct client *client) {
     }
 }
 
-/* The member to ask for a page next, among those that are connected; -1 where none is. */
+/* Returns the next connected member to ask for pages, or -1 if none is connected. */
 static int next_reader(struct client *client) {
     for (int i = 1; i <= MEMBERS; i++) {
         int member = (client->reader + i) % MEMBERS;
@@ -301,7 +301,7 @@ static bool all_came(const struct client *client) {
     return true;
 }
 
-/* Asks one member for the blocks that haven't come; returns whether all have come then. */
+/* Asks `reader` for the blocks that haven't come; returns whether all have come. */
 static bool ask_reader(struct client *client) {
     struct peer *node = client->nodes[client->reader];
     uint64_t until = now_ms() + PAGE_WAIT;
@@ -337,7 +337,7 @@ enum client_result client_read(struct client *client, struct wanted *wanted, siz
         }
         int next = next_reader(client);
         if (next < 0 || next <= client->reader)
-            pump(client, TURN); /* all were asked */
+            pump(client, TURN); /* all members were asked */
         client->reader = next < 0 ? client->reader : next;
     }
     client->wanted_count = 0;

@@ -6,7 +6,7 @@
 #include <stdlib.h>
 #include <string.h>
 
-/* The part of a line without spaces around it; changes the line. */
+/* Strips the spaces at both ends of a line, in place. */
 static char *trimmed(char *at) {
     while (isspace((unsigned char)*at))
         at++;
@@ -16,7 +16,7 @@ static char *trimmed(char *at) {
     return at;
 }
 
-/* The text between two quotes, or NULL. */
+/* Strips the quotes of a text, in place; returns NULL if it isn't quoted. */
 static char *unquoted(char *at) {
     size_t length = strlen(at);
     if (length < 2 || at[0] != '"' || at[length - 1] != '"')
@@ -25,7 +25,7 @@ static char *unquoted(char *at) {
     return at + 1;
 }
 
-/* The address of a value: a socket's path is relative to the cluster file's folder. */
+/* Makes an address from a value: a socket's path is relative to the cluster file's folder. */
 static char *address_of(const struct cluster *cluster, const char *value) {
     if (strncmp(value, "unix:", 5) != 0)
         return strdup(value);
@@ -37,7 +37,7 @@ static char *address_of(const struct cluster *cluster, const char *value) {
     return made;
 }
 
-/* The place in which a key's value is kept, or NULL for a key that isn't one. */
+/* Returns where a key's value is kept, or NULL for an unknown key. */
 static char **place_of(struct cluster *cluster, const char *key) {
     if (strcmp(key, "plan") == 0)
         return &cluster->plan;
@@ -50,7 +50,7 @@ static char **place_of(struct cluster *cluster, const char *key) {
     return *end == 0 && member < MEMBERS ? &cluster->nodes[member] : NULL;
 }
 
-/* Takes a line; returns what is wrong with it, or NULL. */
+/* Reads a line; returns its fault, or NULL. */
 static const char *take_line(struct cluster *cluster, char *line) {
     line = trimmed(line);
     if (*line == 0 || *line == '#')

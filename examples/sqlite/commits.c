@@ -1,8 +1,8 @@
-/* Measures commits: prints how many a second, and the processor time of this process for each.
+/* Measures commits: prints how many this process makes a second, and its processor time for each.
  *
  *     commits VFS URI ROWS COMMITS [JOURNAL_MODE]
  *
- * Each commit inserts so many rows of some 40 bytes. VFS is `-` for a local file, which has pages of 512 bytes too. */
+ * Each commit inserts ROWS rows of some 40 bytes. VFS is `-` for a local file, which also has pages of 512 bytes. */
 #include <sqlite3.h>
 
 #include <stdio.h>

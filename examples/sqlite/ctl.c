@@ -17,7 +17,7 @@
 
 enum { TURN = 20, CONNECT_WAIT = 300, ANSWER_WAIT = 5000, LOOK_EACH = 200, STATE_LENGTH = 26 };
 
-/* A node's segment of a group, as the node says. */
+/* The state of a node's segment of a group, from its answer. */
 struct segment_state {
     bool known, whole;
     uint32_t volume_epoch, membership;
@@ -34,7 +34,7 @@ struct ctl {
     bool placed; /* the authority answered */
     uint32_t volume_epoch;
     int joined, places[GROUPS];
-    int done; /* the result of a call of the authority; -1 before it */
+    int done; /* the status in the authority's answer; -1 until it comes */
     uint64_t began, deadline;
     bool urgent;
 };
@@ -76,7 +76,7 @@ static void pump(struct ctl *ctl) {
     net_flush(&ctl->net);
 }
 
-/* Whether all processes have answered that were asked, or may still be connected. */
+/* Returns whether all processes have answered that were asked or, with `may_connect`, may still connect. */
 static bool all_answered(const struct ctl *ctl, const bool asked[MEMBERS], bool authority_asked, bool may_connect) {
     for (int member = 0; member < MEMBERS; member++)
         if (ctl->nodes[member] && !ctl->answered[member] && (asked[member] || may_connect))
@@ -84,7 +84,7 @@ static bool all_answered(const struct ctl *ctl, const bool asked[MEMBERS], bool 
     return ctl->placed || !(authority_asked || may_connect);
 }
 
-/* Asks all processes for their states. */
+/* Asks all processes for their states, and waits for the answers. */
 static void look(struct ctl *ctl) {
     bool asked[MEMBERS] = {false}, authority_asked = false;
     uint64_t begin = now_ms();
@@ -106,7 +106,7 @@ static void look(struct ctl *ctl) {
              && !all_answered(ctl, asked, authority_asked, now_ms() < ctl->began + CONNECT_WAIT));
 }
 
-/* The greatest complete point that a member of a group has. */
+/* Returns the greatest complete point of a group's members. */
 static uint64_t furthest(const struct ctl *ctl, int group) {
     uint64_t most = 0;
     for (int member = 0; member < MEMBERS; member++)
@@ -150,7 +150,7 @@ static int status(struct ctl *ctl) {
     return ctl->placed ? 0 : 1;
 }
 
-/* Why a member isn't ready for a step from the group's present configuration; NULL where it is. */
+/* Returns why a member isn't ready for a step from the group's present configuration, or NULL if it is. */
 static const char *unready(const struct ctl *ctl, int group, int member, uint64_t point) {
     const struct segment_state *state = &ctl->states[member][group];
     if (!ctl->answered[member])
@@ -164,7 +164,7 @@ static const char *unready(const struct ctl *ctl, int group, int member, uint64_
     return state->complete < point && !ctl->urgent ? "lags" : NULL;
 }
 
-/* The first reason for which a step to a configuration isn't safe; NULL where it is. */
+/* Returns the first reason why a step to a configuration isn't safe, and its member; or NULL if it is safe. */
 static const char *unsafe(const struct ctl *ctl, int group, int to, uint64_t point, int *member) {
     uint64_t staying = ctl->plan.at[group][to].members & ctl->plan.at[group][ctl->places[group]].members;
     for (*member = 0; *member < MEMBERS; (*member)++)
@@ -176,8 +176,8 @@ static const char *unsafe(const struct ctl *ctl, int group, int to, uint64_t poi
     return NULL;
 }
 
-/* Waits until the members that stay are whole, have taken the last step, and hold what the group held at the
- * beginning. */
+/* Waits until the members of both configurations are whole, have taken the last step, and hold what the group held at
+ * the beginning. */
 static bool wait_until_safe(struct ctl *ctl, int group, int to) {
     const char *why = "the authority doesn't answer";
     int member = -1;
@@ -200,7 +200,7 @@ static bool wait_until_safe(struct ctl *ctl, int group, int to) {
     return false;
 }
 
-/* Calls the authority; returns the refusal's number, or -1 where it doesn't answer. */
+/* Calls the authority. Returns the status of its answer, or -1 if it doesn't answer. */
 static int call(struct ctl *ctl, uint8_t kind, uint8_t group, const void *body, size_t length) {
     uint32_t connects = 0;
     ctl->done = -1;
@@ -211,7 +211,7 @@ static int call(struct ctl *ctl, uint8_t kind, uint8_t group, const void *body, 
         }
         pump(ctl);
         if (connects != 0 && connects != ctl->authority->connects)
-            break; /* whether it was done isn't known: the operator looks at the status */
+            break; /* the connection was lost, so it isn't known whether the call was done */
     }
     return ctl->done;
 }
@@ -224,7 +224,7 @@ static void judge(int done, const char *what) {
         fail("%s: refusal %d %s", what, done, fault_name((uint8_t)done, name));
 }
 
-/* Waits until the answering members of a configuration have taken its step. */
+/* Waits until the members of a configuration that answer have taken its step. */
 static bool wait_until_taken(struct ctl *ctl, int group, int to) {
     uint32_t epoch = places_epoch(&ctl->plan, group, to);
     for (;;) {
@@ -269,7 +269,7 @@ static int advance(struct ctl *ctl, const char *group, const char *to) {
     return failed;
 }
 
-/* Whether a member is whole in each group whose configuration has it. */
+/* Returns whether a member is whole in each group whose configuration has it. */
 static bool is_whole(const struct ctl *ctl, int member) {
     bool somewhere = false;
     for (int group = 0; group < ctl->joined; group++)

@@ -13,7 +13,7 @@ static bool raise_to_shared(struct file_locks *locks, int *level) {
     return true;
 }
 
-/* Once it is pending no other connection comes to read; those that read finish. */
+/* With a pending lock no other connection starts to read; the lock becomes exclusive once the others have finished. */
 static bool raise_to_exclusive(struct file_locks *locks, const void *who, int *level) {
     if (is_others(locks->reserved, who) || is_others(locks->pending, who))
         return false;

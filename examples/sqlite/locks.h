@@ -4,19 +4,19 @@
 
 #include <stdbool.h>
 
-/* Who holds what; all zeros is a file without locks. */
+/* The holders of each lock. All zeros is a file without locks. */
 struct file_locks {
     int shared;
     const void *reserved, *pending, *exclusive;
 };
 
-/* Raises the lock of a connection; false where another one is in the way. */
+/* Raises a connection's lock. Returns false if another connection's lock prevents it. */
 bool locks_raise(struct file_locks *locks, const void *who, int *level, int wanted);
 
-/* Lowers the lock of a connection to shared or none. */
+/* Lowers a connection's lock to shared or none. */
 void locks_lower(struct file_locks *locks, const void *who, int *level, int wanted);
 
-/* Whether some connection will write. */
+/* Returns whether some connection holds a reserved, pending or exclusive lock. */
 bool locks_reserved(const struct file_locks *locks);
 
 #endif

@@ -11,7 +11,7 @@
 
 enum {
     SNAPSHOT_HEAD = 16,
-    SECTION_HEAD = 5,
+    PIECE_HEAD = 4,
     SUM = 4,
     BATCH_HEAD = 24,
     ENTRY_HEAD = 9,
@@ -41,16 +41,34 @@ void log_open(struct log *log, const char *folder) {
     free(path);
 }
 
-/* Gives the sections of a whole snapshot to a function; false where the bytes aren't one. */
-static bool sections_of(const uint8_t *at, size_t length, log_section *take, void *context) {
+/* Joins the pieces of a section in place. Returns the place after them, or 0 if they aren't whole. */
+static size_t joined(uint8_t *at, size_t length, size_t place, size_t *own) {
+    size_t first = place;
+    *own = 0;
+    while (length - place >= PIECE_HEAD) {
+        size_t piece = get32(at + place);
+        place += PIECE_HEAD;
+        if (piece == 0)
+            return place;
+        if (length - place < piece)
+            return 0;
+        memmove(at + first + *own, at + place, piece);
+        *own += piece;
+        place += piece;
+    }
+    return 0;
+}
+
+/* Calls `take` with each section of a snapshot. Returns false if the bytes aren't a whole snapshot. */
+static bool sections_of(uint8_t *at, size_t length, log_section *take, void *context) {
     uint32_t count = get32(at + 12);
     size_t place = SNAPSHOT_HEAD;
     for (uint32_t i = 0; i < count; i++) {
-        if (length - place < SECTION_HEAD || length - place - SECTION_HEAD < get32(at + place + 1))
+        size_t own, group = place;
+        place = length - place < 1 ? 0 : joined(at, length, place + 1, &own);
+        if (place == 0)
             return false;
-        size_t own = get32(at + place + 1);
-        take(context, at[place], at + place + SECTION_HEAD, own);
-        place += SECTION_HEAD + own;
+        take(context, at[group], at + group + 1, own);
     }
     return place == length;
 }
@@ -80,14 +98,14 @@ bool log_read_snapshot(struct log *log, log_section *take, void *context) {
     return true;
 }
 
-/* Whether a batch's head is whole at a place, and has this number. */
+/* Returns whether the bytes begin with a good head of the batch with this number. */
 static bool head_is_good(const uint8_t *at, size_t left, uint64_t number) {
     return left >= BATCH_HEAD && memcmp(at, BATCH_MARK, 4) == 0 && get64(at + 4) == number
         && checksum(at, BATCH_HEAD - SUM) == get32(at + BATCH_HEAD - SUM);
 }
 
-/* Whether the bytes after the last good batch are what a crash may leave: one batch that isn't whole. A later batch
- * was written only once that one was synced. */
+/* Returns whether the bytes after the last good batch can be the effect of a crash: one batch that isn't whole. None
+ * follows it, since a batch is written only after the one before it was synced. */
 static bool is_torn_tail(const uint8_t *at, size_t left, uint64_t number) {
     if (head_is_good(at, left, number))
         return get32(at + 12) >= left - BATCH_HEAD;
@@ -99,7 +117,7 @@ static bool is_torn_tail(const uint8_t *at, size_t left, uint64_t number) {
     return true;
 }
 
-/* Gives a batch's messages to a function; false where they are spoilt. */
+/* Calls `take`, if it isn't NULL, with each message of a batch. Returns false if they are spoilt. */
 static bool messages_of(const uint8_t *at, size_t length, log_section *take, void *context) {
     for (size_t place = 0; place < length;) {
         if (length - place < ENTRY_HEAD || length - place - ENTRY_HEAD < get32(at + place + 1))
@@ -115,7 +133,8 @@ static bool messages_of(const uint8_t *at, size_t length, log_section *take, voi
     return true;
 }
 
-/* How many bytes of a log are whole batches; counts them. Ends the program where what follows is no torn tail. */
+/* Returns how many bytes of a log are whole batches, and counts the batches in `log->batch`. Ends the program if the
+ * rest isn't a torn tail. */
 static size_t whole_batches(struct log *log, const struct buffer *bytes, const char *path) {
     size_t place = 0;
     for (;;) {
@@ -169,7 +188,7 @@ void log_add(struct buffer *body, uint8_t group, const uint8_t *bytes, size_t le
     (void)buffer_add(body, bytes, length);
 }
 
-/* Writes one batch behind the log. */
+/* Appends one batch to the log file. */
 static void write_batch(struct log *log, const struct buffer *body) {
     uint8_t head[BATCH_HEAD];
     if (body->length > UINT32_MAX)
@@ -201,7 +220,7 @@ void log_sync(struct log *log) {
     testing_synced(log->folder, log->generation, log->length);
 }
 
-/* Makes the log of the next generation. Until its snapshot stands, the old one counts. */
+/* Makes the log of the next generation. The old log counts until the new snapshot is written. Returns the old file. */
 static int new_log(struct log *log, uint64_t generation, const struct buffer *first) {
     char *path = log_path(log, generation);
     int old = log->fd;
@@ -217,27 +236,64 @@ static int new_log(struct log *log, uint64_t generation, const struct buffer *fi
     return old;
 }
 
-void log_snapshot(struct log *log, uint32_t count, const struct buffer *sections, const struct buffer *first) {
-    struct buffer all = {0};
-    uint8_t head[SNAPSHOT_HEAD], sum[SUM];
-    uint64_t generation = log->generation + 1;
-    memcpy(head, SNAPSHOT_MARK, 4);
-    put64(head + 4, generation);
-    put32(head + 12, count);
-    if (!buffer_reserve(&all, SNAPSHOT_HEAD + sections->length + SUM))
-        fail("out of memory");
-    (void)buffer_add(&all, head, SNAPSHOT_HEAD);
-    (void)buffer_add(&all, sections->at, sections->length);
-    put32(sum, checksum(all.at, all.length));
-    (void)buffer_add(&all, sum, SUM);
-    int old = new_log(log, generation, first);
-    if (!file_replace(log->folder, "snapshot", all.at, all.length))
+/* Writes bytes of the snapshot. */
+static void put_saved(struct log *log, const void *bytes, size_t length) {
+    log->sum = checksum_more(log->sum, bytes, length);
+    if (!write_all(log->saving, bytes, length))
         fail("%s: the snapshot can't be written: %s", log->folder, strerror(errno));
-    buffer_free(&all);
+}
+
+void log_begin_snapshot(struct log *log, uint32_t count) {
+    uint8_t head[SNAPSHOT_HEAD];
+    char *path = path_in(log->folder, "snapshot.new");
+    if (!path)
+        fail("out of memory");
+    log->saving = open(path, O_WRONLY | O_CREAT | O_TRUNC | O_CLOEXEC, 0644);
+    if (log->saving < 0)
+        fail("%s: %s", path, strerror(errno));
+    free(path);
+    log->sum = 0;
+    memcpy(head, SNAPSHOT_MARK, 4);
+    put64(head + 4, log->generation + 1);
+    put32(head + 12, count);
+    put_saved(log, head, sizeof head);
+}
+
+void log_begin_section(struct log *log, uint8_t group) { put_saved(log, &group, 1); }
+
+void log_add_piece(struct log *log, const uint8_t *bytes, size_t length) {
+    uint8_t head[PIECE_HEAD];
+    put32(head, (uint32_t)length);
+    put_saved(log, head, sizeof head);
+    put_saved(log, bytes, length);
+}
+
+void log_end_section(struct log *log) { log_add_piece(log, (const uint8_t *)"", 0); }
+
+/* Puts the snapshot that was written in the place of the old one. */
+static void replace_snapshot(struct log *log) {
+    char *fresh = path_in(log->folder, "snapshot.new"), *path = path_in(log->folder, "snapshot");
+    if (!fresh || !path)
+        fail("out of memory");
+    bool good = fsync(log->saving) == 0;
+    good = (close(log->saving) == 0) & good;
+    if (!good || rename(fresh, path) != 0 || !folder_sync(log->folder))
+        fail("%s: the snapshot can't be written: %s", log->folder, strerror(errno));
+    free(fresh);
+    free(path);
+}
+
+void log_end_snapshot(struct log *log, const struct buffer *first) {
+    uint8_t sum[SUM];
+    uint64_t generation = log->generation + 1;
+    put32(sum, log->sum);
+    put_saved(log, sum, sizeof sum);
+    int old = new_log(log, generation, first);
+    replace_snapshot(log);
     if (old >= 0) {
         char *path = log_path(log, log->generation);
         close(old);
-        (void)unlink(path); /* one that stays is never read: the snapshot names its log */
+        (void)unlink(path); /* a log that remains is never read: the snapshot has another generation */
         free(path);
     }
     log->generation = generation;

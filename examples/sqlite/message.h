@@ -1,4 +1,4 @@
-/* The fields of the volume's messages that a transport looks at; docs/WIRE.md lays them out. */
+/* The fields of the volume's messages that a transport reads; docs/WIRE.md has their layout. */
 #ifndef MESSAGE_H
 #define MESSAGE_H
 
@@ -24,7 +24,7 @@ enum {
     MEMBERS = 64,
     BLOCK = 512,
     SEGMENT_RECORDS = 1048576,
-    LABELLED = 11, /* the length of version, kind, group and label, with which most messages begin */
+    LABELLED = 11, /* most messages begin with version, kind, group and label, of this length */
     VIEW_PLACES = 10,
     PLACE = 5,
     ACK_LENGTH = 20,
@@ -38,7 +38,7 @@ static inline uint32_t message_membership(const uint8_t *at) { return get32(at +
 static inline uint8_t message_sender(const uint8_t *at) { return at[11]; }
 static inline uint64_t ack_complete_point(const uint8_t *at) { return get64(at + 12); }
 static inline uint16_t install_piece(const uint8_t *at) { return get16(at + 11); }
-/* How many records an Install's piece has, behind its lineage. */
+/* Returns how many records a piece of an Install has; the number follows its lineage. */
 static inline uint32_t install_records(const uint8_t *at) { return get32(at + 19 + 20 * (size_t)get32(at + 15)); }
 static inline uint64_t write_lsn(const uint8_t *at) { return get64(at + 11); }
 static inline uint32_t page_block(const uint8_t *at) { return get32(at + 12); }

@@ -16,8 +16,7 @@
 
 enum { DIAL_EACH = 50, SHORT_TURN = 20, READ_AT_ONCE = 1 << 16, READ_A_TURN = 1 << 20 };
 
-/* Makes a socket's calls return at once, and has a TCP socket send small frames at once (for others that is refused).
- */
+/* Makes a socket non-blocking, and sets TCP_NODELAY, which a Unix socket refuses. */
 static bool without_blocking(int fd) {
     int flags = fcntl(fd, F_GETFL), one = 1;
     (void)setsockopt(fd, IPPROTO_TCP, TCP_NODELAY, &one, sizeof one);
@@ -52,7 +51,7 @@ static int open_unix(const char *path, bool listens) {
     }
     memcpy(to.sun_path, path, strlen(path) + 1);
     if (listens)
-        unlink(path); /* one that a killed process left: its folder's lock says that the process is gone */
+        unlink(path); /* left by a killed process: this one holds the folder's lock, so no other runs */
     return opened(AF_UNIX, (struct sockaddr *)&to, sizeof to, listens);
 }
 
@@ -130,7 +129,7 @@ static void free_peer(struct peer *peer) {
     free(peer);
 }
 
-/* Closes the connections that broke; those that dialed us are gone then. */
+/* Closes the broken connections. Removes a peer whose connection is broken if it dialed us. */
 static void sweep(struct net *net) {
     size_t kept = 0;
     for (size_t i = 0; i < net->count; i++) {
@@ -174,7 +173,7 @@ static void accept_all(struct net *net) {
     }
 }
 
-/* Gives the whole frames that have come to `on_frame`. */
+/* Calls `on_frame` with each whole frame that has come. */
 static void hand_frames(struct net *net, struct peer *peer) {
     size_t at = 0;
     while (!peer->broken && peer->in.length - at >= FRAME_LENGTH) {
@@ -205,7 +204,7 @@ static void read_peer(struct net *net, struct peer *peer) {
         if (got < 0 && (errno == EAGAIN || errno == EINTR))
             break;
         if (got <= 0) {
-            hand_frames(net, peer); /* what came before the end */
+            hand_frames(net, peer); /* the frames that came before the end */
             peer->broken = true;
             return;
         }
@@ -218,7 +217,7 @@ static void read_peer(struct net *net, struct peer *peer) {
     hand_frames(net, peer);
 }
 
-/* Fills in what to poll; returns whether some peer has to be dialed soon. */
+/* Fills in the sockets to poll. Returns whether some peer isn't connected. */
 static bool polled(const struct net *net, struct pollfd *polls) {
     bool down = false;
     polls[0] = (struct pollfd){.fd = net->listener, .events = POLLIN};
@@ -265,7 +264,7 @@ static void flush_peer(struct peer *peer) {
         }
         peer->out_at += (size_t)put;
     }
-    if (peer->out_at > peer->out.length / 2) { /* so each byte is moved once at most */
+    if (peer->out_at > peer->out.length / 2) { /* only then, so that each byte is moved at most once */
         buffer_drop(&peer->out, peer->out_at);
         peer->out_at = 0;
     }
@@ -279,7 +278,7 @@ void net_flush(struct net *net) {
 
 size_t net_waiting(const struct peer *peer) { return peer->out.length - peer->out_at; }
 
-/* Appends a frame, whatever a test does to it. */
+/* Queues a frame; a test's faults were applied before. */
 static void append_frame(struct peer *peer, const uint8_t *head, const void *body, size_t length) {
     if (net_waiting(peer) + length > WAITING_MOST || !buffer_reserve(&peer->out, FRAME_LENGTH + FRAME_HEAD + length)) {
         peer->broken = true;

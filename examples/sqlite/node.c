@@ -2,7 +2,7 @@
  *
  *     volume_node --cluster FILE --member N --dir FOLDER [--plan FILE] [--listen ADDRESS] [--new]
  *
- * A message that a segment takes is in the synced log before an answer leaves; one sync serves all that came in a
+ * A message that a segment takes is in the synced log before its answers are sent. One sync serves all messages of a
  * turn. */
 #include "cluster.h"
 #include "log.h"
@@ -16,22 +16,23 @@
 #include <string.h>
 
 enum {
-    TURN = 100,         /* milliseconds between looks at the clock */
-    STEPS_EACH = 200,   /* between two questions for the authority's steps */
-    COPIES_EACH = 500,  /* between two questions for copies */
-    LOG_MOST = 8 << 20, /* a log longer than this and than twice the snapshot brings a new snapshot */
-    STATE_LENGTH = 26,  /* of a group in FRAME_STATE: group, whole, epochs 4 and 4, point 8, records 8 */
+    TURN = 100,         /* milliseconds that a turn waits for frames, at most */
+    STEPS_EACH = 200,   /* between two requests for the authority's steps */
+    COPIES_EACH = 500,  /* between two requests for copies */
+    LOG_MOST = 8 << 20, /* a log longer than this and than twice the snapshot is replaced by a new snapshot */
+    STATE_LENGTH = 26,  /* of a group in FRAME_STATE: group, whole, two epochs, complete point, records */
     SYNC_LATE = 1000,
+    PIECE = 1 << 16,    /* of a snapshot */
 };
 
 /* A segment of the node. */
 struct own_segment {
     struct volume_handle handle;
     bool whole;
-    bool installing;       /* it has some pieces of an Install: a snapshot would drop them */
-    struct buffer birth;   /* its snapshot at birth, as long as it isn't whole */
-    struct buffer carried; /* the messages that it took since its birth, as long as it isn't whole, as in the log */
-    struct buffer ask;     /* the CopyAsk that it made last */
+    bool installing;       /* it has some pieces of an Install, which a snapshot would drop */
+    struct buffer birth;   /* until it is whole: its first snapshot */
+    struct buffer carried; /* until it is whole: all messages that it took, in the log's form */
+    struct buffer ask;     /* its last CopyAsk */
     uint64_t ask_at;
 };
 
@@ -62,52 +63,67 @@ static bool take_message(struct volume_handle *handle, struct buffer *out) {
     return taken;
 }
 
-/* The bytes of a segment's snapshot. This drops the pieces of copies that it has: call it of whole or new ones alone.
- */
-static void snapshot_of(struct own_segment *segment, struct buffer *out) {
-    size_t needed = 0;
-    out->length = 0;
-    if (!buffer_reserve(out, 64))
+typedef void takes_piece(void *context, const uint8_t *bytes, size_t length);
+
+static void add_to_buffer(void *context, const uint8_t *bytes, size_t length) {
+    if (!buffer_add(context, bytes, length))
         fail("out of memory");
-    uint8_t status = volume_segment_snapshot(&segment->handle, out->at, out->room, &needed);
-    if (status == VOLUME_TOO_SMALL) {
-        if (!buffer_reserve(out, needed))
-            fail("out of memory");
-        status = volume_segment_snapshot(&segment->handle, out->at, out->room, &needed);
+}
+
+static void add_to_log(void *context, const uint8_t *bytes, size_t length) {
+    struct node *node = context;
+    log_add_piece(&node->log, bytes, length);
+    node->snapshot_length += length;
+}
+
+/* Calls `take` with each piece of a segment's snapshot. The segment drops the pieces of copies that it has, so it must be
+ * whole or new. */
+static void snapshot_of(struct own_segment *segment, takes_piece *take, void *context) {
+    static uint8_t piece[PIECE];
+    struct volume_handle snapshot = {0};
+    size_t written = 0;
+    uint8_t status = volume_segment_snapshot(&segment->handle, &snapshot);
+    while (status == VOLUME_OK) {
+        if (written > 0)
+            take(context, piece, written);
+        status = volume_snapshot_read(&snapshot, piece, sizeof piece, &written);
     }
-    if (status != VOLUME_OK)
+    if (status != VOLUME_NO_MORE)
         fail("a snapshot: refusal %u", status);
-    out->length = needed;
+    volume_close(&snapshot);
 }
 
-/* Puts all segments on the disk. One that isn't whole stays as it was at birth, and its messages begin the new log. */
-static void save(struct node *node) {
-    struct buffer sections = {0}, first = {0}, made = {0};
-    uint32_t count = 0;
-    for (uint8_t group = 0; group < GROUPS; group++) {
-        struct own_segment *segment = &node->segments[group];
-        uint8_t head[5] = {group};
-        const struct buffer *bytes = segment->whole ? &made : &segment->birth;
-        if (!segment->handle.live)
-            continue;
-        if (segment->whole) {
-            snapshot_of(segment, &made);
-            segment->installing = false; /* the pieces that it had are gone, and will be sent again */
-        }
-        put32(head + 1, (uint32_t)bytes->length);
-        if (!buffer_add(&sections, head, sizeof head) || !buffer_add(&sections, bytes->at, bytes->length)
-            || !buffer_add(&first, segment->carried.at, segment->carried.length))
-            fail("out of memory");
-        count++;
+/* Writes a segment to the new snapshot. One that isn't whole stays as it was at birth, and its messages begin the new log. */
+static void save_segment(struct node *node, uint8_t group, struct buffer *first) {
+    struct own_segment *segment = &node->segments[group];
+    log_begin_section(&node->log, group);
+    if (segment->whole) {
+        snapshot_of(segment, add_to_log, node);
+        segment->installing = false; /* the pieces that it had are gone, and will be sent again */
+    } else {
+        add_to_log(node, segment->birth.at, segment->birth.length);
     }
-    log_snapshot(&node->log, count, &sections, &first);
-    node->snapshot_length = sections.length;
-    buffer_free(&sections);
-    buffer_free(&first);
-    buffer_free(&made);
+    log_end_section(&node->log);
+    if (!buffer_add(first, segment->carried.at, segment->carried.length))
+        fail("out of memory");
 }
 
-/* Tries to make a segment whole; returns whether it became so now. */
+/* Writes a snapshot of all segments. */
+static void save(struct node *node) {
+    struct buffer first = {0};
+    uint32_t count = 0;
+    for (uint8_t group = 0; group < GROUPS; group++)
+        count += node->segments[group].handle.live;
+    node->snapshot_length = 0;
+    log_begin_snapshot(&node->log, count);
+    for (uint8_t group = 0; group < GROUPS; group++)
+        if (node->segments[group].handle.live)
+            save_segment(node, group, &first);
+    log_end_snapshot(&node->log, &first);
+    buffer_free(&first);
+}
+
+/* Tries to make a segment whole. Returns whether this call made it whole. */
 static bool becomes_whole(struct own_segment *segment) {
     uint8_t status = segment->whole ? VOLUME_ALREADY_WHOLE : volume_segment_hydrate(&segment->handle);
     if (status == VOLUME_NO_MEMORY)
@@ -130,13 +146,13 @@ static void birth(struct node *node) {
             continue;
         if (status != VOLUME_OK)
             fail("the segment of group %u: refusal %u", group, status);
-        snapshot_of(segment, &segment->birth);
+        snapshot_of(segment, add_to_buffer, &segment->birth);
         (void)becomes_whole(segment);
     }
     save(node);
 }
 
-/* A planted fault: the volume epoch that the snapshot promises becomes that of its lineage's last entry. */
+/* A planted fault: replaces the promised volume epoch by that of the lineage's last entry. */
 static void forget_promise(struct buffer *bytes) {
     enum { PROMISE = 2, LINEAGE = 20, ENTRY = 20 };
     if (bytes->length >= LINEAGE + 4 + ENTRY) {
@@ -163,7 +179,7 @@ static void resume_section(void *context, uint8_t group, const uint8_t *bytes, s
     buffer_free(&copy);
 }
 
-/* Keeps a CopyAsk that a segment made, which is sent again until the segment is whole. */
+/* Keeps a segment's CopyAsk, which is sent again until the segment is whole. */
 static void keep_ask(struct own_segment *segment, const struct buffer *message) {
     segment->ask.length = 0;
     if (!buffer_add(&segment->ask, message->at, message->length))
@@ -171,7 +187,7 @@ static void keep_ask(struct own_segment *segment, const struct buffer *message) 
     segment->ask_at = 0;
 }
 
-/* Notes whether the segment keeps pieces of an Install after a message: the last piece alone is answered. */
+/* Notes whether the segment has pieces of an unfinished Install after a message. Only the last piece is answered. */
 static void note_pieces(struct own_segment *segment, uint8_t kind, bool answered) {
     if (kind == INSTALL)
         segment->installing = !answered;
@@ -200,7 +216,7 @@ static void replay(void *context, uint8_t group, const uint8_t *bytes, size_t le
         log_add(&segment->carried, group, bytes, length);
 }
 
-/* Brings the segments back from the disk. */
+/* Replays the log on the segments of the snapshot. */
 static void resume(struct node *node) {
     log_read(&node->log, replay, node);
     bool fresh = false;
@@ -211,11 +227,11 @@ static void resume(struct node *node) {
         save(node);
 }
 
-/* A planted fault: a new member counts itself whole with the records of no other. */
+/* A planted fault: a new member becomes whole without the records of any other. */
 static void whole_too_early(struct node *node, struct own_segment *segment, uint8_t group) {
     enum { WHOLE = 11 };
     struct buffer made = {0};
-    snapshot_of(segment, &made);
+    snapshot_of(segment, add_to_buffer, &made);
     made.at[WHOLE] = 1;
     volume_close(&segment->handle);
     if (volume_segment_resume(&node->plan, group, node->member, made.at, made.length, &segment->handle) != VOLUME_OK)
@@ -225,8 +241,7 @@ static void whole_too_early(struct node *node, struct own_segment *segment, uint
     save(node);
 }
 
-/* Sends what a segment made: a CopyAsk to the other members, all else to the peer that asked. Returns whether it made
- * something. */
+/* Sends the messages that a segment made to the peer, and keeps a CopyAsk for `ask`. Returns whether it made any. */
 static bool answer(struct node *node, struct own_segment *segment, struct peer *peer) {
     bool answered = false;
     while (take_message(&segment->handle, &node->message)) {
@@ -260,7 +275,7 @@ static void take_frame_message(struct node *node, struct peer *peer, const struc
         return;
     }
     uint8_t kind = message_kind(frame->body);
-    if (kind != PAGE_ASK) { /* it changes nothing */
+    if (kind != PAGE_ASK) { /* a PageAsk changes nothing */
         log_add(&node->log.body, frame->group, frame->body, frame->length);
         if (!segment->whole)
             log_add(&segment->carried, frame->group, frame->body, frame->length);
@@ -274,7 +289,7 @@ static void take_frame_message(struct node *node, struct peer *peer, const struc
     }
 }
 
-/* Appends the state of a segment, as FRAME_STATE has it. */
+/* Appends a segment's state in the form of FRAME_STATE. */
 static void add_state(struct own_segment *segment, uint8_t group, struct buffer *out) {
     uint8_t bytes[STATE_LENGTH] = {group};
     struct volume_segment_state state;
@@ -313,7 +328,7 @@ static void on_frame(struct net *net, struct peer *peer, const struct frame *fra
             node->segments[group].ask_at = 0;
         net_send(peer, FRAME_DONE, frame->group, 0, NULL, 0);
         return;
-    case FRAME_REFUSED: /* a member that has no copy for us yet */
+    case FRAME_REFUSED: /* from a member that has no copy for us yet */
         return;
     default:
         say("a frame of kind %u: its connection is closed", frame->kind);
@@ -321,7 +336,7 @@ static void on_frame(struct net *net, struct peer *peer, const struct frame *fra
     }
 }
 
-/* Asks the authority for steps, and the other members for copies, as long as the segment isn't whole. */
+/* Asks the authority for steps, and the other members for copies for each segment that isn't whole. */
 static void ask(struct node *node) {
     uint64_t now = now_ms();
     if (now >= node->steps_at) {
@@ -346,7 +361,7 @@ static bool is_installing(const struct node *node) {
     return false;
 }
 
-/* Puts on the disk what the turn brought. */
+/* Writes and syncs the messages of the turn. */
 static void sync_turn(struct node *node) {
     if (testing_fault("answers-before-sync") && now_ms() < node->synced_at + SYNC_LATE) {
         log_write(&node->log);
@@ -356,7 +371,7 @@ static void sync_turn(struct node *node) {
     log_sync(&node->log);
 }
 
-/* Writes a snapshot and begins a new log, where the log has become long. */
+/* Writes a snapshot and begins a new log if the log is long. */
 static void shorten_log(struct node *node) {
     uint64_t most = node->snapshot_length * 2 > LOG_MOST ? node->snapshot_length * 2 : LOG_MOST;
     if (node->log.length > most && !is_installing(node))
@@ -384,7 +399,7 @@ static void dial(struct node *node) {
         fail("out of memory");
 }
 
-/* Replaces a text of the cluster file by one of the command line. */
+/* Replaces a value of the cluster file by one of the command line, if there is one. */
 static void replace(char **text, const char *given) {
     if (!given)
         return;

@@ -3,7 +3,7 @@
 #include <stdlib.h>
 #include <string.h>
 
-/* What stands behind a key's colon. */
+/* Returns the text after a key's colon. */
 static const char *value_of(const char *key) {
     const char *colon = strchr(key, ':');
     return colon ? colon + 1 + strspn(colon + 1, " \t\r\n") : "";
@@ -22,7 +22,7 @@ static uint64_t members_of(const char *at) {
     }
 }
 
-/* Each configuration has each of these keys once, and a plan has no other text in which they could stand. */
+/* Finds the keys by their quoted names: each configuration has each key once, and no other text of a plan has one. */
 static void take_keys(struct places *out, const char *text) {
     int parents = 0;
     for (const char *at = strchr(text, '"'); at; at = strchr(at + 1, '"')) {

@@ -1,4 +1,4 @@
-/* The configurations of a plan that the library has checked: their parents and members, for an operator's tool. */
+/* The parents and members of a plan's configurations, for the operator's tool. */
 #ifndef PLACES_H
 #define PLACES_H
 
@@ -8,7 +8,7 @@ enum { CONFIGURATIONS = 64, NO_PARENT = -1 };
 
 struct configuration {
     int parent;
-    uint64_t members; /* a bit each */
+    uint64_t members; /* a bit for each member */
 };
 
 struct places {
@@ -17,10 +17,10 @@ struct places {
     int groups;
 };
 
-/* Reads the configurations of a plan's text, which `volume_plan_read` has accepted; false where it can't be read. */
+/* Reads the configurations of a plan that `volume_plan_read` has accepted. Returns false if the file can't be read. */
 bool places_read(const char *path, struct places *out);
 
-/* The membership epoch of a configuration: 1 of the root, and one more for each step. */
+/* Returns the membership epoch of a configuration: 1 for the root, and one more for each step from it. */
 uint32_t places_epoch(const struct places *places, int group, int configuration);
 
 #endif

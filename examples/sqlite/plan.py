@@ -4,8 +4,8 @@
     examples/sqlite/plan.py > OPEN
     plan_tool search OPEN > examples/sqlite/plan.json
 
-Four groups of six members, three of them from birth. A write reaches four members, a read three. In each group member
-N is replaced by member N + 6, one after the other, over a configuration of both.
+Four groups of six members; three of the groups exist from birth. A write quorum has four members, a read quorum three.
+In each group the members N are replaced one after the other by N + 6, each through a configuration that has both.
 """
 import json
 
@@ -17,7 +17,7 @@ def threshold(k, members):
 
 
 def configuration(parent, members, sixes):
-    """A configuration that reads of any of the sets of six and writes to each of them."""
+    """Returns a configuration: it reads from a quorum of any of the sixes, and writes to a quorum of each."""
     read, write = ([threshold(k, six) for six in sixes] for k in (3, 4))
     alone = len(sixes) == 1
     return {

@@ -1,5 +1,5 @@
-/* What a client sends again, and to whom: Fences until the Report, Installs until the Ack, and records until the
- * member's complete point has passed them, in a window that begins small and grows with each answer. */
+/* What a client sends again, and to whom: a Fence until the Report, an Install until the Ack, and a record until the
+ * member's complete point has reached it. A member's window of records begins small and grows with each Ack. */
 #include "client_state.h"
 
 #include <stdlib.h>
@@ -7,13 +7,13 @@
 
 enum {
     FIRST_WAIT = 1000,
-    LONGEST_WAIT = 8000, /* for Reports and Installs, which may be long */
+    LONGEST_WAIT = 8000, /* for a Report or an Install, which may be long */
     WRITE_WAIT = 100,
     LONGEST_WRITE_WAIT = 2000,
     WINDOW = 4096,
     SMALL_WINDOW = 16,
     PROBE = 16,
-    WAITING = 1 << 20, /* bytes that may wait for a member's socket */
+    WAITING = 1 << 20, /* bytes that may be queued for a member's socket */
 };
 
 static size_t record_count(const struct group_state *group) { return group->lsns.length / sizeof(uint64_t); }
@@ -24,7 +24,7 @@ static uint64_t record_lsn(const struct group_state *group, size_t number) {
 
 uint64_t group_records(const struct group_state *group) { return group->found + record_count(group); }
 
-/* Whether the Install that is kept has the group's present label: otherwise no member takes it any more. */
+/* Returns whether the kept Install has the group's present label. If not, no member takes it any more. */
 static bool install_is_current(const struct group_state *group) {
     return group->piece_count > 0 && message_membership(group->pieces[0].at) == group->membership;
 }
@@ -47,7 +47,7 @@ void begin_again(struct client *client, uint8_t member) {
         restart_sending(&client->members[member][group]);
 }
 
-/* The next wait of a member, longer each time. */
+/* Doubles a member's wait before the next resend, up to `longest`. */
 static void wait_longer(struct member_state *state, uint64_t now, uint32_t first, uint32_t longest) {
     state->wait = state->wait == 0 ? first : state->wait * 2;
     if (state->wait > longest)
@@ -55,7 +55,7 @@ static void wait_longer(struct member_state *state, uint64_t now, uint32_t first
     state->due = now + state->wait;
 }
 
-/* Sends a new record to the members that have been sent all before it; the others get it later. */
+/* Sends a new record to the members that were sent all before it. `serve_records` sends it to the others. */
 static void send_record(struct client *client, const struct buffer *message) {
     uint8_t number = message_group(message->at);
     struct group_state *group = &client->groups[number];
@@ -146,7 +146,7 @@ void take_places(struct client *client, const uint8_t *view) {
     }
 }
 
-/* Counts the records up to a member's complete point. */
+/* Takes a member's complete point: counts the records up to it. */
 static void take_point(struct group_state *group, struct member_state *state, uint64_t point) {
     size_t before = state->acked;
     while (state->acked < record_count(group) && record_lsn(group, state->acked) <= point)
@@ -167,7 +167,7 @@ void take_answer(struct client *client, const uint8_t *message) {
     struct group_state *group = &client->groups[number];
     struct member_state *state = &client->members[member][number];
     if (message_membership(message) > group->membership) {
-        client->refresh_wanted = true; /* the handle doesn't count it before it knows that membership */
+        client->refresh_wanted = true; /* the handle doesn't count the answer until it knows that membership epoch */
         return;
     }
     if (message_kind(message) == REPORT) {
@@ -191,7 +191,7 @@ void take_refusal(struct client *client, uint8_t member, const struct frame *fra
     struct member_state *state = &client->members[member][number];
     if (kind == PAGE_ASK && member == client->reader)
         client->page_refused = true;
-    if (kind == WRITE && now_ms() >= state->held) { /* those after it were refused too */
+    if (kind == WRITE && now_ms() >= state->held) { /* until `held`, refusals of later records are ignored */
         restart_sending(state);
         wait_longer(state, now_ms(), WRITE_WAIT, LONGEST_WRITE_WAIT);
         state->held = state->due;
@@ -204,7 +204,7 @@ void take_refusal(struct client *client, uint8_t member, const struct frame *fra
         client->full = true;
 }
 
-/* Sends a Fence, and again where nothing comes: each brings a Report, which may be on its way for long. */
+/* Sends a Fence, and again only if the member has sent nothing for a while: a Report may be long on its way. */
 static void serve_fence(struct group_state *group, struct member_state *state, struct peer *node, uint64_t now) {
     if (state->reported || now < state->due || group->fence.length == 0 || now < node->heard_at + state->wait)
         return;
@@ -212,7 +212,7 @@ static void serve_fence(struct group_state *group, struct member_state *state, s
     wait_longer(state, now, FIRST_WAIT, LONGEST_WAIT);
 }
 
-/* Sends the pieces of an Install as the socket takes them. A piece that is sent for the first time is progress. */
+/* Sends the pieces of an Install as the socket takes them. A piece's first sending counts as progress. */
 static void serve_install(struct client *client, struct group_state *group, struct member_state *state,
                           struct peer *node, uint64_t now) {
     if (state->piece == group->piece_count) {
@@ -232,7 +232,7 @@ static void serve_install(struct client *client, struct group_state *group, stru
         wait_longer(state, now, FIRST_WAIT, LONGEST_WAIT);
 }
 
-/* Makes the Write of a record once more and sends it to one member. */
+/* Makes a record's Write again and sends it to one member. */
 static void send_again(struct client *client, uint64_t lsn, struct peer *node) {
     bool good;
     if (volume_writer_resend(&client->handle, lsn) != VOLUME_OK)
@@ -243,8 +243,8 @@ static void send_again(struct client *client, uint64_t lsn, struct peer *node) {
     client->no_memory = client->no_memory || !good;
 }
 
-/* Sends what a member hasn't been sent, as far as the window goes; after a while without an answer, the first records
- * that it lacks once more. */
+/* Sends a member the next records, up to its window. After a time without an answer, sends the first records again
+ * that it lacks. */
 static void serve_records(struct client *client, struct group_state *group, struct member_state *state,
                           struct peer *node, uint64_t now) {
     if (now < state->held)

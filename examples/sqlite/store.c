@@ -21,8 +21,8 @@ struct store_file {
     bool used;
     uint32_t groups;
     uint64_t size, reach;
-    uint64_t expected, window; /* the block that a reader in order asks for next, and how many are read at once then */
-    char name[NAME_MOST + 1];  /* of a file that was removed too: a new one of its name takes its blocks again */
+    uint64_t expected, window; /* the next block of a sequential reader, and how many blocks to read then */
+    char name[NAME_MOST + 1];  /* a removed file keeps its name: a new file of this name takes its blocks again */
 };
 
 struct store {
@@ -76,7 +76,7 @@ int store_find(const struct store *store, const char *name) {
     return -1;
 }
 
-/* A number without a file: one whose last file had this name, or else the first. */
+/* Returns a free number: one whose removed file had this name, or else the first; -1 if none is free. */
 static int free_number(const struct store *store, const char *name) {
     int first = -1;
     for (int file = FILES - 1; file >= 0; file--) {
@@ -89,7 +89,7 @@ static int free_number(const struct store *store, const char *name) {
     return first;
 }
 
-/* Writes the sizes of a file into the transaction that is being made. */
+/* Adds a file's sizes to the transaction. */
 static enum client_result put_sizes(struct store *store, int number) {
     uint8_t sizes[SIZES];
     put64(sizes, store->files[number].size);
@@ -105,7 +105,7 @@ enum client_result store_create(struct store *store, const char *name, int *out)
         return CLIENT_FULL;
     struct store_file *file = &store->files[number];
     uint32_t groups = client_groups(store->client);
-    if (file->groups != 0 && file->groups != groups) /* the rows of blocks that were ever written, in the new order */
+    if (file->groups != 0 && file->groups != groups) /* round up to the same number of blocks in each group */
         file->reach = (file->reach + file->groups - 1) / file->groups * groups;
     file->used = true;
     file->groups = groups;
@@ -125,14 +125,14 @@ enum client_result store_create(struct store *store, const char *name, int *out)
 
 uint64_t store_size(const struct store *store, int file) { return store->files[file].size; }
 
-/* Where a block of a file lies. */
+/* Returns the group and the block in it that a file's block is. */
 static struct wanted place_of_block(const struct store *store, int number, uint64_t index) {
     uint32_t groups = store->files[number].groups;
     return (struct wanted){(uint8_t)(index % groups), head_block(number) + 1 + (uint32_t)(index / groups), NULL};
 }
 
-/* Reads a block, and those behind it where the file is read in order, in one round trip: opening a database and
- * scanning its 100,000 rows takes a fifth less time. */
+/* Reads a block, and the following ones too if the file is read sequentially, in one round trip. This makes it a fifth
+ * faster to open a database and scan its 100,000 rows. */
 static enum client_result read_ahead(struct store *store, int number, uint64_t index) {
     struct store_file *file = &store->files[number];
     struct wanted wanted[FETCHED];
@@ -175,7 +175,7 @@ enum client_result store_read(struct store *store, int file, uint64_t offset, vo
     return CLIENT_OK;
 }
 
-/* Writes bytes of one block, with the sizes that they bring, in one transaction. */
+/* Writes bytes of one block and the file's new sizes in one transaction. */
 static enum client_result write_part(struct store *store, int number, uint64_t offset, const uint8_t *bytes,
                                      size_t length) {
     struct store_file *file = &store->files[number];
@@ -217,7 +217,7 @@ static enum client_result write_parts(struct store *store, int file, uint64_t of
 enum client_result store_write(struct store *store, int file, uint64_t offset, const void *bytes, size_t length) {
     uint64_t size = store->files[file].size;
     enum client_result result = CLIENT_OK;
-    if (offset > size) /* what was there before a file was made shorter must not come back */
+    if (offset > size) /* bytes from before a truncation must not reappear */
         result = write_parts(store, file, size, NULL, offset - size);
     return result != CLIENT_OK ? result : write_parts(store, file, offset, bytes, length);
 }

@@ -10,7 +10,7 @@ import time
 
 HERE = pathlib.Path(__file__).resolve().parent
 SIX = 6
-SHELL = shlex.split(os.environ.get("SQLITE3", "sqlite3"))  # the words that start SQLite's shell
+SHELL = shlex.split(os.environ.get("SQLITE3", "sqlite3"))  # the command of SQLite's shell
 
 
 def build(library, out, *goals):
@@ -20,7 +20,7 @@ def build(library, out, *goals):
 
 
 def free_ports(count):
-    """Ports that nobody listens at now."""
+    """Returns free TCP ports."""
     sockets = [socket.socket() for _ in range(count)]
     for one in sockets:
         one.bind(("127.0.0.1", 0))
@@ -31,7 +31,7 @@ def free_ports(count):
 
 
 class Cluster:
-    """The processes of a cluster, each with its folder and the output that it wrote."""
+    """The processes of a cluster, their folders and their output."""
 
     def __init__(self, folder, programs, members=SIX, environment=None, under=(), tcp=False):
         self.folder, self.programs = pathlib.Path(folder), pathlib.Path(programs)
@@ -49,7 +49,7 @@ class Cluster:
         self.log = open(self.folder / "output", "ab")
 
     def uri(self, timeout=120000):
-        """The name of the database, for SQLite."""
+        """Returns the database's URI for SQLite."""
         return f"file:app.db?vfs=volume&cluster={self.file}&timeout={timeout}"
 
     def spawn(self, program, *words, **how):
@@ -63,7 +63,7 @@ class Cluster:
         self.authority = self.spawn("volume_authority", "--cluster", self.file, "--dir", folder, *["--new"] * fresh)
 
     def start_node(self, member):
-        """Starts a node: a new one the first time."""
+        """Starts a node, with --new if it has no snapshot."""
         folder = self.folder / f"node{member}"
         folder.mkdir(exist_ok=True)
         fresh = not (folder / "snapshot").exists()
@@ -71,7 +71,7 @@ class Cluster:
         self.nodes[member] = self.spawn("volume_node", *words)
 
     def start(self):
-        """Starts the authority and the first six."""
+        """Starts the authority and the first six nodes."""
         self.start_authority(fresh=True)
         for member in range(SIX):
             self.start_node(member)
@@ -87,7 +87,7 @@ class Cluster:
         raise AssertionError("the nodes aren't born")
 
     def kill_node(self, member):
-        """Kills a node, and drops what it hadn't synced."""
+        """Kills a node, and drops the unsynced bytes of its log."""
         process = self.nodes.pop(member)
         process.send_signal(signal.SIGKILL)
         process.wait()
@@ -99,7 +99,7 @@ class Cluster:
         self.authority = None
 
     def ctl(self, *words, seconds=30):
-        """Runs the operator's tool; returns its status and what it wrote."""
+        """Runs the operator's tool; returns its status and output."""
         words = [self.programs / "volumectl", self.file, *words, "--seconds", seconds]
         how = {"text": True, "stdout": subprocess.PIPE, "stderr": subprocess.STDOUT, "env": self.environment}
         made = subprocess.run([str(word) for word in words], **how)
@@ -108,7 +108,7 @@ class Cluster:
         return made.returncode, made.stdout
 
     def stop(self, number=signal.SIGTERM):
-        """Ends all processes; returns those that ended badly."""
+        """Ends all processes; returns those with another status than 0."""
         processes = [*self.nodes.items(), *([("authority", self.authority)] if self.authority else [])]
         for _, process in processes:
             process.send_signal(signal.SIGCONT)
@@ -120,7 +120,7 @@ class Cluster:
 
 
 def drop_unsynced(folder):
-    """Cuts a killed node's log where its last sync ended, as the machine's failure may."""
+    """Cuts a killed node's log after its last sync, as a failure of the machine may."""
     note = folder / "synced"
     if not note.exists():
         return

@@ -10,7 +10,7 @@
 
 enum { LONGEST_DELAY = 40 };
 
-/* A frame that waits for its time. */
+/* A delayed frame. */
 struct delayed {
     struct delayed *next;
     struct peer *peer;
@@ -57,7 +57,7 @@ bool testing_takes(struct peer *peer, const uint8_t *head, const void *body, siz
     if (fate < each)
         return true; /* lost */
     if (fate < 2 * each)
-        append(peer, head, body, length); /* the caller sends it once more */
+        append(peer, head, body, length); /* repeated: the caller sends it too */
     if (fate < 2 * each || fate >= 3 * each)
         return false;
     delay(peer, head, body, length, append);
@@ -112,7 +112,7 @@ void testing_synced(const char *folder, uint64_t generation, uint64_t length) {
     char line[60];
     char *path = path_in(folder, "synced");
     int fd = path ? open(path, O_WRONLY | O_CREAT | O_CLOEXEC, 0644) : -1;
-    /* one write of one length, so that a kill leaves the old line or the new one */
+    /* one write of a fixed length, so that a kill leaves the old line or the new one */
     int count = snprintf(line, sizeof line, "%020llu %020llu\n", (unsigned long long)generation,
                          (unsigned long long)length);
     if (fd < 0 || pwrite(fd, line, (size_t)count, 0) != count)

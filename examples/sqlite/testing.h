@@ -1,11 +1,11 @@
-/* What a test asks of the programs: lost, repeated and delayed frames, and planted faults. It is compiled in with
- * VOLUME_TESTING alone; without it each of these is nothing.
+/* Faults for tests of the programs: lost, repeated and delayed frames, and planted faults. They are compiled in only
+ * with VOLUME_TESTING; without it these functions do nothing.
  *
- *     VOLUME_LOSS=SEED:PER_MILLE   so many frames of a thousand are lost, as many repeated, as many delayed
+ *     VOLUME_LOSS=SEED:PER_MILLE   of 1000 message frames, PER_MILLE are lost, as many repeated, as many delayed
  *     VOLUME_FAULT=NAME            the planted fault: answers-before-sync, sync-without-wait, ignores-fence,
  *                                  forgets-promise, whole-too-early
  *     VOLUME_HOLD=MILLISECONDS     a recovery waits between its reports and its cut
- *     VOLUME_ROOM=RECORDS          the VFS counts on so many records of a segment */
+ *     VOLUME_ROOM=RECORDS          the VFS assumes that a segment has room for so many records */
 #ifndef TESTING_H
 #define TESTING_H
 
@@ -16,25 +16,25 @@ typedef void testing_append(struct peer *peer, const uint8_t *head, const void *
 
 #ifdef VOLUME_TESTING
 
-/* Loses, repeats or delays a frame; returns whether the frame was dealt with. */
+/* Loses, repeats or delays a frame. Returns true if the caller must not send it. */
 bool testing_takes(struct peer *peer, const uint8_t *head, const void *body, size_t length, testing_append *append);
 
-/* Appends the delayed frames whose time has come. */
+/* Sends the delayed frames that are due. */
 void testing_release(struct net *net);
 
-/* Drops the delayed frames of a peer whose connection is closed. */
+/* Drops the delayed frames of a peer. */
 void testing_forget(struct peer *peer);
 
-/* Whether a fault is planted. */
+/* Returns whether the fault with this name is planted. */
 bool testing_fault(const char *name);
 
-/* How long a recovery waits before its cut. */
+/* Returns how many milliseconds a recovery waits before its cut. */
 uint64_t testing_hold(void);
 
-/* How many records the VFS counts on in a segment. */
+/* Returns for how many records the VFS assumes that a segment has room. */
 uint64_t testing_room(void);
 
-/* Notes up to where a log is synced, so that a test can drop what isn't when it kills the node. */
+/* Notes how many bytes of a log are synced, so that a test that kills the node can cut off the rest. */
 void testing_synced(const char *folder, uint64_t generation, uint64_t length);
 
 #else

@@ -1,12 +1,13 @@
-/* A workload for the crash test, through SQLite's library: transfers between accounts, each a transaction.
+/* A workload for the crash test, over SQLite's library: transfers between accounts, each a transaction.
  *
  *     transfer VFS URI WRITER NOTES MODE [PAUSE]
  *
- * MODE is `check`: prints `checked N`, the number of transfers, once all holds: SQLite's integrity check, the sum of
- * all accounts, each account as its transfers make it, and each commit of NOTES. MODE is `write`: the same, and then
- * writes until standard input ends, and adds each commit that SQLite acknowledged to NOTES as `WRITER NUMBER`. PAUSE
- * is in milliseconds between two transfers. Status 0: all is well; 3: SQLite refused a commit or a statement, as that
- * of a writer that was fenced; 1: something is wrong. */
+ * The mode `check` makes SQLite's integrity check, and checks the sum of all accounts, each account against its
+ * transfers, and that each commit of NOTES is there. If all are right it prints `checked N`, the number of transfers.
+ * The mode `write` does the same, then commits transfers until standard input ends, and appends each commit that
+ * SQLite acknowledged to NOTES as `WRITER NUMBER`. PAUSE is the milliseconds between two transfers. Exits with 0 if
+ * all is well, with 3 if SQLite refused a statement or commit (for example of a fenced writer), and with 1 if
+ * something is wrong. */
 #include <sqlite3.h>
 
 #include <fcntl.h>
@@ -33,7 +34,7 @@ static _Noreturn void end(int status, const char *format, ...) {
     va_end(given);
     printf("writer %s: %s\n", writer, line);
     fflush(stdout);
-    _exit(status); /* as a killed one: nothing is closed */
+    _exit(status); /* closes nothing, like a killed process */
 }
 
 static uint32_t next_random(void) {
@@ -43,20 +44,20 @@ static uint32_t next_random(void) {
     return (uint32_t)(state >> 20);
 }
 
-/* Ends at an error of SQLite: a database that is corrupt is wrong, all else is a refusal. */
+/* Exits after an error of SQLite: a corrupt database or a wrong statement is WRONG, all else REFUSED. */
 static _Noreturn void refused(const char *what) {
     int code = sqlite3_errcode(database), more = sqlite3_extended_errcode(database);
     bool corrupt = code == SQLITE_CORRUPT || code == SQLITE_NOTADB || code == SQLITE_ERROR;
     end(corrupt ? WRONG : REFUSED, "%.60s: %d %s", what, more, sqlite3_errmsg(database));
 }
 
-/* Runs a statement; ends where SQLite refuses it. */
+/* Runs a statement; exits if SQLite refuses it. */
 static void run(const char *text) {
     if (sqlite3_exec(database, text, NULL, NULL, NULL) != SQLITE_OK)
         refused(text);
 }
 
-/* The number that a query gives. */
+/* Returns a query's number. */
 static long long number_of(const char *text) {
     sqlite3_stmt *query = NULL;
     if (sqlite3_prepare_v2(database, text, -1, &query, NULL) != SQLITE_OK || sqlite3_step(query) != SQLITE_ROW)
@@ -77,7 +78,7 @@ static void check_integrity(void) {
     sqlite3_finalize(query);
 }
 
-/* Each commit that was noted must be there. */
+/* Checks that the database has each noted commit; returns their number. */
 static long long check_notes(const char *notes) {
     FILE *file = fopen(notes, "r");
     char line[100];
@@ -150,7 +151,7 @@ static void transfer(long long number) {
     run("COMMIT");
 }
 
-/* Writes until standard input ends. */
+/* Commits transfers, and notes each, until standard input ends. */
 static void write_all(const char *notes, int pause) {
     int fd = open(notes, O_WRONLY | O_CREAT | O_APPEND | O_CLOEXEC, 0644);
     struct pollfd input = {.fd = 0, .events = POLLIN};

@@ -1,10 +1,9 @@
-/* A loadable extension of SQLite: the VFS `volume`, whose databases and rollback journals are files in a volume.
+/* A loadable extension of SQLite: the VFS `volume`, which keeps databases and rollback journals as files in a volume.
  *
  *     file:app.db?vfs=volume&cluster=PATH[&timeout=MILLISECONDS]
  *
- * The first connection of a process takes the volume over by a new volume epoch; all connections of the process share
- * that writer, with SQLite's locks between them in memory. Once another process takes over, each call is SQLITE_IOERR.
- */
+ * The first connection of a process takes the volume over. All connections of the process share that writer; SQLite's
+ * locks between them are in memory. Once another process takes the volume over, each call returns SQLITE_IOERR. */
 #include <sqlite3ext.h>
 SQLITE_EXTENSION_INIT1
 
@@ -36,11 +35,11 @@ struct vfs_file {
     struct shared *shared;
     int number;            /* of the file in the volume */
     int level;             /* of its lock */
-    struct vfs_file *next; /* of the main files that are open */
-    const char *name;      /* of a main file: its journals' names begin with it; NULL for another file */
+    struct vfs_file *next; /* the next open database file */
+    const char *name;      /* of a database file, with which its journals' names begin; NULL for a journal */
 };
 
-static pthread_mutex_t mutex = PTHREAD_MUTEX_INITIALIZER; /* over all below, and each call of a store */
+static pthread_mutex_t mutex = PTHREAD_MUTEX_INITIALIZER; /* guards the variables below and each call of a store */
 static struct shared *all_shared;
 static struct vfs_file *main_files;
 static sqlite3_vfs *system_vfs;
@@ -108,7 +107,7 @@ static int vfs_size(sqlite3_file *base, sqlite3_int64 *size) {
     return SQLITE_OK;
 }
 
-/* A reserved lock begins a transaction that writes; taking one back needs an exclusive lock alone. */
+/* Refuses a reserved lock, which begins a write transaction, if the volume is full. A rollback needs no such lock. */
 static int vfs_lock(sqlite3_file *base, int level) {
     struct vfs_file *file = (struct vfs_file *)base;
     int code = SQLITE_OK;
@@ -137,9 +136,10 @@ static int vfs_check_reserved(sqlite3_file *base, int *out) {
     return SQLITE_OK;
 }
 
-/* Refuses WAL: with an exclusive lock SQLite would take it, and no connection without one could open the database. */
+/* Refuses the journal mode WAL. SQLite would allow it with an exclusive lock, and then no other connection could open
+ * the database. */
 static int vfs_control(sqlite3_file *base, int what, void *argument) {
-    char **words = argument; /* of a pragma: its result, its name, and its argument or NULL */
+    char **words = argument; /* of a pragma: result, name, argument or NULL */
     (void)base;
     if (what != SQLITE_FCNTL_PRAGMA || sqlite3_stricmp(words[1], "journal_mode") != 0 || !words[2]
         || sqlite3_stricmp(words[2], "wal") != 0)
@@ -153,13 +153,13 @@ static int vfs_sector_size(sqlite3_file *base) {
     return BLOCK;
 }
 
-/* The log keeps the order of writes, and a write changes no byte beside its own. */
+/* Writes become durable in order, and a write changes no byte outside its range. */
 static int vfs_characteristics(sqlite3_file *base) {
     (void)base;
     return SQLITE_IOCAP_SEQUENTIAL | SQLITE_IOCAP_POWERSAFE_OVERWRITE;
 }
 
-/* Gives a volume back; the last user closes it. The mutex is held. */
+/* Ends a use of a volume; the last one closes it. The caller holds the mutex. */
 static void leave(struct shared *shared) {
     if (--shared->users > 0)
         return;
@@ -204,7 +204,7 @@ static const sqlite3_io_methods methods = {
     .xDeviceCharacteristics = vfs_characteristics,
 };
 
-/* The volume of a database that is open in this process, by its name or that of one of its journals. */
+/* Returns the volume of a database open in this process, by the name of the database or of one of its journals. */
 static struct shared *shared_of(const char *name) {
     for (struct vfs_file *file = main_files; file; file = file->next) {
         size_t length = strlen(file->name);
@@ -214,7 +214,7 @@ static struct shared *shared_of(const char *name) {
     return NULL;
 }
 
-/* Takes a volume over. The mutex is held. */
+/* Takes a volume over; returns NULL on failure. The caller holds the mutex. */
 static struct shared *take_over(const char *cluster, uint64_t timeout) {
     char fault[FAULT_LINE] = "out of memory";
     struct shared *shared = calloc(1, sizeof *shared);
@@ -234,7 +234,7 @@ static struct shared *take_over(const char *cluster, uint64_t timeout) {
     return shared;
 }
 
-/* The volume for a file that is opened, which uses it from now on. The mutex is held. */
+/* Returns the volume for a file to open, and counts the use; NULL if there is none. The caller holds the mutex. */
 static struct shared *enter(const char *name, int flags) {
     struct shared *shared = shared_of(name);
     const char *cluster = flags & SQLITE_OPEN_MAIN_DB ? sqlite3_uri_parameter(name, "cluster") : NULL;
@@ -278,7 +278,7 @@ static int vfs_open(sqlite3_vfs *vfs, const char *name, sqlite3_file *base, int 
     (void)vfs;
     if (flags & SQLITE_OPEN_WAL)
         return SQLITE_CANTOPEN;
-    if (!name || !(flags & VOLUME_FILES)) /* a temporary file, which no other process needs */
+    if (!name || !(flags & VOLUME_FILES)) /* a temporary file is local */
         return system_vfs->xOpen(system_vfs, name, base, flags, out_flags);
     base->pMethods = NULL;
     pthread_mutex_lock(&mutex);
@@ -292,7 +292,7 @@ static int vfs_open(sqlite3_vfs *vfs, const char *name, sqlite3_file *base, int 
     return code;
 }
 
-/* Removing a journal is a commit, so it waits until it is durable, whatever `sync` asks for. */
+/* Waits until the removal is durable even without `sync`: removing a journal is SQLite's commit. */
 static int vfs_delete(sqlite3_vfs *vfs, const char *name, int sync) {
     (void)vfs, (void)sync;
     pthread_mutex_lock(&mutex);
@@ -317,7 +317,7 @@ static int vfs_access(sqlite3_vfs *vfs, const char *name, int flags, int *out) {
     return SQLITE_OK;
 }
 
-/* A file's name in a volume is what the user wrote. */
+/* Copies the name as it is: a volume has no folders. */
 static int vfs_full_path(sqlite3_vfs *vfs, const char *name, int room, char *out) {
     (void)vfs;
     if ((int)strlen(name) >= room || strlen(name) + sizeof "-journal" > NAME_MOST)
@@ -361,7 +361,7 @@ static sqlite3_vfs volume_vfs = {
     .xGetLastError = vfs_last_error,
 };
 
-/* A new database of a volume has pages of 512 bytes: a page is a block. */
+/* Sets the page size of a new database to 512, the size of a block. */
 static int on_connection(sqlite3 *database, char **fault, const sqlite3_api_routines *api) {
     sqlite3_vfs *used = NULL;
     SQLITE_EXTENSION_INIT2(api);

@@ -65,10 +65,10 @@ impl fmt::Debug for Fault {
 
 impl std::error::Error for Fault {}
 
-/// The fault of a plan, and its line, which says the place.
+/// The fault of a plan, and a line that names it and its place.
 #[derive(Clone, Debug, PartialEq, Eq)]
 pub struct PlanFault {
-    /// What is wrong.
+    /// The fault.
     pub fault: Fault,
     /// The line that `plan_tool check` prints for it.
     pub line: String,
@@ -89,7 +89,7 @@ fn checked(status: u8) -> Result<(), Fault> {
     }
 }
 
-/// Calls with an empty buffer for the length, and again with a buffer of that length.
+/// Calls with an empty buffer, and again with one of the length that the call needs.
 fn filled(mut call: impl FnMut(*mut u8, usize, *mut usize) -> u8) -> Result<Vec<u8>, Fault> {
     let mut bytes = Vec::new();
     loop {
@@ -108,11 +108,11 @@ fn filled(mut call: impl FnMut(*mut u8, usize, *mut usize) -> u8) -> Result<Vec<
 /// A handle of the library, which is closed when it is dropped.
 struct Handle(raw::Handle);
 
-// The library's actors may move between threads; a handle is used by one at a time.
+// The library's actors may move between threads, and `&mut` lets only one thread use a handle at a time.
 unsafe impl Send for Handle {}
 
 impl Handle {
-    /// Makes a handle by a call that fills an empty one.
+    /// Makes a handle: the call fills an empty one.
     fn made(call: impl FnOnce(*mut raw::Handle) -> u8) -> Result<Handle, Fault> {
         let mut handle = Handle(raw::Handle::EMPTY);
         checked(call(&mut handle.0))?;
@@ -130,12 +130,12 @@ impl Drop for Handle {
     }
 }
 
-/// The messages that an actor made, oldest first. Each is handed out once; what isn't taken stays with the actor, which
-/// refuses calls that would make others until then.
+/// The messages that an actor made, oldest first. Each is handed out once. Those that aren't taken stay with the actor,
+/// which refuses calls that make messages until all are taken.
 pub struct Messages<'a>(&'a mut Handle);
 
 impl Iterator for Messages<'_> {
-    /// The bytes of a message, as `docs/WIRE.md` lays them out.
+    /// The bytes of a message, in the layout of `docs/WIRE.md`.
     type Item = Result<Vec<u8>, Fault>;
 
     fn next(&mut self) -> Option<Self::Item> {
@@ -177,8 +177,8 @@ impl Plan {
     }
 }
 
-/// Returns a frame: messages for one node in one buffer, each behind its length in 4 bytes. A message of 4 GiB or more
-/// has no place in a frame.
+/// Returns a frame: messages for one node in one buffer, each after its length in 4 bytes. A message must be shorter
+/// than 4 GiB.
 pub fn frame<M: AsRef<[u8]>>(messages: impl IntoIterator<Item = M>) -> Vec<u8> {
     let mut frame = Vec::new();
     for message in messages {
@@ -221,8 +221,8 @@ impl Segment {
             .map(Segment)
     }
 
-    /// Makes a segment from a snapshot: the segment that was saved, after a restart. Then give it each message that was
-    /// logged since, in the order of the log, and drop the answers.
+    /// Makes a segment from a snapshot after a restart. Then pass it each message that was logged after the snapshot,
+    /// in order, and drop the answers.
     ///
     /// # Errors
     /// 1, 2 or 3 where the bytes aren't a snapshot's; 82 where the plan names no such member.
@@ -239,7 +239,7 @@ impl Segment {
         .map(Segment)
     }
 
-    /// Takes a message. Log it before an answer leaves the node; a message that is refused isn't logged.
+    /// Takes a message. Log it before you send the answers. Don't log a message that is refused.
     ///
     /// # Errors
     /// 1, 2 or 3 where the bytes aren't a message's; the segment's refusal; 91 while there are messages to hand out.
@@ -249,10 +249,10 @@ impl Segment {
         })
     }
 
-    /// Takes the messages of a frame in order, up to the end or to the first that is refused. Returns how many bytes were
-    /// taken, and that refusal. Log what was taken before an answer leaves the node. The message that was refused begins
-    /// at that place; to skip it, pass what follows it, once the answers are handed out. Of the Acks that say the same
-    /// the last is handed out alone.
+    /// Takes the messages of a frame in order, up to the first that is refused. Returns how many bytes were taken, and
+    /// the refusal. Log these bytes before you send the answers. The refused message begins after them; to skip it,
+    /// hand out the answers, and then pass the bytes after it. Of consecutive Acks with the same label only the last is
+    /// handed out.
     ///
     /// # Errors
     /// Those of [`Segment::take`]; 1 also where the frame ends within a message.
@@ -264,7 +264,7 @@ impl Segment {
         (taken, checked(status))
     }
 
-    /// Becomes whole from the copies that it took. Put a snapshot on the disk before it takes another message.
+    /// Becomes whole from the copies that it took. Save a snapshot before it takes another message.
     ///
     /// # Errors
     /// 56 where it is whole; 57 where the copies aren't those of a read quorum; 55 where they hold too many records.
@@ -280,10 +280,10 @@ impl Segment {
         checked(unsafe { raw::volume_segment_offer(&mut self.0 .0, lsn) })
     }
 
-    /// Returns a block's 512 bytes as its records up to an LSN make it.
+    /// Returns a block's 512 bytes after all records up to `point`.
     ///
     /// # Errors
-    /// 54 before the segment is whole; 60 where the member keeps no pages; 61 where it isn't complete up to `point`.
+    /// 54 before the segment is whole; 60 if the member keeps no pages; 61 if it isn't complete up to `point`.
     pub fn page(&mut self, block: u32, point: u64) -> Result<[u8; 512], Fault> {
         let mut page = [0; 512];
         checked(unsafe {
@@ -302,10 +302,10 @@ impl Segment {
         Ok(scl)
     }
 
-    /// Returns its epochs, its complete point and the number of its records.
+    /// Returns the segment's state.
     ///
     /// # Errors
-    /// Memory ran out.
+    /// None of a segment's own.
     pub fn state(&mut self) -> Result<SegmentState, Fault> {
         let mut state = raw::SegmentState::default();
         checked(unsafe { raw::volume_segment_state(&mut self.0 .0, &mut state) })?;
@@ -319,20 +319,55 @@ impl Segment {
         })
     }
 
-    /// Returns the state that survives a restart, as bytes.
+    /// Takes a snapshot: the state that survives a restart. It takes some 8 bytes of memory for each record.
     ///
     /// # Errors
-    /// Memory ran out.
-    pub fn snapshot(&mut self) -> Result<Vec<u8>, Fault> {
+    /// 91 while there are messages to hand out; memory ran out.
+    pub fn snapshot(&mut self) -> Result<Snapshot, Fault> {
         let handle = &mut self.0 .0;
-        filled(|out, length, needed| unsafe {
-            raw::volume_segment_snapshot(handle, out, length, needed)
-        })
+        Handle::made(|out| unsafe { raw::volume_segment_snapshot(handle, out) }).map(Snapshot)
     }
 
     /// Hands out the messages that the segment made.
     pub fn messages(&mut self) -> Messages<'_> {
         self.0.messages()
+    }
+}
+
+/// A snapshot of a segment, to be read piece by piece. It stays as it is whatever the segment does meanwhile, and may be
+/// read in another thread.
+pub struct Snapshot(Handle);
+
+impl Snapshot {
+    /// Writes the next bytes to the front of a buffer, of the records as many as fit whole. Returns their number; 0 where
+    /// all were written before.
+    ///
+    /// # Errors
+    /// 92 where the buffer is too short for the next record: 109 bytes suffice.
+    pub fn read(&mut self, out: &mut [u8]) -> Result<usize, Fault> {
+        let mut written = 0;
+        let status = unsafe {
+            raw::volume_snapshot_read(&mut self.0 .0, out.as_mut_ptr(), out.len(), &mut written)
+        };
+        match status {
+            raw::NO_MORE => Ok(0),
+            status => checked(status).map(|()| written),
+        }
+    }
+
+    /// Returns all bytes that are left.
+    ///
+    /// # Errors
+    /// None of a snapshot's own.
+    pub fn into_bytes(mut self) -> Result<Vec<u8>, Fault> {
+        let mut bytes = Vec::new();
+        let mut piece = [0; 4096];
+        loop {
+            match self.read(&mut piece)? {
+                0 => return Ok(bytes),
+                written => bytes.extend_from_slice(&piece[..written]),
+            }
+        }
     }
 }
 
@@ -362,7 +397,7 @@ impl Recovery {
         checked(unsafe { raw::volume_client_take(&mut self.0 .0, message.as_ptr(), message.len()) })
     }
 
-    /// Cuts the log that the reports hold, and makes the Installs of it.
+    /// Finds the log in the reports and cuts it, and makes its Installs.
     ///
     /// # Errors
     /// 74 until the senders of the reports are a read quorum of each group; 75 after the cut; 73 where no LSNs are
@@ -398,7 +433,7 @@ impl Change {
     /// Makes the change of `bytes` in a block of a group from `offset` on.
     ///
     /// # Errors
-    /// 72 where there isn't 1 to 64 bytes. What else a transaction asks of its changes is judged by [`Writer::issue`].
+    /// 72 if `bytes` hasn't 1 to 64 bytes. [`Writer::issue`] checks the rest.
     pub fn new(group: u8, block: u32, offset: u16, bytes: &[u8]) -> Result<Change, Fault> {
         if bytes.is_empty() || bytes.len() > 64 {
             return Err(Fault(72));
@@ -420,7 +455,7 @@ impl Change {
 pub struct Points {
     /// The greatest LSN up to which each record is acknowledged by a write quorum of its group.
     pub complete: u64,
-    /// The greatest consistency point up to there. A commit at or below it is durable.
+    /// The greatest consistency point up to `complete`. A commit at or below it is durable.
     pub durable: u64,
     /// The LSN after which the writer's own records begin.
     pub start: u64,
@@ -428,7 +463,7 @@ pub struct Points {
     pub last: u64,
 }
 
-/// What the whole members of a group allow after an advance.
+/// What the whole members of a group can do after an advance.
 #[derive(Clone, Copy, Debug, PartialEq, Eq)]
 pub struct Readiness {
     /// Whether they satisfy the configuration's read expression.
@@ -441,7 +476,7 @@ pub struct Readiness {
 pub struct Writer(Handle);
 
 impl Writer {
-    /// Makes the writer that a volume is born with. Call it once in the life of the volume.
+    /// Makes a new volume's first writer. Call it once in the life of the volume.
     ///
     /// # Errors
     /// Memory ran out.
@@ -470,7 +505,7 @@ impl Writer {
         checked(unsafe { raw::volume_client_take(&mut self.0 .0, message.as_ptr(), message.len()) })
     }
 
-    /// Makes the Write of a record once more, for members that it may not have reached.
+    /// Makes a record's Write again, for members that may not have got it.
     ///
     /// # Errors
     /// 76 where the log has no record with this LSN.
@@ -478,7 +513,7 @@ impl Writer {
         checked(unsafe { raw::volume_writer_resend(&mut self.0 .0, lsn) })
     }
 
-    /// Makes a PageAsk for a block as it is at the durable point. Send it to a full member of the group.
+    /// Makes a PageAsk for a block as of the durable point. Send it to a full member of the group.
     ///
     /// # Errors
     /// 42 where the writer knows no such group.
@@ -517,7 +552,7 @@ impl Writer {
         Ok(point)
     }
 
-    /// Returns whether the commit at an LSN is durable: no recovery will lose it then.
+    /// Returns whether the commit at an LSN is durable, so that no recovery loses it.
     ///
     /// # Errors
     /// None of an open writer's own.
@@ -535,7 +570,7 @@ impl Writer {
     }
 }
 
-/// The authority of a volume: it assigns volume epochs and leads groups along the plan's configurations.
+/// The authority of a volume: it assigns volume epochs and advances groups along the plan's configurations.
 pub struct Authority(Handle);
 
 impl Authority {
@@ -548,7 +583,7 @@ impl Authority {
         Handle::made(|out| unsafe { raw::volume_authority_new(plan, out) }).map(Authority)
     }
 
-    /// Makes the authority that was saved.
+    /// Makes an authority from a snapshot.
     ///
     /// # Errors
     /// 1, 2 or 3 where the bytes aren't a snapshot's; 42 where they are of another plan's groups.
@@ -560,8 +595,7 @@ impl Authority {
         .map(Authority)
     }
 
-    /// Assigns the next volume epoch, and makes the View for its recovery. Put a snapshot on the disk before the View
-    /// leaves.
+    /// Assigns the next volume epoch, and makes the View for its recovery. Save a snapshot before you send the View.
     ///
     /// # Errors
     /// 43 where no volume epoch is left.
@@ -569,8 +603,8 @@ impl Authority {
         checked(unsafe { raw::volume_authority_assign(&mut self.0 .0) })
     }
 
-    /// Advances a group to a child of its configuration, and makes the StepTo for the nodes of the group. Put a
-    /// snapshot on the disk before it leaves.
+    /// Advances a group to a child of its configuration, and makes the StepTo for the nodes of the group. Save a
+    /// snapshot before you send it.
     ///
     /// # Errors
     /// 42 where no such group has joined; 41 where the group's configuration has no such child.
@@ -578,8 +612,9 @@ impl Authority {
         checked(unsafe { raw::volume_authority_advance(&mut self.0 .0, group, configuration) })
     }
 
-    /// Returns what the whole members of a group allow after an advance to a configuration; `whole` has their numbers.
-    /// Advance only if they can read: a recovery needs the reports of a read quorum, and only whole members report.
+    /// Returns what the whole members of a group, whose numbers are in `whole`, can do after an advance to a
+    /// configuration. Advance only if they can read: a recovery needs the reports of a read quorum, and only whole
+    /// members report.
     ///
     /// # Errors
     /// Those of [`Authority::advance`].
@@ -614,7 +649,7 @@ impl Authority {
         checked(unsafe { raw::volume_authority_refresh(&mut self.0 .0, volume) })
     }
 
-    /// Lets the plan's next group join. Put a snapshot on the disk before the next View leaves.
+    /// Lets the plan's next group join. Save a snapshot before you send the next View.
     ///
     /// # Errors
     /// 44 where every group of the plan has joined.
@@ -622,7 +657,7 @@ impl Authority {
         checked(unsafe { raw::volume_authority_grow(&mut self.0 .0) })
     }
 
-    /// Returns the state, as bytes.
+    /// Returns a snapshot for [`Authority::resume`].
     ///
     /// # Errors
     /// Memory ran out.

@@ -102,11 +102,12 @@ extern "C" {
     ) -> u8;
     pub fn volume_segment_scl(segment: *mut Handle, scl: *mut u64) -> u8;
     pub fn volume_segment_state(segment: *mut Handle, state: *mut SegmentState) -> u8;
-    pub fn volume_segment_snapshot(
-        segment: *mut Handle,
+    pub fn volume_segment_snapshot(segment: *mut Handle, out: *mut Handle) -> u8;
+    pub fn volume_snapshot_read(
+        snapshot: *mut Handle,
         out: *mut u8,
         length: usize,
-        needed: *mut usize,
+        written: *mut usize,
     ) -> u8;
     pub fn volume_writer_first(plan: *mut Handle, out: *mut Handle) -> u8;
     pub fn volume_recovery_new(

@@ -1,6 +1,6 @@
-//! The story of a failed writer, and that of a replaced member, over messages that are handed from call to call.
+//! A writer that fails, and a member that is replaced; the test hands each message from call to call.
 
-use volume::{Authority, Change, Fault, Plan, PlanFault, Recovery, Segment, Writer};
+use volume::{Authority, Change, Fault, Plan, PlanFault, Recovery, Segment, Snapshot, Writer};
 
 const SIX_COPIES: &str = include_str!("../../../examples/six_copies.json");
 const MEMBER_REPLACED: &str = include_str!("../../../examples/member_replaced.json");
@@ -58,7 +58,7 @@ fn commit(
     lsn
 }
 
-/// Recovers over these members, of which all report and install.
+/// Recovers with these members, which all report and install.
 fn recover(
     plan: &mut Plan,
     authority: &mut Authority,
@@ -148,19 +148,36 @@ fn a_member_is_replaced_while_the_writer_writes() {
     assert!(writer.is_acknowledged(after).unwrap());
 }
 
+/// What is left of a snapshot, in pieces of a record at most.
+fn in_pieces(snapshot: &mut Snapshot) -> Vec<u8> {
+    let mut bytes = Vec::new();
+    let mut piece = [0; 109];
+    loop {
+        match snapshot.read(&mut piece).unwrap() {
+            0 => return bytes,
+            written => bytes.extend_from_slice(&piece[..written]),
+        }
+    }
+}
+
+fn all_of(segment: &mut Segment) -> Vec<u8> {
+    segment.snapshot().unwrap().into_bytes().unwrap()
+}
+
 #[test]
 fn a_segment_resumes_from_its_snapshot_and_its_log() {
     let mut plan = plan(SIX_COPIES);
     let mut segments = segments(&mut plan, 6);
     let mut writer = Writer::first(&mut plan).unwrap();
     commit(&mut writer, &mut segments, &[0, 1, 2, 3], 1, b"one");
-    let saved = segments[0].snapshot().unwrap();
+    let mut snapshot = segments[0].snapshot().unwrap();
     let (_, logged) = issue(&mut writer, 1, b"two");
     deliver(&mut segments[0], &logged);
+    let saved = in_pieces(&mut snapshot);
 
     let mut resumed = Segment::resume(&mut plan, 0, 0, &saved).unwrap();
     deliver(&mut resumed, &logged);
-    assert_eq!(resumed.snapshot().unwrap(), segments[0].snapshot().unwrap());
+    assert_eq!(all_of(&mut resumed), all_of(&mut segments[0]));
 
     let spoilt = Segment::resume(&mut plan, 0, 0, &saved[..saved.len() - 1]);
     assert_eq!(spoilt.err().map(Fault::number), Some(1));
@@ -185,7 +202,7 @@ fn refusals_say_what_is_wrong() {
     assert_eq!(Change::new(0, 0, 0, b"").err().map(Fault::number), Some(72));
 }
 
-/// A frame of Writes is answered by one Ack, which says what those to its messages say.
+/// A frame of Writes is answered by one Ack: the last of those that its messages would get one by one.
 #[test]
 fn a_frame_is_taken_like_its_messages() {
     let mut plan = plan(SIX_COPIES);

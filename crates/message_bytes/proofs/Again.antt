@@ -1,8 +1,8 @@
 -- What was written is read again.
-use Rattle.std.proofs.Common.{◌≡◌, ℕ, suc, ◌+◌, ◌^◌, ◌<◌, true, false, nat_lt, List, [], ◌∷◌, ◌++◌, length, map, get_or, take, Ok, refl, sym, ap, ap₂, subst, ◌∙◌, append_assoc, arith}
+use Rattle.std.proofs.Common.{◌≡◌, ℕ, suc, ◌+◌, ◌^◌, ◌<◌, true, false, nat_lt, List, [], ◌∷◌, ◌++◌, length, map, get_or, drop, take, Ok, refl, sym, ap, ap₂, subst, ◌∙◌, append_assoc, arith}
 use Rattle.std.specs.Int.{w32, w64, to_be_bytes}
 use Rattle.std.proofs.lemmas.Bool.{and_parts, le-ltb}
-use Rattle.std.proofs.lemmas.List.{take_at, drop_at, append-nil, length-append, get_or_append_left, get_or_at, map_more}
+use Rattle.std.proofs.lemmas.List.{take_at, drop-drop, drop_at, append-nil, length-append, get_or_append_left, get_or_at, map_more}
 use Rattle.volume_model.specs.Redo.{Redo, spelling, numbers_before}
 use Rattle.volume_model.specs.Lineage.{Entry, Lineage, Contents}
 use Rattle.redo_record.specs.declared.shared_record.SharedRecord.{SharedRecord}
@@ -21,17 +21,24 @@ pub three : (o a b c : List ℕ) → ((o ++ a) ++ b) ++ c ≡ o ++ (a ++ (b ++ c
 three o a b c = append_assoc (o ++ a) b c ∙ append_assoc o a (b ++ c)
 
 -- one record more
-pub packets-more : (packets : List SharedRecord) (i : ℕ) (p : SharedRecord) (items more old : List ℕ) → i < length packets → p ≡ get_or packets i p → more ≡ items ++ spelled (shared_redo p) → decoded (spelled (shared_redo p)) ≡ Ok (shared_redo p)
-    → (items ≡ old ++ records_spelled (map shared_redo (take i packets))) × AreReadBack (map shared_redo (take i packets))
-    → (more ≡ old ++ records_spelled (map shared_redo (take (i + 1) packets))) × AreReadBack (map shared_redo (take (i + 1) packets))
-packets-more packets i p items more old within is grown reads (so_far, back) =
+pub records-more : (packets : List SharedRecord) (i : ℕ) (p : SharedRecord) (items more old : List ℕ) → i < length packets → p ≡ get_or packets i p → more ≡ items ++ spelled (shared_redo p)
+    → items ≡ old ++ records_spelled (map shared_redo (take i packets)) → more ≡ old ++ records_spelled (map shared_redo (take (i + 1) packets))
+records-more packets i p items more old within is grown so_far =
     let r = shared_redo p in
     let front = map shared_redo (take i packets) in
     let step : front ++ r ∷ [] ≡ map shared_redo (take (i + 1) packets) = ap (λ (q : SharedRecord). front ++ shared_redo q ∷ []) is ∙ sym (map_more shared_redo packets i p within) in
     let text : more ≡ old ++ records_spelled (front ++ r ∷ []) =
     grown ∙ ap (λ (t : List ℕ). t ++ spelled r) so_far ∙ append_assoc old (records_spelled front) (spelled r)
     ∙ ap (λ (t : List ℕ). old ++ t) (ap (λ (t : List ℕ). records_spelled front ++ t) (sym (append-nil (spelled r))) ∙ sym (records_spelled-append front (r ∷ []))) in
-    (text ∙ ap (λ (rs : List Redo). old ++ records_spelled rs) step, subst AreReadBack step (pushed front back))
+    text ∙ ap (λ (rs : List Redo). old ++ records_spelled rs) step
+
+-- one record more is read back
+pub back-more : (packets : List SharedRecord) (i : ℕ) (p : SharedRecord) → i < length packets → p ≡ get_or packets i p → decoded (spelled (shared_redo p)) ≡ Ok (shared_redo p)
+    → AreReadBack (map shared_redo (take i packets)) → AreReadBack (map shared_redo (take (i + 1) packets))
+back-more packets i p within is reads back =
+    let front = map shared_redo (take i packets) in
+    let step : front ++ shared_redo p ∷ [] ≡ map shared_redo (take (i + 1) packets) = ap (λ (q : SharedRecord). front ++ shared_redo q ∷ []) is ∙ sym (map_more shared_redo packets i p within) in
+    subst AreReadBack step (pushed front back)
   where
     pushed : (xs : List Redo) → AreReadBack xs → AreReadBack (xs ++ shared_redo p ∷ [])
     pushed [] b = (reads, tt)
@@ -112,3 +119,7 @@ pub copied : (o e s p t : List ℕ) (g f : ℕ) → (((((o ++ g ∷ []) ++ e) ++
 copied o e s p t g f =
     let front : (((o ++ g ∷ []) ++ e) ++ f ∷ []) ++ s ≡ (o ++ (g ∷ e)) ++ (f ∷ s) = append_assoc ((o ++ g ∷ []) ++ e) (f ∷ []) s ∙ ap (λ (y : List ℕ). y ++ (f ∷ s)) (append_assoc o (g ∷ []) e) in
     ap (λ (y : List ℕ). (y ++ p) ++ t) front ∙ append_assoc ((o ++ (g ∷ e)) ++ (f ∷ s)) p t ∙ three o (g ∷ e) (f ∷ s) (p ++ t)
+
+-- what follows a place stays as it was, further on too
+pub drop-further : (n m : ℕ) (a b c : List ℕ) → drop (n + m) a ≡ drop (n + m) b → drop n b ≡ drop n c → drop (n + m) a ≡ drop (n + m) c
+drop-further n m a b c first same = first ∙ sym (drop-drop m n b) ∙ ap (λ (t : List ℕ). drop m t) same ∙ drop-drop m n c

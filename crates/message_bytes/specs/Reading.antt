@@ -1,4 +1,4 @@
--- Messages, read from left to right, with the first fault that is met.
+-- Decoding messages from left to right, up to the first fault.
 use Rattle.std.specs.Prelude.{ℕ, zero, suc, List, [], ◌∷◌, ◌++◌, not, ◌==◌, nat_lt, length, Result, Ok, Err, if◌then◌else◌}
 use Rattle.std.specs.Int.{w16, w32, w64}
 use Rattle.volume_model.specs.Answer.{◌>>=◌}
@@ -31,14 +31,14 @@ place_at bytes = do
   epoch ← number_at w32 configuration.1
   Ok (record { configuration = configuration.0; epoch = epoch.0 }, epoch.1)
 
--- so many places, behind those that were read before
+-- n places, appended to those that were decoded before
 unfoldable pub places_at : ℕ → List Place → List ℕ → Read (List Place)
 places_at zero kept bytes = Ok (kept, bytes)
 places_at (suc n) kept bytes = do
   place ← place_at bytes
   places_at n (kept ++ place.0 ∷ []) place.1
 
--- a View's volume epoch is at least 1
+-- a View's volume epoch, which is at least 1
 unfoldable pub volume_at : List ℕ → Read ℕ
 volume_at bytes = do
   volume ← number_at w32 bytes
@@ -146,18 +146,18 @@ body_at kind bytes =
     else if kind == 12 then page_at bytes
     else Err BadField
 
--- version 1, which stands first
+-- the version, which is 1
 unfoldable pub version_at : List ℕ → Read ℕ
 version_at bytes = do
   version ← byte_at bytes
   refuse_if (not (version.0 == 1)) BadField (Ok (version.0, version.1))
 
--- what was read is all of the bytes
+-- refused if bytes are left
 abbrev pub ended : {A : Type 0} → A × List ℕ → Result A Fault
 ended x = refuse_if (nat_lt 0 (length x.1)) Trailing (Ok x.0)
 
--- the message that the bytes spell, all of them, or the first fault: the version, the kind, the fields from left to
--- right, and nothing after them
+-- the message that all these bytes encode, or the first fault: of the version, the kind, the fields from left to right,
+-- or of bytes after them
 unfoldable pub message_in : List ℕ → Result Message Fault
 message_in bytes = do
   version ← version_at bytes

@@ -1,4 +1,4 @@
--- The one spelling of each message, and of what it carries.
+-- The canonical bytes of each message and of its parts.
 use Rattle.std.specs.Prelude.{◌≡◌, ◌<◌, ◌^◌, ℕ, List, [], ◌∷◌, ◌++◌, length, Ok}
 use Rattle.std.specs.Int.{w16, w32, w64, to_be_bytes}
 use Rattle.volume_model.specs.Redo.{Redo}
@@ -34,18 +34,22 @@ abbrev pub entries_spelled : Lineage → List ℕ
 entries_spelled [] = []
 entries_spelled (e ∷ older) = entries_spelled older ++ entry_spelled e
 
--- the records, in order, each of its own length
+-- the records, in order; each has its own length
 abbrev pub records_spelled : List Redo → List ℕ
 records_spelled [] = []
 records_spelled (r ∷ rest) = spelled r ++ records_spelled rest
 
--- how many entries there are, and the entries
+-- the number of entries, and the entries
 abbrev pub lineage_spelled : Lineage → List ℕ
 lineage_spelled lineage = to_be_bytes w32 (length lineage) ++ entries_spelled lineage
 
--- how many records there are, and the records
+-- the number of records, and the records
 abbrev pub set_spelled : List Redo → List ℕ
 set_spelled records = to_be_bytes w32 (length records) ++ records_spelled records
+
+-- what stands before the records of contents
+abbrev pub contents_head : Contents → List ℕ
+contents_head c = lineage_spelled c.lineage ++ to_be_bytes w32 (length c.records)
 
 abbrev pub contents_spelled : Contents → List ℕ
 contents_spelled c = lineage_spelled c.lineage ++ set_spelled c.records
@@ -65,7 +69,7 @@ kind_of (CopyReport group epoch from series piece c) = 10
 kind_of (PageAsk group label block point) = 11
 kind_of (Page group label from block point image) = 12
 
--- the fields of a message, one after the other
+-- the fields of a message, in order
 abbrev pub body_spelled : Message → List ℕ
 body_spelled (View volume places) = to_be_bytes w32 volume ++ (to_be_bytes w32 (length places) ++ places_spelled places)
 body_spelled (StepTo group place) = group ∷ place_spelled place
@@ -91,11 +95,11 @@ tagged_spelled m = kind_of m ∷ body_spelled m
 abbrev pub message_spelled : Message → List ℕ
 message_spelled m = 1 ∷ tagged_spelled m
 
--- the fields of the message are read back as it, and leave nothing
+-- decoding the fields of the message gives the message, and leaves no bytes
 abbrev pub IsReadBack : Message → Type 0
 IsReadBack m = body_at (kind_of m) (body_spelled m) ≡ Ok (m, [])
 
--- an entry's numbers fit their widths
+-- the numbers of an entry fit their widths
 pub record IsEntry (e : Entry) : Type 0 where
   pub volume : e.volume < 2 ^ 32
   pub cut : e.cut < 2 ^ 64
@@ -105,12 +109,12 @@ abbrev pub AreEntries : Lineage → Type 0
 AreEntries [] = Unit {0}
 AreEntries (e ∷ older) = IsEntry e × AreEntries older
 
--- each epoch fits its width
+-- the membership epoch of each place fits its width
 abbrev pub ArePlaces : List Place → Type 0
 ArePlaces [] = Unit {0}
 ArePlaces (place ∷ rest) = (place.epoch < 2 ^ 32) × ArePlaces rest
 
--- what each of the records is spelled by is read as that record
+-- decoding the bytes of each record gives the record
 abbrev pub AreReadBack : List Redo → Type 0
 AreReadBack [] = Unit {0}
 AreReadBack (r ∷ rest) = (decoded (spelled r) ≡ Ok r) × AreReadBack rest

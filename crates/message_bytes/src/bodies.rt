@@ -1,4 +1,4 @@
-//! Writes the fields of each kind of message.
+//! Encodes the fields of each kind of message.
 
 ghost use Rattle.std.specs.Prelude.{◌≡◌, ◌<◌, ◌^◌, ◌++◌, length, map, OnOk};
 ghost use Rattle.wire.specs.Message.{label_of, place_of, message_of};
@@ -13,7 +13,6 @@ use wire::{
     StepTo, View, Write,
 };
 
-/// Appends a group and a label.
 fn put_labelled(out: &mut Vec<u8>, group: u8, label: Label) -> Result<(), AllocError>
     ensures text { OnOk result (out.new.items ≡ out.old.items ++ labelled_spelled group (label_of label)) }
     ensures volume { label.volume < 2 ^ 32 }
@@ -34,7 +33,6 @@ pub fn put_place(out: &mut Vec<u8>, place: Place) -> Result<(), AllocError>
     put_u32(out, place.epoch)
 }
 
-/// Appends places.
 fn put_places(out: &mut Vec<u8>, places: &[Place]) -> Result<(), AllocError>
     ensures text { OnOk result (out.new.items ≡ out.old.items ++ places_spelled (map place_of places.now)) }
     ensures fits { OnOk result (ArePlaces (map place_of places.now)) }
@@ -45,7 +43,7 @@ fn put_places(out: &mut Vec<u8>, places: &[Place]) -> Result<(), AllocError>
     Ok(())
 }
 
-/// Appends the number of a piece, and how many there are.
+/// Appends the number of a piece, and the number of pieces.
 fn put_piece(out: &mut Vec<u8>, piece: u16, of: u16) -> Result<(), AllocError>
     ensures text { OnOk result (out.new.items ≡ out.old.items ++ piece_spelled (piece_in piece of)) }
     ensures number { piece < 2 ^ 16 }

@@ -1,4 +1,4 @@
-//! Reads lineages and sets of records.
+//! Decodes lineages and sets of records.
 
 ghost use Rattle.std.specs.Prelude.{◌≡◌, [], ◌∷◌, ◌++◌, IsTrue, IfErr};
 ghost use Rattle.volume_model.specs.Answer.{Gives};
@@ -17,10 +17,10 @@ use std::alloc::Global;
 use volume_model::Fault;
 use wire::Contents;
 
-/// The bytes of a record's numbers, which stand before the bytes that it writes.
+/// The bytes of a record's fixed-size fields, which come before the bytes that it writes.
 const HEAD_BYTES: usize = 45;
 
-/// Reads a record, which gives its own length in its last number.
+/// Decodes a record. Its length is in its last fixed-size field.
 #[tactic(auto, unfolding(crate::specs::Contents::redo_at))]
 pub fn packet_of(alloc: Global, bytes: &[u8]) -> Result<(SharedRecord, &[u8]), Fault>
     ensures { Gives (λ x. (shared_redo x.0, x.1.now)) result (redo_at bytes.now) }
@@ -52,14 +52,14 @@ fn read_entry(bytes: &[u8]) -> Result<(Entry, &[u8]), Fault>
     Ok((entry, rest))
 }
 
-/// Returns a lineage with one entry more.
+/// Returns a lineage with one more entry.
 fn added(lineage: &Lineage, entry: Entry) -> Result<Lineage, Fault>
     ensures { Gives lineage_of result (with_entry (lineage_of lineage.now) (entry_of entry)) }
 {
     lineage.added(entry)
 }
 
-/// Reads `count` entries, oldest first.
+/// Decodes `count` entries, oldest first.
 fn read_entries(alloc: Global, count: u32, bytes: &[u8]) -> Result<(Lineage, &[u8]), Fault>
     ensures { Gives (λ x. (lineage_of x.0, x.1.now)) result (entries_at count [] bytes.now) }
 {
@@ -85,7 +85,7 @@ fn comes_next(set: &RecordSet, packet: &SharedRecord) -> bool
     packets[packets.len() - 1].is_before(packet)
 }
 
-/// Returns a set with one record more, or `BadField` if it doesn't come after the last one.
+/// Returns a set with one more record, or `BadField` if the record doesn't come after the last one.
 fn pushed(mut set: RecordSet, packet: SharedRecord) -> Result<RecordSet, Fault>
     ensures { Gives sets.records_of result (with_next (sets.records_of set) (shared_redo packet)) }
 {
@@ -96,7 +96,7 @@ fn pushed(mut set: RecordSet, packet: SharedRecord) -> Result<RecordSet, Fault>
     Ok(set)
 }
 
-/// Reads `count` records, in order.
+/// Decodes `count` records, in order.
 fn read_records(alloc: Global, count: u32, bytes: &[u8]) -> Result<(RecordSet, &[u8]), Fault>
     ensures { Gives (λ x. (sets.records_of x.0, x.1.now)) result (records_at count [] bytes.now) }
 {
@@ -126,10 +126,10 @@ fn read_set(alloc: Global, bytes: &[u8]) -> Result<(RecordSet, &[u8]), Fault>
     read_records(alloc, count, rest)
 }
 
-/// Reads a lineage and a set of records; returns them and what follows them.
+/// Decodes a lineage and a set of records. Returns them with the bytes left.
 ///
 /// # Errors
-/// `Short` or `BadField`, the first that is met from left to right; `NoMemory`.
+/// `Short` or `BadField`, whichever comes first from left to right; `NoMemory` if memory runs out.
 #[tactic(auto, unfolding(crate::specs::Contents::contents_at))]
 pub fn read_contents(alloc: Global, bytes: &[u8]) -> Result<(Contents, &[u8]), Fault>
     ensures { Gives (λ x. (contents_of x.0, x.1.now)) result (contents_at bytes.now) }

@@ -1,4 +1,4 @@
-//! Reads a message from its bytes.
+//! Decodes a message.
 
 ghost use Rattle.std.specs.Prelude.{◌≡◌, IfOk};
 ghost use Rattle.volume_model.specs.Answer.{Gives};
@@ -15,7 +15,7 @@ use std::alloc::Global;
 use volume_model::Fault;
 use wire::Message;
 
-/// The version of these bytes.
+/// The version of the encoding.
 pub const VERSION: u8 = 1;
 
 #[tactic(auto, unfolding(crate::specs::Reading::version_at))]
@@ -63,11 +63,13 @@ fn whole(alloc: Global, bytes: &[u8]) -> Result<Message, Fault>
     Ok(message)
 }
 
-/// Reads the message that these bytes spell, all of them. No length in the bytes reserves memory before the bytes behind it are there.
+/// Decodes the message that all these bytes encode. A length in the bytes reserves no memory for elements that don't
+/// follow.
 ///
 /// # Errors
-/// `Short` if the bytes end too early, `BadField` for another version or kind, for a field that isn't allowed and for records or entries
-/// out of order, `Trailing` if bytes are left: the first that is met from left to right. `NoMemory` if a growth was refused.
+/// The first fault from left to right: `Short` if the bytes end too early; `BadField` for another version or kind, a
+/// field that isn't allowed, or records or entries out of order; `Trailing` if bytes are left. `NoMemory` if memory
+/// runs out.
 pub fn decode(alloc: Global, bytes: &[u8]) -> Result<Message, Fault>
     ensures exact { Gives message_of result (message_in bytes.now) }
     ensures canonical { IfOk result (λ m. bytes.now ≡ message_spelled (message_of m)) }

@@ -1,4 +1,4 @@
-//! Writes a message as bytes.
+//! Encodes a message.
 
 ghost use Rattle.std.specs.Prelude.{◌≡◌, ◌++◌, Ok, IfOk, OnOk};
 ghost use Rattle.wire.specs.Message.{message_of};
@@ -56,8 +56,8 @@ fn put_body(alloc: Global, out: &mut Vec<u8>, message: &Message) -> Result<(), F
     Ok(())
 }
 
-/// Returns how many bytes to reserve: those of a message without a list and of the longest record, and of a list its
-/// beginning, since long lists grow seldom. A message that needs more grows.
+/// Returns how many bytes to reserve: enough for a message without lists and for the longest record, else the first
+/// part of a list. A longer message grows its buffer.
 fn bytes_to_reserve(message: &Message) -> usize {
     match message {
         Message::Write(_) | Message::Gossip(_) => 120,
@@ -67,10 +67,10 @@ fn bytes_to_reserve(message: &Message) -> usize {
     }
 }
 
-/// Returns the one spelling of a message, which [`decode`](crate::decode) reads back as that message.
+/// Returns the canonical bytes of a message, from which [`decode`](crate::decode) gives the same message.
 ///
 /// # Errors
-/// `Full` if a list is longer than four bytes can count, `NoMemory` if a growth was refused.
+/// `Full` if a list is longer than a `u32` can count, `NoMemory` if memory runs out.
 pub fn encode(alloc: Global, message: &Message) -> Result<Vec<u8>, Fault>
     ensures text { IfOk result (λ text. text.items ≡ message_spelled (message_of message.now)) }
     ensures reads { IfOk result (λ text. message_in text.items ≡ Ok (message_of message.now)) }

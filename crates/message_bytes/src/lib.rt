@@ -1,7 +1,7 @@
 //! Messages as bytes, for an engine's own transport.
 //!
-//! A message is a version byte, a kind byte and its fields, big-endian and without gaps; docs/WIRE.md has the layout. Each message has one
-//! spelling: [`decode`] accepts exactly the bytes that [`encode`] gives.
+//! A message is a version byte, a kind byte and its fields, big-endian and without gaps; docs/WIRE.md has the layout.
+//! The encoding is canonical: [`decode`] accepts exactly the bytes that [`encode`] returns.
 #![tactic(auto)]
 
 mod bodies;
@@ -19,4 +19,4 @@ pub use decoding::decode;
 pub use encoding::encode;
 pub use numbers::{u8_at, u32_at, u64_at};
 pub use places::read_place;
-pub use writing::{put_contents, put_u32, put_u64};
+pub use writing::{put_at, put_contents_head, put_u32, put_u64, write_records};

@@ -1,4 +1,4 @@
-//! Reads numbers and bytes from the front of a slice.
+//! Decodes numbers and bytes from the front of a slice.
 
 ghost use Rattle.std.specs.Prelude.{◌≡◌};
 ghost use Rattle.std.specs.Int.{w16, w32, w64};
@@ -7,7 +7,7 @@ ghost use Rattle.message_bytes.specs.Numbers.{byte_at, number_at, image_at};
 
 use volume_model::Fault;
 
-/// Reads a byte; returns it and what follows it. `Short` if there is none.
+/// Decodes a byte. Returns it with the bytes left, or `Short` if there is none.
 pub fn u8_at(bytes: &[u8]) -> Result<(u8, &[u8]), Fault>
     ensures { Gives (λ x. (x.0, x.1.now)) result (byte_at bytes.now) }
 {
@@ -17,7 +17,7 @@ pub fn u8_at(bytes: &[u8]) -> Result<(u8, &[u8]), Fault>
     }
 }
 
-/// Reads a number of two bytes, high byte first.
+/// Decodes a big-endian number of two bytes.
 pub fn u16_at(bytes: &[u8]) -> Result<(u16, &[u8]), Fault>
     ensures { Gives (λ x. (x.0, x.1.now)) result (number_at w16 bytes.now) }
 {
@@ -29,7 +29,7 @@ pub fn u16_at(bytes: &[u8]) -> Result<(u16, &[u8]), Fault>
     Ok((number, rest))
 }
 
-/// Reads a number of four bytes, high byte first.
+/// Decodes a big-endian number of four bytes.
 pub fn u32_at(bytes: &[u8]) -> Result<(u32, &[u8]), Fault>
     ensures { Gives (λ x. (x.0, x.1.now)) result (number_at w32 bytes.now) }
 {
@@ -41,7 +41,7 @@ pub fn u32_at(bytes: &[u8]) -> Result<(u32, &[u8]), Fault>
     Ok((number, rest))
 }
 
-/// Reads a number of eight bytes, high byte first.
+/// Decodes a big-endian number of eight bytes.
 pub fn u64_at(bytes: &[u8]) -> Result<(u64, &[u8]), Fault>
     ensures { Gives (λ x. (x.0, x.1.now)) result (number_at w64 bytes.now) }
 {
@@ -55,7 +55,7 @@ pub fn u64_at(bytes: &[u8]) -> Result<(u64, &[u8]), Fault>
     Ok((number, rest))
 }
 
-/// Reads the 512 bytes of a page.
+/// Decodes the 512 bytes of a page.
 pub fn read_image(bytes: &[u8]) -> Result<([u8; 512], &[u8]), Fault>
     ensures { Gives (λ x. (x.0, x.1.now)) result (image_at bytes.now) }
 {

@@ -1,4 +1,4 @@
-//! Reads labels, places and lists of places.
+//! Decodes labels, places and lists of places.
 
 ghost use Rattle.std.specs.Prelude.{◌≡◌, [], ◌∷◌, ◌++◌, map};
 ghost use Rattle.volume_model.specs.Answer.{Gives};
@@ -19,7 +19,7 @@ fn read_label(bytes: &[u8]) -> Result<(Label, &[u8]), Fault>
     Ok((Label { volume, member }, rest))
 }
 
-/// Reads a group and a label.
+/// Decodes a group and a label.
 #[tactic(auto, unfolding(crate::specs::Reading::labelled_at))]
 pub fn labelled(bytes: &[u8]) -> Result<(u8, Label, &[u8]), Fault>
     ensures { Gives (λ x. ((x.0, label_of x.1), x.2.now)) result (labelled_at bytes.now) }
@@ -29,7 +29,7 @@ pub fn labelled(bytes: &[u8]) -> Result<(u8, Label, &[u8]), Fault>
     Ok((group, label, rest))
 }
 
-/// Reads a configuration and its membership epoch.
+/// Decodes a configuration and its membership epoch.
 #[tactic(auto, unfolding(crate::specs::Reading::place_at))]
 pub fn read_place(bytes: &[u8]) -> Result<(Place, &[u8]), Fault>
     ensures { Gives (λ x. (place_of x.0, x.1.now)) result (place_at bytes.now) }
@@ -43,7 +43,7 @@ pub fn read_place(bytes: &[u8]) -> Result<(Place, &[u8]), Fault>
     Ok((place, rest))
 }
 
-/// Reads `count` places.
+/// Decodes `count` places.
 pub fn read_places(alloc: Global, count: u32, bytes: &[u8]) -> Result<(Vec<Place>, &[u8]), Fault>
     ensures { Gives (λ x. (map place_of x.0.items, x.1.now)) result (places_at count [] bytes.now) }
 {

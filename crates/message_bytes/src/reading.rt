@@ -1,4 +1,4 @@
-//! Reads the fields of each kind of message.
+//! Decodes the fields of each kind of message.
 
 ghost use Rattle.std.specs.Prelude.{◌≡◌, ◌≤◌, IfOk};
 ghost use Rattle.volume_model.specs.Answer.{Gives};
@@ -28,7 +28,7 @@ fn read_volume(bytes: &[u8]) -> Result<(u32, &[u8]), Fault>
     Ok((volume, rest))
 }
 
-/// Reads a `View` off the bytes behind a message's kind, and returns it with the bytes left.
+/// Reads a `View` from the bytes after a message's kind. Returns it with the bytes left.
 #[tactic(auto, unfolding(crate::specs::Reading::view_at))]
 pub fn view_of(alloc: Global, bytes: &[u8]) -> Result<(Message, &[u8]), Fault>
     ensures { Gives (λ x. (message_of x.0, x.1.now)) result (view_at bytes.now) }
@@ -43,7 +43,7 @@ pub fn view_of(alloc: Global, bytes: &[u8]) -> Result<(Message, &[u8]), Fault>
     Ok((Message::View(view), rest))
 }
 
-/// Reads a `StepTo` off the bytes behind a message's kind, and returns it with the bytes left.
+/// Reads a `StepTo` from the bytes after a message's kind. Returns it with the bytes left.
 #[tactic(auto, unfolding(crate::specs::Reading::step_at))]
 pub fn step_of(bytes: &[u8]) -> Result<(Message, &[u8]), Fault>
     ensures { Gives (λ x. (message_of x.0, x.1.now)) result (step_at bytes.now) }
@@ -53,7 +53,7 @@ pub fn step_of(bytes: &[u8]) -> Result<(Message, &[u8]), Fault>
     Ok((Message::StepTo(StepTo { group, place }), rest))
 }
 
-/// Reads a `Fence` off the bytes behind a message's kind, and returns it with the bytes left.
+/// Reads a `Fence` from the bytes after a message's kind. Returns it with the bytes left.
 #[tactic(auto, unfolding(crate::specs::Reading::fence_at))]
 pub fn fence_of(bytes: &[u8]) -> Result<(Message, &[u8]), Fault>
     ensures { Gives (λ x. (message_of x.0, x.1.now)) result (fence_at bytes.now) }
@@ -62,7 +62,7 @@ pub fn fence_of(bytes: &[u8]) -> Result<(Message, &[u8]), Fault>
     Ok((Message::Fence(Fence { group, label }), rest))
 }
 
-/// Reads a `Report` off the bytes behind a message's kind, and returns it with the bytes left.
+/// Reads a `Report` from the bytes after a message's kind. Returns it with the bytes left.
 #[tactic(auto, unfolding(crate::specs::Reading::report_at))]
 pub fn report_of(alloc: Global, bytes: &[u8]) -> Result<(Message, &[u8]), Fault>
     ensures { Gives (λ x. (message_of x.0, x.1.now)) result (report_at bytes.now) }
@@ -79,7 +79,7 @@ pub fn report_of(alloc: Global, bytes: &[u8]) -> Result<(Message, &[u8]), Fault>
     Ok((Message::Report(report), rest))
 }
 
-/// Reads an `Install` off the bytes behind a message's kind, and returns it with the bytes left.
+/// Reads an `Install` from the bytes after a message's kind. Returns it with the bytes left.
 #[tactic(auto, unfolding(crate::specs::Reading::install_at))]
 pub fn install_of(alloc: Global, bytes: &[u8]) -> Result<(Message, &[u8]), Fault>
     ensures { Gives (λ x. (message_of x.0, x.1.now)) result (install_at bytes.now) }
@@ -98,7 +98,7 @@ pub fn install_of(alloc: Global, bytes: &[u8]) -> Result<(Message, &[u8]), Fault
     Ok((Message::Install(install), rest))
 }
 
-/// Reads a `Write` off the bytes behind a message's kind, and returns it with the bytes left.
+/// Reads a `Write` from the bytes after a message's kind. Returns it with the bytes left.
 #[tactic(auto, unfolding(crate::specs::Reading::write_at))]
 pub fn write_of(alloc: Global, bytes: &[u8]) -> Result<(Message, &[u8]), Fault>
     ensures { Gives (λ x. (message_of x.0, x.1.now)) result (write_at bytes.now) }
@@ -113,7 +113,7 @@ pub fn write_of(alloc: Global, bytes: &[u8]) -> Result<(Message, &[u8]), Fault>
     Ok((Message::Write(write), rest))
 }
 
-/// Reads a `Gossip` off the bytes behind a message's kind, and returns it with the bytes left.
+/// Reads a `Gossip` from the bytes after a message's kind. Returns it with the bytes left.
 #[tactic(auto, unfolding(crate::specs::Reading::gossip_at))]
 pub fn gossip_of(alloc: Global, bytes: &[u8]) -> Result<(Message, &[u8]), Fault>
     ensures { Gives (λ x. (message_of x.0, x.1.now)) result (gossip_at bytes.now) }
@@ -128,7 +128,7 @@ pub fn gossip_of(alloc: Global, bytes: &[u8]) -> Result<(Message, &[u8]), Fault>
     Ok((Message::Gossip(gossip), rest))
 }
 
-/// Reads an `Ack` off the bytes behind a message's kind, and returns it with the bytes left.
+/// Reads an `Ack` from the bytes after a message's kind. Returns it with the bytes left.
 #[tactic(auto, unfolding(crate::specs::Reading::ack_at))]
 pub fn ack_of(bytes: &[u8]) -> Result<(Message, &[u8]), Fault>
     ensures { Gives (λ x. (message_of x.0, x.1.now)) result (ack_at bytes.now) }
@@ -145,7 +145,7 @@ pub fn ack_of(bytes: &[u8]) -> Result<(Message, &[u8]), Fault>
     Ok((Message::Ack(ack), rest))
 }
 
-/// Reads a `CopyAsk` off the bytes behind a message's kind, and returns it with the bytes left.
+/// Reads a `CopyAsk` from the bytes after a message's kind. Returns it with the bytes left.
 #[tactic(auto, unfolding(crate::specs::Reading::copy_ask_at))]
 pub fn copy_ask_of(bytes: &[u8]) -> Result<(Message, &[u8]), Fault>
     ensures { Gives (λ x. (message_of x.0, x.1.now)) result (copy_ask_at bytes.now) }
@@ -155,7 +155,7 @@ pub fn copy_ask_of(bytes: &[u8]) -> Result<(Message, &[u8]), Fault>
     Ok((Message::CopyAsk(CopyAsk { group, epoch }), rest))
 }
 
-/// Reads a `CopyReport` off the bytes behind a message's kind, and returns it with the bytes left.
+/// Reads a `CopyReport` from the bytes after a message's kind. Returns it with the bytes left.
 #[tactic(auto, unfolding(crate::specs::Reading::copy_report_at))]
 pub fn copy_report_of(alloc: Global, bytes: &[u8]) -> Result<(Message, &[u8]), Fault>
     ensures { Gives (λ x. (message_of x.0, x.1.now)) result (copy_report_at bytes.now) }
@@ -179,7 +179,7 @@ pub fn copy_report_of(alloc: Global, bytes: &[u8]) -> Result<(Message, &[u8]), F
     Ok((Message::CopyReport(report), rest))
 }
 
-/// Reads a `PageAsk` off the bytes behind a message's kind, and returns it with the bytes left.
+/// Reads a `PageAsk` from the bytes after a message's kind. Returns it with the bytes left.
 #[tactic(auto, unfolding(crate::specs::Reading::page_ask_at))]
 pub fn page_ask_of(bytes: &[u8]) -> Result<(Message, &[u8]), Fault>
     ensures { Gives (λ x. (message_of x.0, x.1.now)) result (page_ask_at bytes.now) }
@@ -196,7 +196,7 @@ pub fn page_ask_of(bytes: &[u8]) -> Result<(Message, &[u8]), Fault>
     Ok((Message::PageAsk(ask), rest))
 }
 
-/// Reads a `Page` off the bytes behind a message's kind, and returns it with the bytes left.
+/// Reads a `Page` from the bytes after a message's kind. Returns it with the bytes left.
 #[tactic(auto, unfolding(crate::specs::Reading::page_at))]
 pub fn page_of(alloc: Global, bytes: &[u8]) -> Result<(Message, &[u8]), Fault>
     ensures { Gives (λ x. (message_of x.0, x.1.now)) result (page_at bytes.now) }

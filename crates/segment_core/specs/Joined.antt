@@ -1,8 +1,8 @@
--- Several lists as one.
+-- Concatenation of lists.
 use Rattle.std.specs.Prelude.{List}
 use Rattle.std.specs.List.{flat_map}
 use Rattle.volume_model.specs.Redo.{Redo}
 
--- the records of all runs, one run after the other
+-- the records of all runs, in order
 abbrev pub joined : List (List Redo) → List Redo
 joined runs = flat_map (λ run. run) runs

@@ -1,21 +1,21 @@
--- The numbers that are pending under one number.
+-- The LSNs that are pending under one LSN.
 use Rattle.std.specs.Prelude.{◌<◌, ℕ, List, [], ◌∷◌, Option, Some, None, length, vec_capacity}
 use Rattle.segment_core.specs.declared.waiters.Waiters.{Waiters}
 use Rattle.segment_core.specs.declared.waiters.Waiters.TheVariants.{Nobody, One, Many}
 
--- those that wait, in their order
+-- the pending LSNs, in order
 abbrev pub numbers_of : Waiters → List ℕ
 numbers_of Nobody = []
 numbers_of (One m) = m ∷ []
 numbers_of (Many list) = list.items
 
--- there is room for one more: one alone stands in no list
+-- there is room for one more; a single one needs no list
 abbrev pub HasRoom : Waiters → Type 0
 HasRoom Nobody = Unit {0}
 HasRoom (One m) = ⊥
 HasRoom (Many list) = length list.items < vec_capacity list
 
--- those that wait, none where nothing is kept
+-- the pending LSNs; none if nothing is kept
 abbrev pub numbers_in : Option Waiters → List ℕ
 numbers_in None = []
 numbers_in (Some waiters) = numbers_of waiters

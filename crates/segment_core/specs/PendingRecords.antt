@@ -1,4 +1,4 @@
--- What is kept of pending numbers and the numbers that they are pending under.
+-- The kept pending LSNs, and those that they wait for.
 use Rattle.std.specs.Prelude.{ℕ, ◌<◌, ◌++◌, List, length, vec_capacity}
 use Rattle.volume_model.specs.Lists.{IsIn}
 use Rattle.segment_core.specs.declared.pending_records.PendingRecords.{PendingRecords}
@@ -7,19 +7,19 @@ use Rattle.segment_core.specs.Recent.{recent_waiters}
 use Rattle.segment_core.specs.Rising.{AreGrowing}
 use Rattle.segment_core.specs.Pending.{IsReleased}
 
--- the numbers pending under the number, in the order in which they came
+-- the LSNs pending under k, in the order in which they came
 abbrev pub waiters : PendingRecords → ℕ → List ℕ
 waiters pending k = earlier_waiters pending.earlier k ++ recent_waiters pending.recent.items k
 
--- the second number waits for the first
+-- LSN m is pending under k
 abbrev pub IsPendingIn : PendingRecords → ℕ → ℕ → Type 0
 IsPendingIn pending k m = IsIn m (waiters pending k)
 
--- there is room for one more that waits, for this number as for any
+-- there is room for one more pending record, under any LSN
 abbrev pub HasRoomFor : ℕ → PendingRecords → Type 0
 HasRoomFor k pending = length pending.recent.items < vec_capacity pending.recent
 
--- the list has exactly those that the number releases, and it itself, in growing order
+-- the list has exactly n and the LSNs that it releases, in growing order
 pub record AreReleased (pending : ℕ → ℕ → Type 0) (n : ℕ) (released : List ℕ) : Type 0 where
   pub growing : AreGrowing released
   pub only : (m : ℕ) → IsIn m released → IsReleased pending n m

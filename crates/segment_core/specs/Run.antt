@@ -4,7 +4,7 @@ use Rattle.volume_model.specs.Redo.{Redo}
 use Rattle.redo_record.specs.SharedRecord.{shared_redo}
 use Rattle.segment_core.specs.declared.run.Run.{Run}
 
--- the records of a run, in their order
+-- the records of a run, in order
 abbrev pub run_records : Run → List Redo
 run_records run = map shared_redo run.packets.items
 

@@ -11,7 +11,7 @@ use Rattle.segment_core.specs.Run.{runs_in}
 abbrev pub runs_of : Runs → List (List Redo)
 runs_of runs = runs_in runs.runs.items
 
--- the records of a set, in their order
+-- the records of a set, in order
 abbrev pub records_of : Runs → List Redo
 records_of runs = joined (runs_of runs)
 
@@ -20,7 +20,7 @@ pub record HasSpare (runs : Runs) : Type 0 where
   pub spare : IsSome runs.spare
   pub listed : length runs.runs.items < vec_capacity runs.runs
 
--- There is room for one more record in this place.
+-- There is room for one more record at this place.
 pub record HasRoomAt (runs : Runs) (place : Place) : Type 0 where
   pub counted : length (records_of runs) + 1 < 2 ^ 64
   pub spare : is_open (runs_of runs) place ≡ false → HasSpare runs

@@ -10,7 +10,7 @@ use Rattle.wire.specs.Contents.{contents_of}
 use Rattle.wire.specs.Message.{place_of}
 use Rattle.segment_core.specs.declared.snapshot.SegmentSnapshot.{SegmentSnapshot}
 
--- the model's node whose state a snapshot is
+-- the node of the model for a snapshot
 abbrev pub node_in : SegmentSnapshot → Node
 node_in s = record {
   volume = s.volume;
@@ -22,6 +22,6 @@ node_in s = record {
   copied = s.copied;
 }
 
--- a member that the plan names resumes as the node that was saved
+-- resuming a snapshot: if the plan names the member, the saved node is restored
 abbrev pub resumed : model.Plan → ℕ → ℕ → Node → Result Node Fault
 resumed plan group member node = refuse_if (not (model.is_named plan group member)) NoActor (Ok node)

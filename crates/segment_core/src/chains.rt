@@ -5,8 +5,8 @@ ghost use Rattle.std.specs.Prelude.{◌≡◌};
 use crate::pending_records::PendingRecords;
 use std::alloc::{AllocError, Global};
 
-/// The complete point of a group's records, and the pending ones. A record is pending while no chain of records leads
-/// from the LSN before it in the group down to 0; it is queued under that LSN.
+/// The complete point of a group's records, and the pending records. A record is pending while the LSN before it in the
+/// group has no chain of records down to 0; it is queued under that LSN.
 #[derive(Drop)]
 pub struct Chains {
     pending: PendingRecords,
@@ -22,7 +22,7 @@ impl Chains {
     ghost use Rattle.segment_core.specs.Pending.{IsReached, IsPending};
     ghost use Rattle.segment_core.specs.PendingRecords.{HasRoomFor, IsPendingIn, AreReleased};
 
-    /// Makes the chains of no record.
+    /// Makes the chains of an empty set.
     pub fn new(alloc: Global) -> Chains
         ensures { AreChainsOf [] result }
     {
@@ -32,7 +32,7 @@ impl Chains {
         }
     }
 
-    /// Makes the chains of records that are one chain, `last` its last LSN, 0 if there is no record.
+    /// Makes the chains of records that form one chain. `last` is the last LSN, 0 if there is no record.
     pub fn of_one_chain(alloc: Global, last: u64) -> Chains
         ensures { (records : List Redo) → GroupLinksFall records → IsOneChain 0 records last → AreChainsOf records
             result }
@@ -43,7 +43,7 @@ impl Chains {
         }
     }
 
-    /// Returns the complete point: the greatest LSN from which a chain of records leads down to 0, else 0.
+    /// Returns the complete point: the greatest LSN with a chain of records down to 0, else 0.
     pub fn point(&self) -> u64
         ensures { (records : List Redo) → AreChainsOf records self.now → result ≡ scl records }
     {
@@ -61,7 +61,7 @@ impl Chains {
     /// Reserves room for one more pending record.
     ///
     /// # Errors
-    /// `AllocError` if there is no memory; then nothing has changed.
+    /// `AllocError` if memory runs out. Nothing has changed.
     pub fn make_room(&mut self, alloc: Global, number: u64) -> Result<(), AllocError>
         ensures same { (records : List Redo) → AreChainsOf records self.old → AreChainsOf records self.new }
         ensures room { OnOk result (HasRoomFor number self.new.pending) }
@@ -81,17 +81,17 @@ impl Chains {
     }
 
     /// Returns an LSN and all that it releases, in growing order: the records pending under it, those pending under
-    /// them, and so on.
+    /// these, and so on.
     ///
     /// # Errors
-    /// `AllocError` if there is no memory for the list.
+    /// `AllocError` if memory runs out.
     pub fn released(&self, alloc: Global, number: u64) -> Result<Vec<u64>, AllocError>
         ensures { IfOk result (λ released. AreReleased (IsPendingIn self.now.pending) number released.items) }
     {
         self.pending.released(alloc, number)
     }
 
-    /// Returns the complete point after a record arrives whose chain is complete and which releases these.
+    /// Returns the complete point after a record whose chain is complete releases these LSNs.
     pub fn point_with(&self, released: &[u64]) -> u64
         ensures { (r : Redo) (records : List Redo) → IsReached records r.prev_group → GroupLinksFall
             (with_record r records) → AreReleased (IsPendingIn self.now.pending) r.lsn released.now → AreChainsOf
@@ -103,7 +103,7 @@ impl Chains {
         }
     }
 
-    /// Adds a record whose chain is complete, and releases the records pending under it.
+    /// Adds a record whose chain is complete and that releases these LSNs, its own first.
     pub fn land(&mut self, released: &[u64])
         ensures { (r : Redo) (records : List Redo) → IsReached records r.prev_group → GroupLinksFall
             (with_record r records) → AreReleased (IsPendingIn self.old.pending) r.lsn released.now → AreChainsOf

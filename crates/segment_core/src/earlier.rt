@@ -4,7 +4,7 @@ use crate::waiters::Waiters;
 use std::alloc::{AllocError, Global};
 use std::collections::BTreeMap;
 
-/// The older pending records, under the LSN that they wait for, in the order they came. Mostly there are none.
+/// The older pending records under the LSN that they wait for, in the order in which they came. Mostly there are none.
 #[derive(Drop)]
 pub struct Earlier {
     waiting: BTreeMap<u64, Waiters>,
@@ -15,7 +15,7 @@ impl Earlier {
     ghost use Rattle.volume_model.specs.Lists.{any};
     ghost use Rattle.segment_core.specs.Earlier.{earlier_waiters, IsRoomyFor};
 
-    /// Makes an empty structure: no record is pending.
+    /// Makes an empty queue.
     pub fn new(alloc: Global) -> Earlier
         ensures { (k : ℕ) → earlier_waiters result k ≡ [] }
     {
@@ -50,7 +50,7 @@ impl Earlier {
     /// Reserves room for one more pending record.
     ///
     /// # Errors
-    /// `AllocError` if there is no memory; then nothing has changed.
+    /// `AllocError` if memory runs out. Nothing has changed.
     pub fn make_room(&mut self, alloc: Global, number: u64) -> Result<(), AllocError>
         ensures same { (k : ℕ) → earlier_waiters self.new k ≡ earlier_waiters self.old k }
         ensures room { OnOk result (IsRoomyFor number self.new) }

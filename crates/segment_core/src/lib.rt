@@ -1,4 +1,4 @@
-//! A segment of a protection group: the records that it holds, its complete point, and what it answers.
+//! A segment of a protection group: its records, its complete point, and its reactions to messages.
 #![tactic(auto)]
 
 mod action;
@@ -25,6 +25,7 @@ mod search;
 mod segment;
 mod segment_state;
 mod snapshot;
+mod status;
 mod waiters;
 
 pub use crate::chains::Chains;
@@ -34,3 +35,4 @@ pub use place::Place;
 pub use prepared::Prepared;
 pub use segment::Segment;
 pub use snapshot::SegmentSnapshot;
+pub use status::SegmentStatus;

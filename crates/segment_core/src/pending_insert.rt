@@ -1,10 +1,10 @@
-//! Records that are prepared to enter.
+//! Records that are prepared to be added.
 
 use crate::chains::Chains;
 use crate::place::Place;
 use redo_record::SharedRecord;
 
-/// What a record that enters does to the chains.
+/// The effect of a new record on the chains.
 #[derive(Drop)]
 pub enum Link {
     /// Its chain is complete, and no record is pending under it.
@@ -15,7 +15,7 @@ pub enum Link {
     Pending,
 }
 
-/// A record that is prepared to stand among those of its block.
+/// A record that is prepared to be added to its block's list.
 #[derive(Drop)]
 pub struct OfBlock {
     /// The place of the block's list.
@@ -23,12 +23,12 @@ pub struct OfBlock {
     pub packet: SharedRecord,
 }
 
-/// A record that is prepared to enter: where it will stand, and what it does to the chains.
+/// A record that is prepared to be added: its place, and its effect on the chains.
 #[derive(Drop)]
 pub struct PendingInsert {
     pub place: Place,
     pub packet: SharedRecord,
-    /// The same record among those of its block, where these are kept.
+    /// The record for its block's list, if the index of blocks is built.
     pub of_block: Option<OfBlock>,
     pub link: Link,
 }
@@ -41,7 +41,7 @@ impl Link {
     ghost use Rattle.segment_core.specs.Chains.{AreChainsOf};
     ghost use Rattle.segment_core.specs.Link.{CanTie, IsLinkOf};
 
-    /// Returns the complete point with the record.
+    /// Returns the complete point after the record is added.
     pub fn point(&self, chains: &Chains, packet: &SharedRecord) -> u64
         ensures { (records : List Redo) → GroupLinksFall (with_record (shared_redo packet.now) records)
             → IsLinkOf records chains.now (shared_redo packet.now) self.now → AreChainsOf records chains.now → result
@@ -54,7 +54,7 @@ impl Link {
         }
     }
 
-    /// Ties the record into the chains.
+    /// Adds the record to the chains.
     #[inline(always)]
     pub fn tie(&self, chains: &mut Chains, packet: &SharedRecord)
         requires { CanTie self.now chains.old (shared_redo packet.now) }

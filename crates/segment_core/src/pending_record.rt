@@ -5,6 +5,6 @@
 pub struct PendingRecord {
     /// The LSN that it waits for.
     pub before: u64,
-    /// The record's LSN, which is greater.
+    /// The record's LSN, which is greater than `before`.
     pub number: u64,
 }

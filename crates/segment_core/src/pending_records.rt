@@ -12,14 +12,14 @@ use crate::pending_record::PendingRecord;
 use crate::recent::{add_waiters, has_pending, release};
 use std::alloc::{AllocError, Global};
 
-/// The initial room for LSNs that are released at once.
+/// The initial capacity for LSNs that are released at once.
 const FEW: usize = 8;
 
 /// The number of newest pending records that are kept in a list.
 const RECENT: usize = 16;
 
-/// The pending records, by the LSN that they wait for: the newest in a short list, which mostly holds all, and the
-/// older ones in a tree. Without the list a script whose records come shuffled takes 23 % more instructions.
+/// The pending records, by the LSN that they wait for. A short list has the newest, which mostly are all, and a tree
+/// the older ones. Without the list a script whose records come shuffled takes 23 % more instructions.
 #[derive(Drop)]
 pub struct PendingRecords {
     earlier: Earlier,
@@ -32,7 +32,7 @@ impl PendingRecords {
     ghost use Rattle.volume_model.specs.Lists.{any};
     ghost use Rattle.segment_core.specs.PendingRecords.{waiters, HasRoomFor, IsPendingIn, AreReleased};
 
-    /// Makes an empty structure: no record is pending.
+    /// Makes an empty queue.
     pub fn new(alloc: Global) -> PendingRecords
         ensures { (k : ℕ) → waiters result k ≡ [] }
     {
@@ -54,7 +54,7 @@ impl PendingRecords {
     /// Reserves room for one more pending record.
     ///
     /// # Errors
-    /// `AllocError` if there is no memory; then the same records are pending, in the same order.
+    /// `AllocError` if memory runs out. The same records are pending, in the same order.
     #[inline(always)]
     pub fn make_room(&mut self, alloc: Global, number: u64) -> Result<(), AllocError>
         ensures same { (k : ℕ) → waiters self.new k ≡ waiters self.old k }
@@ -70,7 +70,7 @@ impl PendingRecords {
     /// Moves the newest pending records to the older ones. Out of line, since the list mostly has room.
     ///
     /// # Errors
-    /// `AllocError` if there is no memory; then some may have been moved.
+    /// `AllocError` if memory runs out. Some may have been moved.
     #[inline(never)]
     fn move_to_earlier(&mut self, alloc: Global) -> Result<(), AllocError>
         ensures same { (k : ℕ) → waiters self.new k ≡ waiters self.old k }
@@ -109,10 +109,10 @@ impl PendingRecords {
     }
 
     /// Returns an LSN and all that it releases, in growing order: the records pending under it, those pending under
-    /// them, and so on.
+    /// these, and so on.
     ///
     /// # Errors
-    /// `AllocError` if there is no memory for the list.
+    /// `AllocError` if memory runs out.
     pub fn released(&self, alloc: Global, number: u64) -> Result<Vec<u64>, AllocError>
         ensures { IfOk result (λ released. AreReleased (IsPendingIn self.now) number released.items) }
     {

@@ -1,6 +1,6 @@
-//! Where records stand.
+//! Places in sorted runs.
 
-/// Where a record stands among runs, or would stand.
+/// The place of a record in sorted runs, or the place at which to insert it.
 #[derive(Clone, Copy)]
 pub struct Place {
     pub(crate) run: usize,

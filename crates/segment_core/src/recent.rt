@@ -1,4 +1,4 @@
-//! The newest pending records: a few, in the order they came.
+//! The newest pending records, in the order in which they came.
 
 ghost use Rattle.std.specs.List.{list_any};
 ghost use Rattle.std.specs.Prelude.{ℕ, ◌≡◌, ◌==◌, [], if◌then◌else◌, OnOk};
@@ -18,10 +18,10 @@ pub fn has_pending(pending: &[PendingRecord], before: u64) -> bool
     pending.iter().any(|entry| entry.before == before)
 }
 
-/// Adds the records pending under an LSN to a list that lacks them.
+/// Adds the records pending under an LSN to a sorted list.
 ///
 /// # Errors
-/// `AllocError` if there is no memory.
+/// `AllocError` if memory runs out.
 #[inline(always)]
 pub fn add_waiters(
     pending: &[PendingRecord],

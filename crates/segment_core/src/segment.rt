@@ -15,6 +15,7 @@ use crate::assembly::Assembly;
 use crate::prepared::{Effect, Prepared};
 use crate::records::Records;
 use crate::segment_state::SegmentState;
+use crate::status::SegmentStatus;
 use hydration::Hydration;
 use lineage::Lineage;
 use plan::CheckedPlan;
@@ -27,7 +28,7 @@ use wire::{
     Write,
 };
 
-/// How many records a segment holds at most.
+/// The most records that a segment holds.
 const MOST_RECORDS: usize = 1_048_576;
 
 /// A segment of a protection group, on one node.
@@ -38,17 +39,17 @@ pub struct Segment {
     member: u8,
     /// The promised volume epoch.
     volume: u32,
-    /// The configuration of the last step that it took.
+    /// The configuration of the last membership step that it took.
     configuration: u8,
     /// The membership epoch of that configuration, 0 before its first step.
     epoch: u32,
     whole: bool,
     held: SegmentState,
-    /// The copies that it was sent while it wasn't whole: of each sender the pieces of one copy.
+    /// The copies that it received while it wasn't whole: of each sender the pieces of one copy.
     copies: Hydration,
-    /// The pieces that it has of an install that isn't complete.
+    /// The pieces that it received of an install that isn't complete.
     assembly: Assembly,
-    /// How many copies it has made.
+    /// The number of copies that it has made.
     copied: u64,
     ghost named: { is_named (checked_model (arc_value plan)) group member ≡ true },
 }
@@ -69,12 +70,13 @@ impl Segment {
     ghost use Rattle.wire.specs.Message.{label_of, message_of, messages_of};
     ghost use Rattle.segment_core.specs.Actions.{action_after_growth};
     ghost use Rattle.segment_core.specs.Prepared.{answers_of, effected, step_of};
+    ghost use Rattle.segment_core.specs.Status.{status_of};
     ghost use Rattle.segment_core.specs.Segment.{node_of, segment_group, segment_member, action_of, answered, born, offered_step, reaction_of, replaced, CanTake, IsSegmentOf, IsSameActor, IsReady, Prepares};
 
-    /// Makes the segment of a member of a group, as it is at the volume's birth.
+    /// Makes the segment of a member of a group at the volume's birth.
     ///
     /// # Errors
-    /// `NoActor` if the plan names no such member; `NoMemory`.
+    /// `NoActor` if the plan doesn't name such a member; `NoMemory` if memory runs out.
     pub fn new(
         alloc: Global,
         plan: Arc<CheckedPlan>,
@@ -126,6 +128,20 @@ impl Segment {
         self.held.records.complete_point()
     }
 
+    /// Returns its epochs, whether it is whole, its complete point and the number of its records. Takes no memory.
+    pub fn status(&self) -> SegmentStatus
+        ensures { result ≡ status_of (node_of self.now) }
+    {
+        SegmentStatus {
+            volume_epoch: self.volume,
+            membership_epoch: self.epoch,
+            configuration: self.configuration,
+            is_whole: self.whole,
+            complete_point: self.held.records.complete_point(),
+            records: self.held.records.len(),
+        }
+    }
+
     /// Drops the pieces of copies and of an install, and keeps all else.
     pub fn restart(&mut self)
         ensures node { node_of self.new ≡ restarted (node_of self.old) }
@@ -157,7 +173,7 @@ impl Segment {
         Ok(())
     }
 
-    /// Returns the step that acknowledges what is held after it.
+    /// Returns a step with this effect that makes an Ack.
     #[inline(always)]
     fn acknowledged(&self, label: Label, scl: u64, effect: Effect) -> Prepared
         ensures made { messages_of (answers_of result) ≡ model.Message.Ack (segment_group self.now) (label_of label)
@@ -201,7 +217,7 @@ impl Segment {
         })
     }
 
-    /// Returns the step that replaces what is held by what a recovery found.
+    /// Returns the step that replaces lineage and records by those of a complete install.
     fn replaced(
         &self,
         alloc: Global,
@@ -224,8 +240,8 @@ impl Segment {
         Ok(self.acknowledged(install.label, scl, effect))
     }
 
-    /// Prepares for a piece of an install that isn't refused: keeps it, or holds what was found where it was the last
-    /// that was missing.
+    /// Prepares the reaction to a valid piece of an install: keeps it, or replaces lineage and records if no other
+    /// piece is missing.
     fn prepare_piece(&mut self, alloc: Global, install: &Install) -> Result<Prepared, AllocError>
         requires { is_bad_piece (node_of self.old).install install.now.label.volume
             (piece_in install.now.piece install.now.of) (contents_of install.now.contents.value) ≡ false }
@@ -241,7 +257,7 @@ impl Segment {
             let scl = self.held.records.complete_point();
             return Ok(self.acknowledged(install.label, scl, Effect::Promise(volume)));
         }
-        // Most installs are of one piece, which needn't be kept.
+        // Most installs have one piece, which needn't be kept.
         if install.of == 1 && self.assembly.has_none_of(volume) {
             return self.replaced(alloc, install, &install.contents.records);
         }
@@ -258,7 +274,7 @@ impl Segment {
         }
     }
 
-    /// Prepares to hold what a recovery found, of which this is a piece.
+    /// Prepares the reaction to an `Install`.
     #[inline(always)]
     fn installed(&mut self, alloc: Global, install: &Install) -> Result<Prepared, Fault>
         ensures step { Prepares (message_of (Message.Install install.now)) self.old result }
@@ -341,7 +357,7 @@ impl Segment {
         })
     }
 
-    /// Returns a record that it holds, for the other nodes of its group.
+    /// Returns a record for the other nodes of the group.
     fn gossip(&self, lsn: u64) -> Result<Carried<'_>, Fault>
         ensures own { IfErr result (λ fault. fault ≢ NoMemory) }
         ensures answers { AnswersAlways offered_step
@@ -366,12 +382,12 @@ impl Segment {
         })
     }
 
-    /// Returns a record that it holds, for the other nodes of its group, of several with the number the first in the
-    /// order of their bytes. Takes no memory.
+    /// Returns a record for the other nodes of the group; of several with this LSN, the first in the order of their
+    /// bytes. Allocates nothing.
     ///
     /// # Errors
-    /// `NotWhole` before the segment is whole, `NotInstalled` if its lineage isn't that of the volume epoch that it
-    /// has promised, `NoRecord` if it holds no such record.
+    /// `NotWhole` before the segment is whole, `NotInstalled` if its lineage isn't that of the volume epoch that it has
+    /// promised, `NoRecord` if it holds no such record.
     pub fn offer(&self, lsn: u64) -> Result<Carried<'_>, Fault>
         ensures own { IfErr result (λ fault. fault ≢ NoMemory) }
         ensures answers { AnswersAlways offered_step (offered (segment_group self.now) (node_of self.now) lsn)
@@ -384,7 +400,7 @@ impl Segment {
         }
     }
 
-    /// Prepares for a record that a client writes.
+    /// Prepares the reaction to a `Write`.
     #[inline(always)]
     fn written(&mut self, alloc: Global, write: &Write) -> Result<Prepared, Fault>
         ensures step { Prepares (message_of (Message.Write write.now)) self.old result }
@@ -398,7 +414,7 @@ impl Segment {
         self.prepare_record(alloc, write.label, &write.packet)
     }
 
-    /// Does what [`Segment::prepare`] says, out of line so that the write path keeps a small stack frame.
+    /// The general case of [`Segment::prepare`], out of line so that the write path keeps a small stack frame.
     #[inline(never)]
     fn prepare_any(&mut self, alloc: Global, message: &Message) -> Result<Prepared, Fault>
         ensures step { Prepares (message_of message.now) self.old result }
@@ -421,13 +437,12 @@ impl Segment {
         }
     }
 
-    /// Prepares the reaction to a message: finds every refusal, makes every growth, and works out the answers. The
-    /// segment is unchanged, and what is prepared is a step of the segment as it is now.
+    /// Prepares the reaction to a message: finds every refusal, allocates, and computes the answers. The segment is
+    /// unchanged. Apply the step before anything else changes the segment.
     ///
     /// # Errors
-    /// The first refusal that applies to a message of its kind, from `StaleVolume` to `SeriesSpent`, `NotAddressed`
-    /// for one that isn't for this segment, `NotInPlan` for a step that the plan doesn't have; `NoMemory` if none
-    /// applies and memory ran out.
+    /// The first refusal that applies: from `StaleVolume` to `SeriesSpent`, `NotAddressed` for a message that isn't for
+    /// this segment, `NotInPlan` for a step that isn't in the plan; else `NoMemory` if memory runs out.
     #[inline(always)]
     pub fn prepare(&mut self, alloc: Global, message: &Message) -> Result<Prepared, Fault>
         ensures step { Prepares (message_of message.now) self.old result }
@@ -441,7 +456,7 @@ impl Segment {
         self.prepare_any(alloc, message)
     }
 
-    /// Prepares for a record that a client writes: what [`Segment::prepare`] does for its message.
+    /// Prepares the reaction to a `Write`, as [`Segment::prepare`] does.
     ///
     /// # Errors
     /// Those of [`Segment::prepare`].
@@ -468,12 +483,12 @@ impl Segment {
         })
     }
 
-    /// Prepares an action: finds every refusal, makes every growth, and works out the messages. The segment is
-    /// unchanged, and what is prepared is a step of the segment as it is now.
+    /// Prepares an action: finds every refusal, allocates, and computes the messages. The segment is unchanged. Apply
+    /// the step before anything else changes the segment.
     ///
     /// # Errors
-    /// Those of [`Segment::hydrate`] for [`NodeAction::Hydrate`], of [`Segment::offer`] for [`NodeAction::Offer`];
-    /// `NoMemory` if none applies and memory ran out.
+    /// Those of [`Segment::hydrate`] for [`NodeAction::Hydrate`], of [`Segment::offer`] for [`NodeAction::Offer`]; else
+    /// `NoMemory` if memory runs out.
     pub fn prepare_action(&self, alloc: Global, action: NodeAction) -> Result<Prepared, Fault>
         ensures step { AnswersAfterGrowth (action_after_growth action) step_of (action_of self.now action)
             (node_of self.now) result (node_of self.now) }
@@ -534,7 +549,7 @@ impl Segment {
         }
     }
 
-    /// Applies a prepared step and returns its messages. Takes no memory.
+    /// Applies a prepared step. Returns its messages. Allocates nothing.
     #[inline(always)]
     pub fn apply(&mut self, prepared: Prepared) -> Messages
         requires { IsReady self.old prepared }
@@ -550,7 +565,7 @@ impl Segment {
     /// Delivers a message: applies its effect and returns the answers.
     ///
     /// # Errors
-    /// Those of [`Segment::prepare`]; then the segment is unchanged.
+    /// Those of [`Segment::prepare`]. The segment is unchanged.
     pub fn deliver(&mut self, alloc: Global, message: &Message) -> Result<Messages, Fault>
         ensures answers { Answers answered (reaction_of self.old (message_of message.now)) (node_of self.old) result
             (node_of self.new) }

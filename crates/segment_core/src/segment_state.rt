@@ -1,4 +1,4 @@
-//! What a segment holds, and its last report.
+//! The contents of a segment, and its last report.
 
 ghost use Rattle.std.specs.Prelude.{option_map};
 ghost use Rattle.std.specs.Arc.{arc_value};
@@ -16,14 +16,14 @@ use std::alloc::{AllocError, Global};
 use std::sync::Arc;
 use wire::Contents;
 
-/// What a segment holds, and its last report, which later reports share until a record comes.
+/// The contents of a segment, and its last report. Later reports share that one until a record is added.
 #[derive(Drop)]
 pub struct SegmentState {
     /// The lineage.
     pub lineage: Lineage,
-    /// Its records.
+    /// The records.
     pub records: Records,
-    /// The last report's contents, if no record has come since.
+    /// The last report's contents, if no record was added since.
     reported: Option<Arc<Contents>>,
     ghost is_report: { ∥ IsReported (option_map arc_value reported) (contents_with lineage records) ∥₁ },
 }
@@ -38,7 +38,7 @@ impl SegmentState {
     ghost use Rattle.segment_core.specs.Ordered.{StandsAt};
     ghost use Rattle.segment_core.specs.Records.{CanEnter};
 
-    /// Returns this lineage and these records.
+    /// Makes the state with this lineage and these records.
     pub fn new(lineage: Lineage, records: Records) -> SegmentState
         ensures { state_contents result ≡ contents_with lineage records }
     {
@@ -49,7 +49,7 @@ impl SegmentState {
         }
     }
 
-    /// Makes the state of these contents, which reports share. Fails only with `NoMemory`.
+    /// Makes the state with these contents, which reports share. Fails only with `NoMemory`.
     pub fn of(alloc: Global, contents: Arc<Contents>) -> Result<SegmentState, AllocError>
         ensures { IfOk result (λ held. state_contents held ≡ contents_of (arc_value contents)) }
     {
@@ -62,7 +62,7 @@ impl SegmentState {
         })
     }
 
-    /// Returns all that is held, shared with later calls until a record comes. Fails only with `NoMemory`.
+    /// Returns the contents. Later calls share them until a record is added. Fails only with `NoMemory`.
     pub fn contents(&mut self, alloc: Global) -> Result<Arc<Contents>, AllocError>
         ensures contents { IfOk result (λ contents. contents_of (arc_value contents) ≡ state_contents self.new) }
         ensures same { state_contents self.new ≡ state_contents self.old }
@@ -79,11 +79,11 @@ impl SegmentState {
         Ok(shared)
     }
 
-    /// Returns the bytes of a block, made from its records up to the point. The first page parts all records by their
+    /// Returns the page of a block: its records up to the point, applied to zeros. The first page builds the index of
     /// blocks.
     ///
     /// # Errors
-    /// `AllocError` if there is no memory.
+    /// `AllocError` if memory runs out.
     #[inline(always)]
     pub fn page(&mut self, alloc: Global, block: u32, point: u64) -> Result<[u8; BLOCK], AllocError>
         ensures page { IfOk result (λ page. page ≡ page_of (state_contents self.new).records block point) }
@@ -92,10 +92,10 @@ impl SegmentState {
         self.records.page(alloc, block, point)
     }
 
-    /// Prepares to take a record into its place: makes every growth, and changes none of the records.
+    /// Prepares to add a record: reserves all room. The records are unchanged.
     ///
     /// # Errors
-    /// `AllocError` if there is no memory.
+    /// `AllocError` if memory runs out.
     #[inline(always)]
     pub fn prepare(
         &mut self,
@@ -111,7 +111,7 @@ impl SegmentState {
         self.records.prepare(alloc, place, packet)
     }
 
-    /// Takes a record that is prepared to enter. Takes no memory.
+    /// Adds a prepared record. Allocates nothing.
     #[inline(always)]
     pub fn enter(&mut self, pending_insert: PendingInsert)
         requires { CanEnter self.old.records pending_insert }

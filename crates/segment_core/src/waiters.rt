@@ -5,21 +5,21 @@ ghost use Rattle.segment_core.specs.Listed.{numbers_of, HasRoom};
 use std::alloc::{AllocError, Global};
 use std::slice::from_ref;
 
-/// The records pending under one LSN, in the order they came: mostly one, which needs no list.
+/// The records pending under one LSN, in the order in which they came. Mostly it is one, which needs no list.
 #[derive(Drop)]
 pub enum Waiters {
     /// None.
     Nobody,
-    /// This one alone.
+    /// One record.
     One(u64),
-    /// These, in the order in which they came.
+    /// Several records, in the order in which they came.
     Many(Vec<u64>),
 }
 
 impl Waiters {
     ghost use Rattle.std.specs.Prelude.{◌≡◌, [], ◌∷◌, ◌++◌, IfOk, OnOk};
 
-    /// Returns all of them.
+    /// Returns the records.
     pub fn as_slice(&self) -> &[u64]
         ensures { result.now ≡ numbers_of self.now }
     {
@@ -30,8 +30,8 @@ impl Waiters {
         }
     }
 
-    /// Returns a list of one, with room for one more. Out of line, since two are seldom pending under one LSN. Fails
-    /// only with `NoMemory`.
+    /// Makes a list of one record, with room for one more. Out of line, since two records are seldom pending under one
+    /// LSN. Fails only with `NoMemory`.
     #[inline(never)]
     fn listed(alloc: Global, waiter: u64) -> Result<Waiters, AllocError>
         ensures same { IfOk result (λ waiters. numbers_of waiters ≡ waiter ∷ []) }
@@ -42,10 +42,10 @@ impl Waiters {
         Ok(Waiters::Many(list))
     }
 
-    /// Makes room for one more.
+    /// Reserves room for one more record.
     ///
     /// # Errors
-    /// `AllocError` if there is no memory; then nothing has changed.
+    /// `AllocError` if memory runs out. Nothing has changed.
     pub fn make_room(&mut self, alloc: Global) -> Result<(), AllocError>
         ensures same { numbers_of self.new ≡ numbers_of self.old }
         ensures room { OnOk result (HasRoom self.new) }

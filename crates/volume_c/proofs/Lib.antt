@@ -11,3 +11,5 @@ pub mod Replays
 pub mod Turns
 pub mod OwnTurns
 pub mod HeldTook
+pub mod Pieces
+pub mod Saves

@@ -27,7 +27,7 @@ use Rattle.writer_core.specs.Writers as writers
 use Rattle.world.specs.declared.client.Client.{Client}
 use Rattle.world.specs.Clients.{client_plan, client_volume, seen_client, IsClientOf, IsSameClient}
 use Rattle.volume_c.specs.declared.actor.Actor.TheVariants as actor
-use Rattle.volume_c.specs.View.{View, Nothing, APlan, ANode, AClient, AnAuthority, client_in, held_now, view_of, seen, unsent}
+use Rattle.volume_c.specs.View.{View, Nothing, APlan, ANode, AClient, AnAuthority, ASnapshot, client_in, held_now, view_of, seen, unsent}
 use Rattle.volume_c.specs.Calls.{Step, Value, IsRefusal, Refuses, Does, Makes, Reads, client_step, of_client}
 use Rattle.volume_c.specs.Authorities.{authority_made}
 use Rattle.volume_c.specs.Segments.{node_made}
@@ -138,6 +138,7 @@ client-read give (APlan plan) c is = absurd (none-some c is)
 client-read give (ANode plan group member node) c is = absurd (none-some c is)
 client-read give (AClient plan volume now) c is = ap (λ (x : Option client.Client). option_map give x) is
 client-read give (AnAuthority plan authority) c is = absurd (none-some c is)
+client-read give (ASnapshot bytes) c is = absurd (none-some c is)
 
 -- a place that is within
 pub not-le : (n m : ℕ) → n < m → nat_le m n ≡ false
@@ -153,6 +154,7 @@ no-writer-some (APlan plan) status is none = absurd (omega (arith, is, none))
 no-writer-some (ANode plan group member node) status is none = absurd (omega (arith, is, none))
 no-writer-some (AClient plan volume now) status is none = let n : status ≡ 70 = is.0 in absurd (omega (arith, n, none))
 no-writer-some (AnAuthority plan authority) status is none = absurd (omega (arith, is, none))
+no-writer-some (ASnapshot bytes) status is none = absurd (omega (arith, is, none))
 
 no-writer : {A : Type 0} (give : client.Client → Result A Fault) (view : View) (status : ℕ) → IsNoWriter status view → Refuses (of_client (λ plan volume now. if_open now (give now)) view) status
 no-writer give Nothing status is some few = absurd (omega (arith, is, few))
@@ -160,6 +162,7 @@ no-writer give (APlan plan) status is some few = absurd (omega (arith, is, few))
 no-writer give (ANode plan group member node) status is some few = absurd (omega (arith, is, few))
 no-writer give (AClient plan volume now) status is some few = (NotOpen, is.0, ap (λ (b : Bool). refuse_if (not b) NotOpen (give now)) is.1)
 no-writer give (AnAuthority plan authority) status is some few = absurd (omega (arith, is, few))
+no-writer give (ASnapshot bytes) status is some few = absurd (omega (arith, is, few))
 
 -- a call that reads where no writer is held
 pub gave-none : {A : Type 0} (give : client.Client → Result A Fault) (view : View) (value : A) (status : ℕ) (held : Option Held) → IsNoWriter status view

@@ -11,7 +11,7 @@ use Rattle.volume_c.specs.Calls.{Value, of_authority}
 abbrev pub among : List ℕ → Members
 among members x = any (λ y. nat_lt y 64 && (y == x)) members
 
--- what the struct says
+-- the readiness in the struct
 abbrev pub readiness_of : VolumeReadiness → Allowed
 readiness_of readiness = record { read = readiness.can_read; write = readiness.can_write }
 

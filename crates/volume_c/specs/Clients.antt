@@ -1,4 +1,4 @@
--- What the calls of a client are to give.
+-- The results of a client's calls.
 use Rattle.std.specs.Prelude.{◌≡◌, ℕ, Bool, false, not, List, [], Result, Ok, nat_le, length}
 use Rattle.volume_model.specs.declared.fault.Fault.{Fault}
 use Rattle.volume_model.specs.declared.fault.Fault.TheVariants.{NotOpen, NoGroup}
@@ -11,18 +11,18 @@ use Rattle.volume_model.specs.Client.{Client, first_writer, group_point_of, is_o
 use Rattle.volume_model.specs.ClientPoints.{acknowledged, complete_point, durable_point}
 use Rattle.recovery.specs.Recoveries.{birth_of, view_volume}
 use Rattle.volume_c.specs.declared.client_calls.VolumePoints.{VolumePoints}
-use Rattle.volume_c.specs.View.{View, Nothing, APlan, ANode, AClient, AnAuthority}
+use Rattle.volume_c.specs.View.{View, Nothing, APlan, ANode, AClient, AnAuthority, ASnapshot}
 use Rattle.volume_c.specs.Calls.{Step, Value, client_step, of_plan, of_client, with_message}
 
--- the writer that a volume is born with
+-- the writer with which a volume is born
 abbrev pub first_step : View → Step
 first_step = of_plan (λ plan. Ok ([], AClient plan 1 (first_writer plan)))
 
--- the recovery that a message makes, if it is a View
+-- the recovery that a View makes; any other message is refused
 abbrev pub birth_in : Plan → model.Message → Result (List model.Message × View) Fault
 birth_in plan m = client_step plan (view_volume m) (birth_of plan m)
 
--- the same, of the bytes of a message
+-- the same for the bytes of a message
 abbrev pub birth_step : List ℕ → View → Step
 birth_step bytes view = with_message bytes (λ m. of_plan (λ plan. birth_in plan m) view)
 
@@ -33,17 +33,18 @@ Points = ℕ × ℕ × ℕ × ℕ
 abbrev pub points_of : VolumePoints → Points
 points_of p = (p.complete, p.durable, p.start, p.last)
 
--- what an open writer gives
+-- the value of an open writer; any other client is refused
 abbrev pub if_open : {A : Type 0} → Client → Result A Fault → Result A Fault
 if_open client rest = refuse_if (not (is_open client.stage)) NotOpen rest
 
--- why a writer isn't held: the client isn't open, or there is no client
+-- why there is no writer: the client isn't open, or the handle holds no client
 abbrev pub IsNoWriter : ℕ → View → Type 0
 IsNoWriter status Nothing = status ≡ 90
 IsNoWriter status (APlan plan) = status ≡ 90
 IsNoWriter status (ANode plan group member node) = status ≡ 90
 IsNoWriter status (AClient plan volume client) = (status ≡ 70) × (is_open client.stage ≡ false)
 IsNoWriter status (AnAuthority plan authority) = status ≡ 90
+IsNoWriter status (ASnapshot bytes) = status ≡ 90
 
 abbrev pub points_value : View → Value Points
 points_value = of_client

@@ -1,4 +1,4 @@
--- Frames: messages for one node in one buffer, each behind its length, that a segment takes in turn.
+-- Frames: messages for one node in one buffer, each after its length. A segment takes them in order.
 use Rattle.std.specs.Prelude.{◌≡◌, ◌<◌, ◌≤◌, ℕ, nat_lt, List, [], ◌∷◌, ◌++◌, length, take, drop, Option, Some, Ok}
 use Rattle.std.specs.Int.{w32, to_be_bytes}
 use Rattle.volume_model.specs.Answer.{◌>>=◌}
@@ -16,7 +16,7 @@ use Rattle.volume_c.specs.View.{seen, unsent}
 use Rattle.volume_c.specs.Calls.{node_does, with_value, Refuses, Step}
 use Rattle.volume_c.specs.Joined.{from_node, in_turn, one_turn}
 
--- a message behind its length
+-- a message after its length
 abbrev pub framed : Message → List ℕ
 framed m = to_be_bytes w32 (length (message_spelled m)) ++ message_spelled m
 
@@ -31,13 +31,13 @@ next_in bytes = do
   n ← number_at w32 bytes
   refuse_if (nat_lt (length n.1) n.0) Short (message_in (take n.0 n.1) >>= λ m. Ok (m, drop n.0 n.1))
 
--- The bytes are messages that led a node, in turn, from one step to another, and the rest.
+-- The bytes are messages that took a node from one step to another, in order, and then the rest.
 pub record TookFront (plan : Plan) (group member : ℕ) (bytes rest : List ℕ) (before after : NodeStep) : Type 0 where
   pub messages : List Message
   pub spelled : bytes ≡ frame_spelled messages ++ rest
   pub turns : in_turn plan group member before messages ≡ Ok after
 
--- why the first message of the bytes isn't taken
+-- the node's turn with the first message of the bytes
 abbrev pub next_step : Plan → ℕ → ℕ → NodeStep → List ℕ → NodeAnswer
 next_step plan group member before bytes = next_in bytes >>= λ x. one_turn plan group member before x.0
 
@@ -46,9 +46,9 @@ abbrev pub next_does : List ℕ → Option Held → Step
 next_does bytes held = with_value (next_in bytes) (λ x. node_does (λ plan group member node. reaction plan group member
     node x.0) (seen held))
 
--- A call that takes the messages of a frame in turn, up to the first that is refused. A status below 90: the first
--- `taken` bytes are the messages that were taken; all of them, where it is 0, and else it is the number of the next
--- message's refusal. A status from 90 on: nothing has changed.
+-- A call that takes the messages of a frame in order, up to the first that is refused. A status below 90: the first
+-- `taken` bytes are the messages that were taken. If it is 0, these are all; else it is the number of the next
+-- message's refusal. A status of 90 or more: nothing has changed.
 pub record TakesFrame (bytes : List ℕ) (taken status : ℕ) (old new : Option Held) : Type 0 where
   pub within : taken ≤ length bytes
   pub messages : List Message

@@ -1,4 +1,4 @@
--- Messages that a node takes in turn, and answers that are joined where one says what another says.
+-- Messages that a node takes in order, and answers of which one is dropped if the next includes it.
 use Rattle.std.specs.Prelude.{ℕ, Bool, false, ◌&&◌, ◌==◌, nat_le, if◌then◌else◌, List, [], ◌∷◌, Ok}
 use Rattle.volume_model.specs.Answer.{◌>>=◌}
 use Rattle.volume_model.specs.Plan.{Plan}
@@ -6,7 +6,7 @@ use Rattle.volume_model.specs.Message.{Label, Message}
 use Rattle.volume_model.specs.Message.Message.{View, StepTo, Fence, Report, Install, Write, Gossip, Ack, CopyAsk, CopyReport, PageAsk, Page}
 use Rattle.volume_model.specs.Node.{Node, NodeStep, NodeAnswer, reaction}
 
--- a message is an acknowledgement of the same segment under the same label, and says no more than this one
+-- the message is an acknowledgement of the same segment with the same label, and its complete point is at most this one
 abbrev pub is_covered : ℕ → Label → ℕ → ℕ → Message → Bool
 is_covered group label from scl (View volume places) = false
 is_covered group label from scl (StepTo to place) = false
@@ -22,7 +22,7 @@ is_covered group label from scl (CopyReport to epoch sender series piece content
 is_covered group label from scl (PageAsk to of block point) = false
 is_covered group label from scl (Page to of sender block point bytes) = false
 
--- the first message is an acknowledgement that says what the other says
+-- the first message is an acknowledgement that includes the other
 abbrev pub covers : Message → Message → Bool
 covers (View volume places) m = false
 covers (StepTo to place) m = false
@@ -37,21 +37,21 @@ covers (CopyReport to epoch sender series piece contents) m = false
 covers (PageAsk to of block point) m = false
 covers (Page to of sender block point bytes) m = false
 
--- answers behind those that wait, of which the last is left out where the first answer says what it says
+-- answers appended to those that wait; the last of these is dropped if the first new answer includes it
 abbrev pub joined : List Message → List Message → List Message
 joined waiting [] = waiting
 joined [] (m ∷ ms) = m ∷ ms
 joined (x ∷ []) (m ∷ ms) = if covers m x then m ∷ ms else x ∷ m ∷ ms
 joined (x ∷ y ∷ rest) (m ∷ ms) = x ∷ joined (y ∷ rest) (m ∷ ms)
 
--- a node with what it answered takes a message
+-- a node takes a message; its answers are added to those before
 abbrev pub one_turn : Plan → ℕ → ℕ → NodeStep → Message → NodeAnswer
 one_turn plan group member before m = reaction plan group member before.node m >>= λ step. Ok (record {
   made = joined before.made step.made;
   node = step.node;
 })
 
--- messages that a node takes in turn
+-- a node takes messages in order
 abbrev pub in_turn : Plan → ℕ → ℕ → NodeStep → List Message → NodeAnswer
 in_turn plan group member before [] = Ok before
 in_turn plan group member before (m ∷ ms) = one_turn plan group member before m >>= λ step. in_turn plan group member

@@ -1,5 +1,6 @@
 pub mod Sealed
 pub mod Outbox
+pub mod SnapshotBytes
 pub mod View
 pub mod Calls
 pub mod Given
@@ -7,6 +8,7 @@ pub mod Plans
 pub mod Changes
 pub mod Saved
 pub mod Segments
+pub mod Snapshots
 pub mod Joined
 pub mod Frames
 pub mod Turns

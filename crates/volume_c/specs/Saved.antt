@@ -12,7 +12,7 @@ use Rattle.message_bytes.specs.Contents.{Read, contents_at}
 use Rattle.message_bytes.specs.Reading.{place_at, ended}
 use Rattle.message_bytes.specs.Spelling.{place_spelled, contents_spelled}
 
--- version 1 and this kind stand first
+-- the bytes begin with version 1 and this kind
 unfoldable pub head_at : ℕ → List ℕ → Read ℕ
 head_at wanted bytes = do
   version ← byte_at bytes
@@ -29,7 +29,7 @@ abbrev pub flag_spelled : Bool → ℕ
 flag_spelled true = 1
 flag_spelled false = 0
 
--- the node that a snapshot's bytes spell, or the first fault
+-- the node that a snapshot's bytes encode, or the first fault
 unfoldable pub segment_in : List ℕ → Result Node Fault
 segment_in bytes = do
   head ← head_at 129 bytes
@@ -57,7 +57,7 @@ segment_spelled n = (1 ∷ 129 ∷ [])
     ++ (to_be_bytes w32 n.volume
     ++ (place_spelled n.place ++ (flag_spelled n.whole ∷ (to_be_bytes w64 n.copied ++ contents_spelled n.contents))))
 
--- the authority that a snapshot's bytes spell, or the first fault
+-- the authority that a snapshot's bytes encode, or the first fault
 unfoldable pub authority_in : List ℕ → Result Authority Fault
 authority_in bytes = do
   head ← head_at 130 bytes

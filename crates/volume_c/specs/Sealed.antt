@@ -1,4 +1,4 @@
--- What a handle owns: the same as a box, or nothing.
+-- A handle owns the same as a box, or nothing.
 use base.Fml.{Fml, ftrue}
 use base.Stored.{Coded}
 use denote.RawPtr.{Ptr}

@@ -1,4 +1,4 @@
--- Turns of a segment, with the answers that wait.
+-- A segment's turns, with its answers that weren't taken.
 use Rattle.std.specs.Prelude.{◌≡◌, ℕ, List}
 use Rattle.volume_model.specs.Answer.{Fails}
 use Rattle.volume_model.specs.Numbers.{number_of}
@@ -12,7 +12,7 @@ use Rattle.segment_core.specs.Segment.{node_of, segment_plan, segment_group, seg
 use Rattle.volume_c.specs.Frames.{next_step, TookFront}
 use Rattle.volume_c.specs.Joined.{one_turn}
 
--- what a segment has answered, and its node
+-- the answers of a segment, and its node
 abbrev pub turn_of : List Message → Segment → NodeStep
 turn_of waiting s = record { made = messages_of waiting; node = node_of s }
 

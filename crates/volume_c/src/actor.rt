@@ -1,13 +1,14 @@
 //! What a handle may hold.
 
 use crate::outbox::Outbox;
+use crate::snapshot_bytes::SnapshotBytes;
 use epochs::Authority;
 use plan::CheckedPlan;
 use segment_core::Segment;
 use std::sync::Arc;
 use world::Client;
 
-/// A plan or an actor.
+/// A plan, an actor, or a snapshot.
 #[derive(Drop)]
 pub enum Actor {
     /// A plan without a fault.
@@ -18,6 +19,8 @@ pub enum Actor {
     Client(Client),
     /// The authority.
     Authority(Authority),
+    /// The bytes of a segment's snapshot.
+    Snapshot(SnapshotBytes),
 }
 
 /// What a handle holds: an actor, and the messages that it made and that weren't taken yet.

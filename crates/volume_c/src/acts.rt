@@ -1,4 +1,4 @@
-//! What actors do, of those that a handle holds.
+//! Steps of the actors that handles hold.
 
 ghost use Rattle.std.specs.Prelude.{◌≡◌, Some};
 ghost use Rattle.volume_model.specs.Answer.{AnswersAfterGrowth};
@@ -69,7 +69,7 @@ fn segment_acts(alloc: Global, held: &mut Held, action: NodeAction) -> u8
     }
 }
 
-/// Performs an action of the client that is held, with the message that it takes, if it takes one.
+/// Performs an action of the client that is held. `found` is the message that it takes, if it takes one.
 fn client_acts(
     alloc: Global,
     held: &mut Held,
@@ -143,7 +143,7 @@ pub fn segment_step(alloc: Global, handle: &mut Handle, action: NodeAction) -> u
     status
 }
 
-/// Performs an action of a handle's client, with the message that it takes, if it takes one.
+/// Performs an action of a handle's client. `found` is the message that it takes, if it takes one.
 pub fn client_step(
     alloc: Global,
     handle: &mut Handle,

@@ -1,4 +1,4 @@
-//! What an advance waits for.
+//! Decides whether an advance has to wait.
 
 ghost use Rattle.std.specs.Prelude.{◌≡◌, ◌≢◌, Some};
 ghost use Rattle.std.specs.FinSet as set;
@@ -12,7 +12,7 @@ use crate::status::WRONG_HANDLE;
 use quorum_expr::MemberSet;
 use std::alloc::Global;
 
-/// What the whole members of a group allow after an advance.
+/// What the whole members of a group can do after an advance.
 #[repr(C)]
 #[derive(Clone, Copy)]
 pub struct VolumeReadiness {
@@ -22,7 +22,7 @@ pub struct VolumeReadiness {
     pub can_write: bool,
 }
 
-/// Returns the set of these members. A number above 63 is no member's.
+/// Returns the set of these members. Numbers above 63 are ignored.
 fn set_of(members: &[u8]) -> MemberSet
     ensures { set.contains result ≡ among members.now }
 {
@@ -64,9 +64,9 @@ fn readiness_of_held(
     }
 }
 
-/// Returns in `readiness` what the whole members of a group allow after `volume_authority_advance` to a configuration.
+/// Sets `readiness` to what the whole members of a group can do after `volume_authority_advance` to a configuration.
 /// `whole` has their numbers, from 0 to 63. Advance only if `can_read` is true: a recovery needs the reports of a read
-/// quorum, and only whole members report. A member that was whole stays whole, so an older list serves as well.
+/// quorum, and only whole members report. A whole member stays whole, so an older list is correct too.
 ///
 /// Refused 42 where no such group has joined, 41 where the group's configuration has no such child.
 #[unsafe(no_mangle)]

@@ -19,7 +19,7 @@ use std::alloc::Global;
 use wire::Messages;
 use world::AuthorityAction;
 
-/// Returns what is held of an authority that has made no message.
+/// Returns the contents of a handle for an authority that has made no message.
 fn held_of(authority: Authority) -> Held
     ensures actor { result.actor ≡ Actor.Authority authority }
     ensures nothing { unsent (Some result) ≡ [] }
@@ -30,7 +30,7 @@ fn held_of(authority: Authority) -> Held
     }
 }
 
-/// Makes the authority of a new volume: volume epoch 1 is assigned, and each group that is there at birth stands at its
+/// Makes the authority of a new volume: volume epoch 1 is assigned, and each group of the volume's birth is at its
 /// first configuration. A volume has one authority; call it once in the life of the volume. `out` must be empty. On
 /// success it holds the authority.
 #[unsafe(no_mangle)]
@@ -51,8 +51,8 @@ pub extern "C" fn volume_authority_new(alloc: Global, plan: &mut Handle, out: &m
     }
 }
 
-/// Makes an authority from the bytes that `volume_authority_snapshot` wrote: the one that was saved. `out` must be
-/// empty. On success it holds the authority.
+/// Makes an authority from the bytes that `volume_authority_snapshot` wrote. `out` must be empty. On success it holds
+/// the authority.
 ///
 /// Refused 1 or 2 where the bytes aren't an authority's snapshot, and 2 where its last volume epoch is 0; 42 where it
 /// has fewer groups than the plan has at birth, or more groups than the plan has.
@@ -96,9 +96,9 @@ pub extern "C" fn volume_authority_assign(alloc: Global, authority: &mut Handle)
     authority_step(alloc, authority, AuthorityAction::Assign)
 }
 
-/// Advances a group to a child of its configuration, which is named by its number in the group's list, and makes the
-/// `StepTo` for the nodes of the group, those of the old and of the new configuration. Put a snapshot of the authority
-/// on the disk before the message leaves.
+/// Advances a group to a child of its configuration. `configuration` is the child's number in the group's list. Makes
+/// the `StepTo` for the nodes of the old and of the new configuration. Put a snapshot of the authority on the disk
+/// before the message leaves.
 ///
 /// Refused 42 where no such group has joined, 41 where the group's configuration has no such child.
 #[unsafe(no_mangle)]

@@ -4,7 +4,7 @@ ghost use Rattle.std.specs.Prelude.{◌≡◌, ◌≢◌, ◌≤◌, length, tak
 
 use crate::status::TOO_SMALL;
 
-/// Copies bytes to the front of a buffer, and says how many there are; copies none where the buffer is too small.
+/// Copies bytes to a buffer and returns `TOO_SMALL` without a copy if it is too small. Sets `needed` to their number.
 pub fn copy_out(bytes: &[u8], out: &mut [u8], needed: &mut usize) -> u8
     ensures needed { needed.new ≡ length bytes.now }
     ensures ok { result ≡ 0 → take (length bytes.now) out.new ≡ bytes.now }

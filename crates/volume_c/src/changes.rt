@@ -9,10 +9,10 @@ use std::alloc::Global;
 use volume_model::Fault;
 use writer_core::Change;
 
-/// How many bytes a change has at most.
+/// The most bytes of a change.
 const MOST_BYTES: usize = 64;
 
-/// A change of a block: the first `length` of `bytes`, 1 to 64, are to stand in the block from `offset` on.
+/// A change of a block: writes the first `length` of `bytes`, 1 to 64, to the block from `offset` on.
 #[repr(C)]
 #[derive(Clone, Copy)]
 pub struct VolumeChange {
@@ -28,7 +28,7 @@ pub struct VolumeChange {
     pub bytes: [u8; 64],
 }
 
-/// Returns the change that C asks for, or a status: `BAD_LENGTH` where it hasn't 1 to 64 bytes.
+/// Returns the change of a struct; `BAD_LENGTH` if it doesn't have 1 to 64 bytes.
 fn change(alloc: Global, given: &VolumeChange) -> Result<Change, u8>
     ensures ok { IfOk result (λ change. change_of change ≡ given_change given.now) }
     ensures err { IfErr result (λ status. (status ≡ BAD_LENGTH) ⊎ (status ≡ 9)) }
@@ -49,7 +49,7 @@ fn change(alloc: Global, given: &VolumeChange) -> Result<Change, u8>
     }
 }
 
-/// Returns the changes that C asks for, or a status: `BAD_LENGTH` where one of them hasn't 1 to 64 bytes.
+/// Returns the changes of structs; `BAD_LENGTH` if one doesn't have 1 to 64 bytes.
 pub fn changes(alloc: Global, given: &[VolumeChange]) -> Result<Vec<Change>, u8>
     ensures ok { IfOk result (λ changes. changes_of changes.items ≡ map given_change given.now) }
     ensures err { IfErr result (λ status. (status ≡ BAD_LENGTH) ⊎ (status ≡ 9)) }

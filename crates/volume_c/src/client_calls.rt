@@ -32,7 +32,7 @@ use wire::{Message, Messages};
 use world::{Client, ClientAction, ClientState};
 use writer_core::Writer;
 
-/// Takes a message, which is handed along: it has no number here.
+/// Takes a message, which is passed along: it has no number here.
 const TAKE: ClientAction<'static> = ClientAction::Take { message: 0 };
 
 /// The points of a writer's log.
@@ -41,15 +41,15 @@ const TAKE: ClientAction<'static> = ClientAction::Take { message: 0 };
 pub struct VolumePoints {
     /// The greatest LSN up to which each record is acknowledged by a write quorum of its group.
     pub complete: u64,
-    /// The greatest consistency point up to there. A commit at or below it is durable.
+    /// The greatest consistency point up to `complete`. A commit at or below it is durable.
     pub durable: u64,
     /// The LSN after which the writer's own records begin.
     pub start: u64,
-    /// The greatest LSN of the log: after an issue that of the commit.
+    /// The greatest LSN of the log. After an issue it is the commit's.
     pub last: u64,
 }
 
-/// Returns what is held of a client that made these messages.
+/// Returns the contents of a handle for a client that made these messages.
 fn held_of(client: Client, made: Messages) -> Held
     ensures actor { result.actor ≡ Actor.Client client }
     ensures messages { unsent (Some result) ≡ messages_of (listed made) }
@@ -60,8 +60,8 @@ fn held_of(client: Client, made: Messages) -> Held
     }
 }
 
-/// Makes the writer that a volume is born with: volume epoch 1, no record. Call it once in the life of the volume;
-/// each later writer is what a recovery becomes. `out` must be empty. On success it holds the writer.
+/// Makes the first writer of a new volume, with volume epoch 1 and no record. Call it once in the life of the volume;
+/// each later writer comes from a recovery. `out` must be empty. On success it holds the writer.
 #[unsafe(no_mangle)]
 pub extern "C" fn volume_writer_first(alloc: Global, plan: &mut Handle, out: &mut Handle) -> u8
     ensures plan { plan.new.seal.held ≡ plan.old.seal.held }
@@ -145,7 +145,7 @@ pub extern "C" fn volume_client_take(alloc: Global, client: &mut Handle, bytes: 
     client_step(alloc, client, TAKE, Some(&message))
 }
 
-/// Cuts the log that a recovery's reports hold, and makes the `Install` messages of it.
+/// Finds the log in a recovery's reports, cuts it, and makes its `Install` messages.
 ///
 /// Refused 74 until the senders of the reports are a read quorum of each group, 75 after the cut and of a writer, 73
 /// where no LSNs are left.
@@ -192,7 +192,7 @@ pub extern "C" fn volume_writer_issue(
     client_step(alloc, writer, ClientAction::Issue(changes.as_slice()), None)
 }
 
-/// Makes the `Write` of a record of the log once more, for members that it may not have reached.
+/// Makes the `Write` of a record of the log again, for members that may not have got it.
 ///
 /// Refused 70 of a recovery, 76 where the log has no record with this LSN.
 #[unsafe(no_mangle)]
@@ -203,7 +203,7 @@ pub extern "C" fn volume_writer_resend(alloc: Global, writer: &mut Handle, lsn: 
     client_step(alloc, writer, ClientAction::Resend { lsn }, None)
 }
 
-/// Makes a `PageAsk` for a block as it is at the durable point. Send it to a full member of the group.
+/// Makes a `PageAsk` for a block as of the durable point. Send it to a full member of the group.
 ///
 /// Refused 70 of a recovery, 42 where the writer knows no such group.
 #[unsafe(no_mangle)]
@@ -253,7 +253,7 @@ fn points_of_held(held: &Held, points: &mut VolumePoints) -> u8
     }
 }
 
-/// Returns the points of a writer's log in `points`.
+/// Sets `points` to the points of a writer's log.
 ///
 /// Refused 70 of a recovery.
 #[unsafe(no_mangle)]
@@ -291,7 +291,7 @@ fn point_of_held(held: &Held, group: u8, point: &mut u64) -> u8
     }
 }
 
-/// Returns the LSN up to which a group's records are acknowledged by a write quorum in `point`.
+/// Sets `point` to the LSN up to which a write quorum has acknowledged a group's records.
 ///
 /// Refused 70 of a recovery, 42 where the writer knows no such group.
 #[unsafe(no_mangle)]

@@ -1,4 +1,4 @@
-//! Handles that are filled.
+//! Fills handles.
 
 ghost use Rattle.std.specs.Prelude.{◌≡◌, ◌≢◌, ◌⊎◌, None, Some, IfOk, IfErr};
 ghost use Rattle.std.specs.Arc.{arc_value};

@@ -1,4 +1,4 @@
-//! Frames: messages for one node in one buffer, each behind its length, that a segment takes in turn.
+//! Frames: messages for one node in one buffer, each after its length. A segment takes them in order.
 
 ghost use Rattle.std.specs.Prelude.{◌≡◌, ◌≢◌, ◌+◌, ◌++◌, ◌≤◌, ◌<◌, [], Some, IfOk, IfErr, length, vec_capacity, vec_len};
 ghost use Rattle.volume_model.specs.Answer.{Fails, Gives};
@@ -19,7 +19,7 @@ use std::alloc::Global;
 use volume_model::Fault;
 use wire::{Message, Messages};
 
-/// Reads the first message of a frame; returns it and what follows it.
+/// Reads the first message of a frame. Returns it with the bytes after it.
 #[tactic(auto, unfolding(crate::specs::Frames::next_in))]
 fn read_next(alloc: Global, bytes: &[u8]) -> Result<(Message, &[u8]), Fault>
     ensures { Gives (λ x. (message_of x.0, x.1.now)) result (next_in bytes.now) }
@@ -34,7 +34,7 @@ fn read_next(alloc: Global, bytes: &[u8]) -> Result<(Message, &[u8]), Fault>
     Ok((message, rest))
 }
 
-/// Does what [`read_next`] says. The message stands in front, behind its length.
+/// Does what [`read_next`] does. The bytes begin with the message, after its length.
 fn next(alloc: Global, bytes: &[u8]) -> Result<(Message, &[u8]), Fault>
     ensures exact { Gives (λ x. (message_of x.0, x.1.now)) result (next_in bytes.now) }
     ensures canonical { IfOk result (λ x. bytes.now ≡ framed (message_of x.0) ++ x.1.now) }
@@ -42,7 +42,7 @@ fn next(alloc: Global, bytes: &[u8]) -> Result<(Message, &[u8]), Fault>
     read_next(alloc, bytes)
 }
 
-/// Returns whether a message is an acknowledgement that says what an earlier one says.
+/// Returns whether a message is an acknowledgement that includes an earlier one.
 fn covers(message: &Message, earlier: &Message) -> bool
     ensures { result ≡ covers (message_of message.now) (message_of earlier.now) }
 {
@@ -59,7 +59,7 @@ fn covers(message: &Message, earlier: &Message) -> bool
         && old.scl <= ack.scl
 }
 
-/// Drops the last of the answers that wait where the first of those that come says what it says.
+/// Drops the last waiting answer if the first new one includes it.
 fn drop_covered(waiting: &mut Vec<Message>, answers: &Messages)
     ensures waits { joined (messages_of waiting.old.items) (messages_of (listed answers.now)) ≡ messages_of
         waiting.new.items ++ messages_of (listed answers.now) }
@@ -78,7 +78,7 @@ fn drop_covered(waiting: &mut Vec<Message>, answers: &Messages)
     }
 }
 
-/// Adds answers to those that wait, of which the last is left out where the first answer says what it says.
+/// Appends answers to the waiting ones, of which the last is dropped if the first new one includes it.
 fn join(waiting: &mut Vec<Message>, answers: Messages)
     requires { vec_len waiting.old + length (listed answers) ≤ vec_capacity waiting.old }
     ensures { messages_of waiting.new.items ≡ joined (messages_of waiting.old.items) (messages_of (listed answers)) }
@@ -87,7 +87,7 @@ fn join(waiting: &mut Vec<Message>, answers: Messages)
     answers.append_to(waiting);
 }
 
-/// Delivers a message to a segment, and joins what it answers to the answers that wait. On error nothing has changed.
+/// Delivers a message to a segment, and appends the answers to the waiting ones. On error nothing has changed.
 fn take_turn(
     alloc: Global,
     segment: &mut Segment,
@@ -106,7 +106,7 @@ fn take_turn(
     Ok(())
 }
 
-/// Takes the first message of a frame; returns what follows it. On error nothing has changed.
+/// Takes the first message of a frame. Returns the bytes after it. On error nothing has changed.
 fn take_next<'a>(
     alloc: Global,
     segment: &mut Segment,
@@ -126,8 +126,8 @@ fn take_next<'a>(
     Ok(rest)
 }
 
-/// Takes the messages of a frame in turn, up to the first that is refused; returns what wasn't taken, and the number
-/// of the refusal.
+/// Takes the messages of a frame in order, up to the first that is refused. Returns the bytes that weren't taken, and
+/// the number of the refusal.
 fn take_all<'a>(
     alloc: Global,
     segment: &mut Segment,
@@ -151,7 +151,7 @@ fn take_all<'a>(
     (rest, 0)
 }
 
-/// Takes a frame for the segment that is held; returns how many of its bytes were taken, and a status.
+/// Takes a frame for the segment that is held. Returns the number of bytes that were taken, and a status.
 fn take_held(alloc: Global, held: &mut Held, frame: &[u8]) -> (usize, u8)
     ensures { TakesFrame frame.now result.0 result.1 (Some held.old) (Some held.new) }
 {
@@ -169,15 +169,15 @@ fn take_held(alloc: Global, held: &mut Held, frame: &[u8]) -> (usize, u8)
     }
 }
 
-/// Passes a segment a frame: messages for its node in one buffer, each behind its length, a big-endian number of 4
-/// bytes. It takes them in order, as `volume_segment_take` does, up to the end or to the first that it refuses, and sets
-/// `taken` to the number of bytes that were taken. Log these before an answer leaves the node; they are a frame too, and
-/// may be replayed whole or message by message. `volume_next_message` hands the answers out. An Ack that comes right
-/// after an Ack of the same label, and says no less, stands for both: a frame of Writes makes one Ack.
+/// Passes a segment a frame: messages for its node in one buffer, each after its length, a big-endian number of 4
+/// bytes. The segment takes them in order, like `volume_segment_take`, up to the first that it refuses. `taken` is set
+/// to the number of bytes taken. Log these before an answer leaves the node; they are a frame too, and may be replayed
+/// whole or message by message. `volume_next_message` hands the answers out. An Ack replaces the Ack right before it if
+/// it has the same label and no smaller complete point, so a frame of Writes makes one Ack.
 ///
-/// A number below 90 is the refusal of the message at `taken`, and the messages before it were taken. To skip that
-/// message, hand the answers out and pass what follows it; after 9 pass it again. 1 is also returned where the frame
-/// ends within a message. On 90 and 91 nothing was taken.
+/// A number below 90 is the refusal of the message at `taken`; the messages before it were taken. To skip that message,
+/// hand the answers out and pass the bytes after it; after 9 pass it again. Also returns 1 if the frame ends within a
+/// message. On 90 and 91 nothing was taken.
 #[unsafe(no_mangle)]
 pub extern "C" fn volume_segment_take_frame(
     alloc: Global,

@@ -1,4 +1,4 @@
-//! A handle that C keeps.
+//! The handle that C keeps.
 
 ghost use Rattle.std.specs.Prelude.{◌≡◌, Option, Some, None, is_some, IsSome, option_map, box_value};
 ghost use Rattle.std.specs.Coded.{coded_option};
@@ -12,7 +12,7 @@ use std::marker::Model;
 use std::mem::replace;
 use std::ptr::null_mut;
 
-/// An actor's room, out of C's sight.
+/// The memory of an actor, as an opaque field.
 #[repr(C)]
 #[derive(Drop)]
 pub struct Seal {

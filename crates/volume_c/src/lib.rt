@@ -1,7 +1,7 @@
 //! The actors of a volume for programs in C, by opaque handles.
 //!
-//! `docs/EMBEDDING.md` says how an engine uses it. Each export tests what it is given, returns 0 or a number, and has
-//! a contract in the model's words.
+//! `docs/EMBEDDING.md` says how an engine uses it. Each export checks its arguments, returns 0 or a status number, and
+//! has a contract that refers to the model.
 #![tactic(auto)]
 
 mod actor;
@@ -22,6 +22,8 @@ mod parts;
 mod plan_calls;
 mod saved;
 mod segment_calls;
+mod snapshot_bytes;
+mod snapshot_calls;
 mod status;
 #[cfg(test)]
 mod tests;
@@ -45,6 +47,7 @@ pub use laws::{last_ack_suffices, replay_reaches};
 pub use plan_calls::volume_plan_read;
 pub use segment_calls::{
     VolumeSegmentState, volume_segment_hydrate, volume_segment_new, volume_segment_offer,
-    volume_segment_page, volume_segment_resume, volume_segment_scl, volume_segment_snapshot,
-    volume_segment_state, volume_segment_take,
+    volume_segment_page, volume_segment_resume, volume_segment_scl, volume_segment_state,
+    volume_segment_take,
 };
+pub use snapshot_calls::{volume_segment_snapshot, volume_snapshot_read};

@@ -1,6 +1,6 @@
 //! The names of the numbers that calls return.
 
-/// Returns the name of a number, and an empty text where no call returns it.
+/// Returns the name of a number, or an empty text if no call returns it.
 pub fn name(number: u8) -> &'static str {
     match number {
         0 => "Ok",

@@ -51,7 +51,7 @@ impl Outbox {
         }
     }
 
-    /// Frees the messages where all were taken.
+    /// Frees the messages if all were taken.
     fn free(&mut self)
         ensures { left_in self.new ≡ left_in self.old }
     {

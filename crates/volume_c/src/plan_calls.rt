@@ -20,7 +20,7 @@ use std::sync::Arc;
 use volume_model::Fault;
 use wire::Messages;
 
-/// Returns the plan, where it has no fault.
+/// Checks a plan.
 fn checked_plan(alloc: Global, plan: Plan) -> Result<CheckedPlan, PlanFault>
     ensures plan { IfOk result (λ checked. checked.plan ≡ plan) }
     ensures faultless { IfOk result (λ checked. plan_fault (plan_data plan) ≡ None) }
@@ -31,7 +31,7 @@ fn checked_plan(alloc: Global, plan: Plan) -> Result<CheckedPlan, PlanFault>
     }
 }
 
-/// Returns the plan of a text, where it has no fault.
+/// Reads and checks the plan of a text.
 fn checked(alloc: Global, text: &[u8]) -> Result<CheckedPlan, PlanFault>
     ensures spelled { IfOk result (λ checked. plan_of text.now ≡ Ok (plan_data checked.plan)) }
     ensures faultless { IfOk result (λ checked. plan_fault (plan_data checked.plan) ≡ None) }
@@ -40,7 +40,7 @@ fn checked(alloc: Global, text: &[u8]) -> Result<CheckedPlan, PlanFault>
     checked_plan(alloc, plan)
 }
 
-/// Copies as much of a text as there is room for, and returns its length.
+/// Copies as much of a text as fits. Returns the text's length.
 fn copy_line(text: &str, line: &mut [u8]) -> usize {
     let bytes = text.as_bytes();
     let count = bytes.len().min(line.len());
@@ -49,7 +49,7 @@ fn copy_line(text: &str, line: &mut [u8]) -> usize {
     bytes.len()
 }
 
-/// Writes the line of a fault, as much of it as there is room for, and returns the fault's number.
+/// Writes the line of a fault, as much of it as fits. Returns the fault's number.
 fn refuse(alloc: Global, fault: &PlanFault, line: &mut [u8], needed: &mut usize) -> u8
     ensures { result ≢ 0 }
 {
@@ -81,8 +81,8 @@ fn hold_plan(alloc: Global, plan: CheckedPlan, out: &mut Handle) -> u8
 /// Reads a plan and checks it. `out` must be empty. On success it holds the plan. A plan may be closed as soon as each
 /// actor over it was made.
 ///
-/// Where the plan has a fault, the fault's number is returned, as docs/FAULTS.md lists them. Its line, which says the
-/// place too, is written to `line`, as much of it as there is room for; `needed` is its whole length.
+/// If the plan has a fault, returns its number (docs/FAULTS.md) and writes to `line` as much as fits of a line with its
+/// name and place. `needed` is the length of the whole line.
 #[unsafe(no_mangle)]
 pub extern "C" fn volume_plan_read(
     alloc: Global,

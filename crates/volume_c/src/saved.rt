@@ -1,20 +1,20 @@
 //! The bytes of snapshots.
 
-ghost use Rattle.std.specs.Prelude.{◌≡◌, Ok, IfErr, IfOk};
+ghost use Rattle.std.specs.Prelude.{◌≡◌, ◌++◌, Ok, IfErr, IfOk};
 ghost use Rattle.volume_model.specs.Answer.{Gives};
-ghost use Rattle.volume_model.specs.Node.{restarted};
 ghost use Rattle.volume_model.specs.declared.fault.Fault.TheVariants.{NoMemory};
 ghost use Rattle.epochs.specs.Authority.{authority_of};
 ghost use Rattle.epochs.specs.Snapshot.{authority_in as snapshot_authority};
-ghost use Rattle.segment_core.specs.Segment.{node_of, IsSameActor};
+ghost use Rattle.message_bytes.specs.Spelling.{records_spelled};
 ghost use Rattle.segment_core.specs.Snapshot.{node_in};
 ghost use Rattle.volume_c.specs.Saved.{head_at, flag_at, segment_in, segment_spelled, authority_in, authority_spelled};
 
 use epochs::{Authority, AuthoritySnapshot};
 use message_bytes::{
-    put_contents, put_place, put_u32, put_u64, read_contents, read_place, u8_at, u32_at, u64_at,
+    put_contents_head, put_place, put_u32, put_u64, read_contents, read_place, u8_at, u32_at,
+    u64_at,
 };
-use segment_core::{Segment, SegmentSnapshot};
+use segment_core::SegmentSnapshot;
 use std::alloc::Global;
 use std::sync::Arc;
 use volume_model::Fault;
@@ -56,10 +56,10 @@ fn read_flag(bytes: &[u8]) -> Result<(bool, &[u8]), Fault>
     Ok((byte == 1, rest))
 }
 
-/// Reads a segment's snapshot. No length in the bytes reserves memory before the bytes behind it are there.
+/// Reads a segment's snapshot. A length in the bytes reserves no memory for elements that don't follow.
 ///
 /// # Errors
-/// `Short`, `BadField` or `Trailing`, the first from left to right; `NoMemory`.
+/// `Short`, `BadField` or `Trailing`, whichever comes first from left to right; `NoMemory` if memory runs out.
 #[tactic(auto, unfolding(crate::specs::Saved::segment_in))]
 pub fn read_segment(alloc: Global, bytes: &[u8]) -> Result<SegmentSnapshot, Fault>
     ensures { Gives node_in result (segment_in bytes.now) }
@@ -83,38 +83,29 @@ pub fn read_segment(alloc: Global, bytes: &[u8]) -> Result<SegmentSnapshot, Faul
     })
 }
 
-/// Returns the bytes of a segment's snapshot, which `read_segment` reads back as it.
+/// Returns what stands before the records in the bytes of a segment's snapshot. With the records behind it, `read_segment`
+/// reads it back as the snapshot.
 ///
 /// # Errors
 /// `Full` if a list is longer than four bytes can count; `NoMemory`.
-pub fn segment_bytes(alloc: Global, segment: &mut Segment) -> Result<Vec<u8>, Fault>
-    ensures text { IfOk result (λ text. text.items ≡ segment_spelled (restarted (node_of segment.old))) }
-    ensures reads { IfOk result (λ text. segment_in text.items ≡ Ok (restarted (node_of segment.old))) }
-    ensures node { node_of segment.new ≡ node_of segment.old }
-    ensures actor { IsSameActor segment.old segment.new }
-{
-    let snapshot = segment.snapshot(alloc)?;
-    snapshot_bytes(alloc, &snapshot)
-}
-
-/// Returns the bytes of a snapshot.
-fn snapshot_bytes(alloc: Global, snapshot: &SegmentSnapshot) -> Result<Vec<u8>, Fault>
-    ensures text { IfOk result (λ text. text.items ≡ segment_spelled (node_in snapshot.now)) }
-    ensures reads { IfOk result (λ text. segment_in text.items ≡ Ok (node_in snapshot.now)) }
+pub fn snapshot_head(alloc: Global, snapshot: &SegmentSnapshot) -> Result<Vec<u8>, Fault>
+    ensures text { IfOk result (λ head. head.items ++ records_spelled (node_in snapshot.now).contents.records
+        ≡ segment_spelled (node_in snapshot.now)) }
+    ensures reads { IfOk result (λ _. segment_in (segment_spelled (node_in snapshot.now)) ≡ Ok (node_in snapshot.now)) }
 {
     let mut out = Vec::from_slice(alloc, &[VERSION, SEGMENT])?;
     put_u32(&mut out, snapshot.volume)?;
     put_place(&mut out, snapshot.place)?;
     out.push(u8::from(snapshot.whole))?;
     put_u64(&mut out, snapshot.copied)?;
-    put_contents(alloc, &mut out, &snapshot.contents)?;
+    put_contents_head(alloc, &mut out, &snapshot.contents)?;
     Ok(out)
 }
 
 /// Reads an authority's snapshot.
 ///
 /// # Errors
-/// `Short` or `BadField`, the first from left to right; `NoMemory`.
+/// `Short` or `BadField`, whichever comes first from left to right; `NoMemory` if memory runs out.
 #[tactic(auto, unfolding(crate::specs::Saved::authority_in))]
 pub fn read_authority(alloc: Global, bytes: &[u8]) -> Result<AuthoritySnapshot, Fault>
     ensures { Gives snapshot_authority result (authority_in bytes.now) }
@@ -128,10 +119,10 @@ pub fn read_authority(alloc: Global, bytes: &[u8]) -> Result<AuthoritySnapshot, 
     })
 }
 
-/// Returns the bytes of an authority's snapshot, which `read_authority` reads back as it.
+/// Returns the bytes of an authority's snapshot, from which `read_authority` returns the same snapshot.
 ///
 /// # Errors
-/// `NoMemory`.
+/// `NoMemory` if memory runs out.
 pub fn authority_bytes(alloc: Global, authority: &Authority) -> Result<Vec<u8>, Fault>
     ensures text { IfOk result (λ text. text.items ≡ authority_spelled (authority_of authority.now)) }
     ensures reads { IfOk result (λ text. authority_in text.items ≡ Ok (authority_of authority.now)) }

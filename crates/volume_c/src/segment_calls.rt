@@ -1,12 +1,10 @@
 //! Segments.
 
-ghost use Rattle.std.specs.Prelude.{◌≡◌, ◌≢◌, [], Some, take, IfErr, IfOk};
-ghost use Rattle.volume_model.specs.declared.fault.Fault.TheVariants.{NoMemory};
+ghost use Rattle.std.specs.Prelude.{◌≡◌, ◌≢◌, [], Some, take};
 ghost use Rattle.volume_model.specs.Node.{hydrated, offered, reaction};
-ghost use Rattle.segment_core.specs.Segment.{node_of, IsSameActor};
 ghost use Rattle.volume_c.specs.View.{seen, unsent};
 ghost use Rattle.volume_c.specs.Calls.{node_does, with_message, Does, Makes, Reads};
-ghost use Rattle.volume_c.specs.Segments.{born_step, dropped, node_state, page_value, resumed_step, scl_value, state_of, state_value, IsSaved};
+ghost use Rattle.volume_c.specs.Segments.{born_step, page_value, resumed_step, scl_value, state_of, state_value};
 
 use crate::actor::{Actor, Held};
 use crate::acts::{deliver_step, segment_step};
@@ -14,12 +12,11 @@ use crate::buffer::copy_out;
 use crate::constructors::{hold, plan_in};
 use crate::handle::Handle;
 use crate::outbox::Outbox;
-use crate::saved::{read_segment, segment_bytes};
-use crate::status::{BAD_LENGTH, TOO_SMALL, UNSENT, WRONG_HANDLE};
+use crate::saved::read_segment;
+use crate::status::{TOO_SMALL, WRONG_HANDLE};
 use message_bytes::decode;
 use segment_core::{NodeAction, Segment};
 use std::alloc::Global;
-use volume_model::Fault;
 use wire::Messages;
 
 /// The bytes of a block.
@@ -43,7 +40,7 @@ pub struct VolumeSegmentState {
     pub is_whole: u32,
 }
 
-/// Returns what is held of a segment that has made no message.
+/// Returns the contents of a handle for a segment that has made no message.
 fn held_of(segment: Segment) -> Held
     ensures actor { result.actor ≡ Actor.Segment segment }
     ensures nothing { unsent (Some result) ≡ [] }
@@ -84,7 +81,7 @@ pub extern "C" fn volume_segment_new(
     }
 }
 
-/// Makes a segment from the bytes that `volume_segment_snapshot` wrote: the segment that was saved, after a restart.
+/// Makes a segment from the bytes of a snapshot, all that `volume_snapshot_read` wrote: the segment that was saved, after a restart.
 /// Then pass it, by `volume_segment_take`, each message that was logged since, in the order of the log, and drop the
 /// answers. `out` must be empty. On success it holds the segment.
 ///
@@ -245,49 +242,31 @@ pub extern "C" fn volume_segment_scl(alloc: Global, segment: &mut Handle, scl: &
     status
 }
 
-/// Returns the state of a segment.
-///
-/// # Errors
-/// `NoMemory`.
-fn state(alloc: Global, segment: &mut Segment) -> Result<VolumeSegmentState, Fault>
-    ensures own { IfErr result (λ fault. fault ≡ NoMemory) }
-    ensures state { IfOk result (λ state. state_of state ≡ node_state (node_of segment.old)) }
-    ensures node { node_of segment.new ≡ node_of segment.old }
-    ensures actor { IsSameActor segment.old segment.new }
-{
-    let complete_point = segment.scl();
-    let snapshot = segment.snapshot(alloc)?;
-    Ok(VolumeSegmentState {
-        complete_point,
-        records: snapshot.contents.records.len() as u64,
-        volume_epoch: snapshot.volume,
-        membership_epoch: snapshot.place.epoch,
-        configuration: u32::from(snapshot.place.configuration),
-        is_whole: u32::from(snapshot.whole),
-    })
-}
-
 /// Reads the state of the segment that is held.
-fn state_of_held(alloc: Global, held: &mut Held, out: &mut VolumeSegmentState) -> u8
-    ensures reads { Reads (state_value (seen (Some held.old))) (state_of out.new) result (Some held.old)
-        (Some held.new) }
+fn state_of_held(held: &Held, out: &mut VolumeSegmentState) -> u8
+    ensures reads { Reads (state_value (seen (Some held.now))) (state_of out.new) result (Some held.now)
+        (Some held.now) }
     ensures out { result ≢ 0 → out.new ≡ out.old }
 {
-    match &mut held.actor {
-        Actor::Segment(segment) => match state(alloc, segment) {
-            Ok(state) => {
-                *out = state;
-                0
-            }
-            Err(fault) => fault.number(),
-        },
+    match &held.actor {
+        Actor::Segment(segment) => {
+            let status = segment.status();
+            *out = VolumeSegmentState {
+                complete_point: status.complete_point,
+                records: status.records as u64,
+                volume_epoch: status.volume_epoch,
+                membership_epoch: status.membership_epoch,
+                configuration: u32::from(status.configuration),
+                is_whole: u32::from(status.is_whole),
+            };
+            0
+        }
         _ => WRONG_HANDLE,
     }
 }
 
 /// Returns a segment's epochs, its complete point and the number of its records in `state`. A node has taken a step
-/// once `membership_epoch` is that of the step. The call may need 8 bytes of memory and some nanoseconds for each
-/// record, once after the last record that came: call it now and then, and `volume_segment_scl` for each message.
+/// once `membership_epoch` is that of the step.
 #[unsafe(no_mangle)]
 pub extern "C" fn volume_segment_state(
     alloc: Global,
@@ -298,62 +277,10 @@ pub extern "C" fn volume_segment_state(
         segment.old.seal.held segment.new.seal.held }
     ensures state { result ≢ 0 → state.new ≡ state.old }
 {
-    let Some(mut held) = segment.take(alloc) else {
+    let Some(held) = segment.take(alloc) else {
         return WRONG_HANDLE;
     };
-    let status = state_of_held(alloc, &mut held, state);
-    segment.put(held);
-    status
-}
-
-/// Saves the segment that is held.
-fn save_held(alloc: Global, held: &mut Held, out: &mut [u8], needed: &mut usize) -> u8
-    ensures does { Does (node_does dropped (seen (Some held.old))) result (Some held.old) (Some held.new) }
-    ensures saved { result ≡ 0 → IsSaved (take needed.new out.new) (seen (Some held.new)) }
-    ensures out { result ≢ 0 → out.new ≡ out.old }
-{
-    if !held.outbox.is_empty() {
-        return UNSENT;
-    }
-    match &mut held.actor {
-        Actor::Segment(segment) => match segment_bytes(alloc, segment) {
-            Ok(bytes) => {
-                let status = copy_out(bytes.as_slice(), out, needed);
-                if status == 0 {
-                    segment.restart();
-                }
-                status
-            }
-            Err(Fault::NoMemory) => Fault::NoMemory.number(),
-            Err(_) => BAD_LENGTH,
-        },
-        _ => WRONG_HANDLE,
-    }
-}
-
-/// Writes the state of a segment, as docs/WIRE.md lays it out, and drops the pieces of copies and installs that are
-/// under way, as a restart does. The handle then holds exactly what the bytes are resumed to. A resumed segment that
-/// takes the messages logged since, in order, reaches the same state. `needed` is the length, some 109 bytes a record
-/// at most.
-///
-/// Refused 92 where `out` is shorter than `needed`; 91 while there are messages to hand out.
-#[unsafe(no_mangle)]
-pub extern "C" fn volume_segment_snapshot(
-    alloc: Global,
-    segment: &mut Handle,
-    out: &mut [u8],
-    needed: &mut usize,
-) -> u8
-    ensures does { Does (node_does dropped (seen segment.old.seal.held)) result segment.old.seal.held
-        segment.new.seal.held }
-    ensures saved { result ≡ 0 → IsSaved (take needed.new out.new) (seen segment.new.seal.held) }
-    ensures out { result ≢ 0 → out.new ≡ out.old }
-{
-    *needed = 0;
-    let Some(mut held) = segment.take(alloc) else {
-        return WRONG_HANDLE;
-    };
-    let status = save_held(alloc, &mut held, out, needed);
+    let status = state_of_held(&held, state);
     segment.put(held);
     status
 }

@@ -1,4 +1,4 @@
-//! The numbers that calls return beside those of faults.
+//! The numbers that calls return besides those of faults.
 
 /// The handle is empty, or full where it must be empty, or holds another actor.
 pub const WRONG_HANDLE: u8 = 90;
@@ -12,5 +12,5 @@ pub const TOO_SMALL: u8 = 92;
 /// All messages were taken.
 pub const NO_MORE: u8 = 93;
 
-/// A number of bytes that the struct can't hold.
+/// A number of bytes that the struct doesn't have room for.
 pub const BAD_LENGTH: u8 = 94;

@@ -1,4 +1,5 @@
-//! Each call once. `bindings/c_tests` says what they do; `scripts/unproved_library` compiles what these tests reach.
+//! Calls each export once. `bindings/c_tests` tests the results; `scripts/unproved_library` compiles what these tests
+//! use.
 
 use crate::advance_calls::{VolumeReadiness, volume_authority_may_advance};
 use crate::authority_calls::{
@@ -18,9 +19,10 @@ use crate::handle_calls::{volume_close, volume_fault_name, volume_next_message};
 use crate::plan_calls::volume_plan_read;
 use crate::segment_calls::{
     VolumeSegmentState, volume_segment_hydrate, volume_segment_new, volume_segment_offer,
-    volume_segment_page, volume_segment_resume, volume_segment_scl, volume_segment_snapshot,
-    volume_segment_state, volume_segment_take,
+    volume_segment_page, volume_segment_resume, volume_segment_scl, volume_segment_state,
+    volume_segment_take,
 };
+use crate::snapshot_calls::{volume_segment_snapshot, volume_snapshot_read};
 use std::alloc::Global;
 
 /// The bytes of a View, of a Fence, and of the snapshots of an authority and of a segment that hold nothing.
@@ -35,7 +37,7 @@ const SEGMENT: &[u8] = &[
 ];
 
 /// What each call returns that is given empty handles.
-fn statuses(alloc: Global) -> [u8; 30] {
+fn statuses(alloc: Global) -> [u8; 31] {
     let mut none = Handle::empty(alloc);
     let mut out = Handle::empty(alloc);
     let mut bytes = [0u8; 512];
@@ -78,7 +80,8 @@ fn statuses(alloc: Global) -> [u8; 30] {
         volume_segment_page(alloc, &mut none, 0, 0, &mut bytes),
         volume_segment_scl(alloc, &mut none, &mut number),
         volume_segment_state(alloc, &mut none, &mut state),
-        volume_segment_snapshot(alloc, &mut none, &mut bytes, &mut needed),
+        volume_segment_snapshot(alloc, &mut none, &mut out),
+        volume_snapshot_read(alloc, &mut none, &mut bytes, &mut needed),
         volume_writer_first(alloc, &mut none, &mut out),
         volume_recovery_new(alloc, &mut none, VIEW, &mut out),
         volume_client_take(alloc, &mut none, VIEW),
@@ -103,7 +106,7 @@ fn statuses(alloc: Global) -> [u8; 30] {
 
 #[test]
 fn empty_handles_are_refused(rt: HostRuntime) {
-    assert!(rt; statuses(rt.alloc()) == [90u8; 30]);
+    assert!(rt; statuses(rt.alloc()) == [90u8; 31]);
 }
 
 #[test]

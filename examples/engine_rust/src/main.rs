@@ -1,5 +1,5 @@
-//! An engine over the volume's binding: seven nodes with a disk each, a writer that fails, its recovery, and a member
-//! that is replaced, over a transport in memory that loses, repeats and reorders messages.
+//! An engine over the Rust binding: seven nodes with a disk each, a writer that fails, a recovery, and a member that is
+//! replaced. Its transport, in memory, loses, repeats and reorders messages.
 //!
 //!     engine PLAN
 //!
@@ -18,7 +18,7 @@ fn all(messages: Messages<'_>) -> Result<Vec<Message>, Fault> {
     messages.collect()
 }
 
-/// A recovery or a writer: takes a message, and returns what it makes.
+/// A recovery or a writer: takes a message, and returns the messages that it makes.
 trait Client {
     fn react(&mut self, message: &[u8]) -> Result<Vec<Message>, Fault>;
 }
@@ -37,7 +37,7 @@ impl Client for Writer {
     }
 }
 
-/// A node: its segment, and its disk, a snapshot and the messages that it took since.
+/// A node: its segment, and its disk with a snapshot and the messages that it took after it.
 struct Node {
     segment: Segment,
     snapshot: Message,
@@ -47,18 +47,18 @@ struct Node {
 
 impl Node {
     fn new(mut segment: Segment) -> Result<Node, Fault> {
-        let snapshot = segment.snapshot()?;
+        let snapshot = segment.snapshot()?.into_bytes()?;
         Ok(Node { segment, snapshot, log: Vec::new(), acknowledged: 0 })
     }
 
-    /// Logs what it takes before the answers leave.
+    /// Takes a message, logs it and returns the answers.
     fn react(&mut self, message: &[u8]) -> Result<Vec<Message>, Fault> {
         self.segment.take(message)?;
         self.log.push(message.to_vec());
         all(self.segment.messages())
     }
 
-    /// Loses its memory, and resumes from its disk.
+    /// Restarts from the disk.
     fn restart(&mut self, plan: &mut Plan, member: u8) -> Result<(), Fault> {
         self.segment = Segment::resume(plan, 0, member, &self.snapshot)?;
         let log = std::mem::take(&mut self.log);
@@ -92,7 +92,7 @@ impl Engine {
         (self.random % bound as u64) as usize
     }
 
-    /// Puts messages on their way to the client, or to all nodes but the sender.
+    /// Puts messages on the wire: to the client, or to all nodes but the sender.
     fn send(&mut self, messages: &[Message], from: Option<usize>) {
         for message in messages {
             if ANSWERS.contains(&message[1]) {
@@ -117,7 +117,7 @@ impl Engine {
         Ok(())
     }
 
-    /// Delivers all, in any order; one in eight is lost, one in eight comes twice. What is refused is as good as lost.
+    /// Delivers all messages in random order. One in eight is lost, and one in eight is repeated. Ignores refusals.
     fn pump(&mut self, client: &mut impl Client) {
         while !self.wire.is_empty() {
             let at = self.random(self.wire.len());
@@ -132,13 +132,13 @@ impl Engine {
         }
     }
 
-    /// Sends again what is kept.
+    /// Sends the kept messages again, and delivers all.
     fn again(&mut self, client: &mut impl Client) {
         self.send(&self.kept.clone(), None);
         self.pump(client);
     }
 
-    /// Commits a change, and waits until it is durable.
+    /// Commits a change and waits until it is durable.
     fn commit(&mut self, writer: &mut Writer, block: u32, bytes: &[u8]) -> Result<(), Fault> {
         writer.issue(&[Change::new(0, block, 0, bytes)?])?;
         self.send(&all(writer.messages())?, None);
@@ -151,7 +151,7 @@ impl Engine {
         Ok(())
     }
 
-    /// Sends again the records from an LSN on.
+    /// Sends the records again from an LSN on.
     fn resend(&mut self, writer: &mut Writer, first: u64) -> Result<(), Fault> {
         for lsn in first..=writer.points()?.last {
             if writer.resend(lsn).is_ok() {
@@ -162,7 +162,7 @@ impl Engine {
         Ok(())
     }
 
-    /// The writer is heard of no more: a recovery finds what it acknowledged, and becomes the next writer.
+    /// The writer fails. A recovery finds what it acknowledged, and becomes the next writer.
     fn recover(&mut self) -> Result<Writer, Fault> {
         self.authority.assign()?;
         let _to_disk = self.authority.snapshot()?; // before the View leaves
@@ -186,7 +186,7 @@ impl Engine {
         Ok(writer)
     }
 
-    /// Leads the group to a configuration; the nodes and the writer follow.
+    /// Advances the group to a configuration, and tells the nodes and the writer.
     fn advance(&mut self, writer: &mut Writer, configuration: u32) -> Result<(), Fault> {
         self.authority.advance(0, configuration)?;
         let _to_disk = self.authority.snapshot()?; // before the StepTo leaves
@@ -197,14 +197,14 @@ impl Engine {
         views.iter().try_for_each(|view| writer.take(view))
     }
 
-    /// The fresh member comes in the place of member 5, by way of a configuration of both.
+    /// Replaces member 5 by the new member, through a configuration that has both.
     fn replace(&mut self, writer: &mut Writer) -> Result<(), Fault> {
         self.advance(writer, 1)?;
         self.kept.push(COPY_ASK.to_vec());
         while self.nodes[FRESH].segment.hydrate().is_err() {
             self.again(writer);
         }
-        self.nodes[FRESH].snapshot = self.nodes[FRESH].segment.snapshot()?;
+        self.nodes[FRESH].snapshot = self.nodes[FRESH].segment.snapshot()?.into_bytes()?;
         self.nodes[FRESH].log.clear();
         self.advance(writer, 2)
     }

@@ -21,11 +21,11 @@ impl Segment {
     ghost use Rattle.segment_core.specs.Segment.{node_of, segment_plan, segment_group, segment_member, IsSameActor, IsSegmentOf};
     ghost use Rattle.segment_core.specs.Snapshot.{node_in, resumed};
 
-    /// Returns the state that survives a restart. It shares the segment's records, and costs a pointer a record, or nothing where
-    /// the segment has reported since its last record.
+    /// Returns the state that survives a restart. It shares the segment's records. Costs a pointer for each record, or
+    /// nothing if the segment has reported since its last record.
     ///
     /// # Errors
-    /// Out of memory; the segment is unchanged.
+    /// Fails only if memory runs out. The segment is unchanged.
     pub fn snapshot(&mut self, alloc: Global) -> Result<SegmentSnapshot, AllocError>
         ensures kept { IfOk result (λ snapshot. node_in snapshot ≡ restarted (node_of self.old)) }
         ensures resumes { IfOk result (λ snapshot. resumed (segment_plan self.old) (segment_group self.old)
@@ -47,10 +47,11 @@ impl Segment {
         })
     }
 
-    /// Resumes the segment of a member of a group from a snapshot: exactly the segment that was saved, after a restart.
+    /// Resumes the segment of a member of a group from a snapshot. The result is the segment that was saved, after a
+    /// restart.
     ///
     /// # Errors
-    /// `NoActor` if the plan names no such member, else `NoMemory` if a growth was refused.
+    /// `NoActor` if the plan doesn't name such a member, else `NoMemory` if memory runs out.
     pub fn resumed(
         alloc: Global,
         plan: Arc<CheckedPlan>,

@@ -33,11 +33,13 @@ use Rattle.writer_core.specs.contracts.group_states.GroupStates as GroupStates
 use Rattle.writer_core.specs.contracts.writer.Writer as Writer
 use Rattle.recovery.specs.contracts.recovery.Recovery as Recovery
 use Rattle.world.specs.contracts.client.Client as Client
+use Rattle.wire.proofs.contents.Contents.TheSendSync as contents_type
 use Rattle.wire.proofs.messages.Messages.TheSendSync as messages_type
 use Rattle.volume_c.specs.Sealed.{sealed_owns}
 use Rattle.volume_c.specs.contracts.actor.Actor as Actor
 use Rattle.volume_c.specs.contracts.actor.Held as Held
 use Rattle.volume_c.specs.contracts.outbox.Outbox as Outbox
+use Rattle.volume_c.specs.contracts.snapshot_bytes.SnapshotBytes as SnapshotBytes
 use Rattle.volume_c.specs.contracts.handle.Seal.{the_row, the_type}
 
 ruleset parts = (sendable, heap.crosses, record_type.the_send, record_type.the_field_send, record_type.the_sync, shared_record_type.the_send, shared_record_type.the_field_send, shared_record_type.the_sync, lineage_type.the_send, lineage_type.the_field_send, records.the_send, records.the_field_send, held.the_send, held.the_field_send, assembly.the_send, assembly.the_field_send, hydration_type.the_send, hydration_type.the_field_send, copied.the_send, copied.the_field_send, last_lsns.the_send, last_lsns.the_field_send, durability.the_send, durability.the_field_send, group_state.the_send, group_state.the_field_send, found.the_send, found.the_field_send)
@@ -87,11 +89,17 @@ client_send = search (sendable, client_field) depth 30
 outbox_field : IsSend (Outbox.the_field).row
 outbox_field = struct_send (declared Outbox.the_type) (messages_type.the_field_send, (search sendable, tt))
 
+snapshot_field : IsSend (SnapshotBytes.the_field).row
+snapshot_field = search (sendable, heap.crosses, contents_type.the_send, contents_type.the_sync) depth 30
+
+snapshot_send : IsSend SnapshotBytes.the_row
+snapshot_send = search (sendable, snapshot_field) depth 30
+
 actor_send : IsSend Actor.the_row
-actor_send = search (sendable, heap.crosses, segment_send, segment_field, client_send, client_field, authority_send, authority_field, plan_send, plan_sync) depth 30
+actor_send = search (sendable, heap.crosses, segment_send, segment_field, client_send, client_field, authority_send, authority_field, snapshot_send, snapshot_field, plan_send, plan_sync) depth 30
 
 actor_field : IsSend (Actor.the_field).row
-actor_field = search (sendable, heap.crosses, segment_send, segment_field, client_send, client_field, authority_send, authority_field, plan_send, plan_sync) depth 30
+actor_field = search (sendable, heap.crosses, segment_send, segment_field, client_send, client_field, authority_send, authority_field, snapshot_send, snapshot_field, plan_send, plan_sync) depth 30
 
 held_send : IsSend Held.the_row
 held_send = recorded_send (Held.the_field).row _ _ (Held.the_type).to_one (struct_send (declared Held.the_type) (actor_field, (outbox_field, tt)))

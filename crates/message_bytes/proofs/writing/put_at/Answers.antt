@@ -1,0 +1,8 @@
+use Rattle.std.proofs.Common.{◌+◌, ◌-◌, length, ap, arith}
+use Rattle.std.proofs.lemmas.Slice.{drop-put_mid}
+use Rattle.message_bytes.proofs.writing.put_at.Goals as goal
+
+pub returns-clause-back : goal.returns-clause-back
+returns-clause-back c =
+    drop-put_mid c.args.at (c.args.at + length c.args.bytes.now - c.args.at) c.args.out.now c.copy_from_slice.new.self (c.args.at + length c.args.bytes.now)
+    (omega arith) (omega arith) (omega (arith, ap length c.copy_from_slice.ensures.after))

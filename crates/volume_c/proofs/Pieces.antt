@@ -1,0 +1,50 @@
+-- Bytes that move from a snapshot into a buffer.
+use Rattle.std.proofs.Common.{◌≡◌, ℕ, ◌+◌, ◌≤◌, List, [], ◌∷◌, ◌++◌, length, map, take, drop, sym, ap, ap₂, ◌∙◌, append_assoc}
+use Rattle.std.proofs.Math.Seq.{take-append-add, drop-append_seam}
+use Rattle.std.proofs.lemmas.List.{drop_all, drop-drop, drop-map, take-map, take-append-drop}
+use Rattle.volume_model.specs.Redo.{Redo}
+use Rattle.redo_record.specs.declared.shared_record.SharedRecord.{SharedRecord}
+use Rattle.redo_record.specs.SharedRecord.{shared_redo}
+use Rattle.message_bytes.specs.Spelling.{records_spelled}
+use Rattle.message_bytes.proofs.Found.{records_spelled-append}
+
+-- what stands before the records of a snapshot, and the records
+pub head-then : (v p k l m r : List ℕ) (f : ℕ) → ((1 ∷ 129 ∷ []) ++ (v ++ (p ++ (f ∷ (k ++ (l ++ m)))))) ++ r ≡ (1 ∷ 129 ∷ []) ++ (v ++ (p ++ (f ∷ (k ++ (l ++ (m ++ r))))))
+head-then v p k l m r f = simp append_assoc
+
+-- all bytes were moved
+pub empty_left : (head : List ℕ) (records : List Redo) (taken next : ℕ) → length head ≤ taken → length records ≤ next → drop taken head ++ records_spelled (drop next records) ≡ []
+empty_left head records taken next a b = ap₂ (λ (x : List ℕ) (y : List Redo). x ++ records_spelled y) (drop_all taken head a) (drop_all next records b)
+
+-- bytes of what stands before the records are moved
+pub head-moved : (head out rest : List ℕ) (taken count : ℕ) → take count out ≡ take count (drop taken head) → drop taken head ++ rest ≡ take count out ++ (drop (taken + count) head ++ rest)
+head-moved head out rest taken count is =
+    let left = drop taken head in
+    ap (λ (t : List ℕ). t ++ rest)
+    (sym (take-append-drop count left) ∙ ap (λ (t : List ℕ). t ++ drop count left) (sym is) ∙ ap (λ (t : List ℕ). take count out ++ t) (drop-drop count taken head))
+    ∙ append_assoc (take count out) (drop (taken + count) head) rest
+
+-- whole records are moved
+pub records-moved : (records : List Redo) (packets : List SharedRecord) (next n count : ℕ) (out : List ℕ) → map shared_redo packets ≡ records
+    → take count out ≡ records_spelled (map shared_redo (take n (drop next packets)))
+    → records_spelled (drop next records) ≡ take count out ++ records_spelled (drop (next + n) records)
+records-moved records packets next n count out are is =
+    let left = drop next records in
+    let front : map shared_redo (take n (drop next packets)) ≡ take n left =
+    sym (take-map shared_redo n (drop next packets)) ∙ ap (λ (xs : List Redo). take n xs) (sym (drop-map shared_redo next packets) ∙ ap (λ (xs : List Redo). drop next xs) are) in
+    ap records_spelled (sym (take-append-drop n left)) ∙ records_spelled-append (take n left) (drop n left)
+    ∙ ap (λ (t : List ℕ). t ++ records_spelled (drop n left)) (sym (is ∙ ap records_spelled front))
+    ∙ ap (λ (xs : List Redo). take count out ++ records_spelled xs) (drop-drop n next records)
+
+-- bytes are moved, and more behind them
+pub both-moved : (old mid new out front rest : List ℕ) (m k : ℕ) → old ≡ take m out ++ mid → mid ≡ take k rest ++ new → front ≡ take m out → length front ≡ m → old ≡ take (m + k) (front ++ rest) ++ new
+both-moved old mid new out front rest m k first second is long =
+    let parts : take (m + k) (front ++ rest) ≡ front ++ take k rest = ap (λ (n : ℕ). take (n + k) (front ++ rest)) (sym long) ∙ take-append-add front rest k in
+    first ∙ ap (λ (t : List ℕ). t ++ mid) (sym is) ∙ ap (λ (t : List ℕ). front ++ t) second ∙ sym (append_assoc front (take k rest) new)
+    ∙ ap (λ (t : List ℕ). t ++ new) (sym parts)
+
+-- the bytes behind them stay as they were
+pub both-back : (before out front rest last : List ℕ) (m k : ℕ) → drop m out ≡ drop m before → rest ≡ drop m out → drop k last ≡ drop k rest → length front ≡ m → drop (m + k) (front ++ last) ≡ drop (m + k) before
+both-back before out front rest last m k first is same long =
+    sym (drop-drop k m (front ++ last)) ∙ ap (λ (t : List ℕ). drop k t) (ap (λ (n : ℕ). drop n (front ++ last)) (sym long) ∙ drop-append_seam front last)
+    ∙ same ∙ ap (λ (t : List ℕ). drop k t) (is ∙ first) ∙ drop-drop k m before
