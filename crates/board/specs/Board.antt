@@ -11,18 +11,18 @@ abbrev pub number_of : BoardStep → ℕ
 number_of (Raised n) = n
 number_of (Read n) = n
 
--- some seat raised this number
+-- a seat raised this number
 abbrev pub IsRaised : List (List BoardStep) → ℕ → Type 0
 IsRaised views n = (seat : ℕ) × (v : List BoardStep) × (at : ℕ) × (get_elem? views seat ≡ some v)
     × (get_elem? v at ≡ some (Raised n))
 
--- each number read is at least all numbers before it
+-- each number that the seat read is at least all numbers that it raised or read before
 abbrev pub NeverFalls : List BoardStep → Type 0
 NeverFalls v = (i j n : ℕ) (s : BoardStep) → i < j → get_elem? v i ≡ some s → get_elem? v j ≡ some (Read n)
     → number_of s ≤ n
 
--- The word is the greatest number raised by all seats, else 0. Each number read is at most the word, and is 0 or was
--- raised
+-- The word is the greatest number that a seat has raised, else 0. Each number that was read is at most the word, and is
+-- 0 or was raised
 pub record IsBoard (word : ℕ) (views : List (List BoardStep)) : Type 0 where
   pub above : (seat at : ℕ) (v : List BoardStep) (s : BoardStep) → get_elem? views seat ≡ some v → get_elem? v at
       ≡ some s → number_of s ≤ word
@@ -31,26 +31,26 @@ pub record IsBoard (word : ℕ) (views : List (List BoardStep)) : Type 0 where
       → (n ≡ 0) ⊎ IsRaised views n
   pub rising : (seat : ℕ) (v : List BoardStep) → get_elem? views seat ≡ some v → NeverFalls v
 
--- the steps of all seats, these among them, keep the rule of the board with this number on it
+-- these are the steps of a seat of a board whose number is this one and whose rule holds
 abbrev pub IsKept : ℕ → List BoardStep → Type 0
 IsKept word steps = (views : List (List BoardStep)) × (seat : ℕ) × (get_elem? views seat ≡ some steps) × IsBoard word
     views
 
--- the views stand for so many seats, and the board has one word, of which the rule holds
+-- the views together have this many seats, and the board has one word, for which the rule holds
 abbrev pub Stands : ℕ → List ℕ → List (View BoardStep) → Type 0
 Stands seats words views = (shares views ≡ seats) × ((word : ℕ) × (words ≡ word ∷ []) × IsBoard word (seats_in views))
 
--- a view of one seat has one step more
+-- a view of one seat has one more step
 abbrev pub Adds : View BoardStep → BoardStep → View BoardStep → Type 0
 Adds before step after = after ≡ (before.0, (first_of before.1 ++ step ∷ []) ∷ [])
 
--- the number was read, is at least all numbers before it, and stands on the board
+-- the number was read, is at least all that this seat raised or read before, and is the board's number
 pub record Looks (before : View BoardStep) (found : ℕ) (after : View BoardStep) : Type 0 where
   pub step : Adds before (Read found) after
   pub at_least : All (λ s. number_of s ≤ found) (first_of before.1)
   pub kept : IsKept found (first_of after.1)
 
--- the board was raised to this number, and is kept
+-- the board was raised to this number, and its rule holds
 pub record Raises (before : View BoardStep) (lsn : ℕ) (after : View BoardStep) : Type 0 where
   pub step : Adds before (Raised lsn) after
   pub kept : (word : ℕ) × IsKept word (first_of after.1)

@@ -1,16 +1,16 @@
--- A view of a table or of a channel stands for seats: for so many that aren't dealt yet, and for the steps of each seat
--- that it has.
+-- Views that stand for seats. A view of a table or of a channel has the number of seats that aren't dealt yet, and the
+-- steps of each seat that is there.
 use Rattle.std.specs.Prelude.{ℕ, ◌+◌, List, [], ◌∷◌, ◌++◌, length}
 
--- how many seats aren't dealt, and the steps of each seat that is there, oldest first
+-- the number of seats that aren't dealt, and the steps of each seat that is there, oldest first
 abbrev pub View : Type 0 → Type 0
 View A = ℕ × List (List A)
 
--- for how many seats a view stands
+-- the number of seats of a view
 abbrev pub share_of : {A : Type 0} → View A → ℕ
 share_of v = v.0 + length v.1
 
--- for how many seats some views stand
+-- the number of seats of some views
 abbrev pub shares : {A : Type 0} → List (View A) → ℕ
 shares [] = 0
 shares (v ∷ vs) = share_of v + shares vs

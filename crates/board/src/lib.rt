@@ -10,17 +10,17 @@ use std::collections::LinkedList;
 /// A step of a seat.
 #[derive(Clone, Copy)]
 pub enum BoardStep {
-    /// The number was raised to this one, if it was below.
+    /// The number was raised to this one, unless it was greater.
     Raised(u64),
     /// This number was read.
     Read(u64),
 }
 
-// How many seats aren't dealt yet, and the steps of each seat that is there. In a clause these are a number and a list, and
-// no value of it is made.
+// The number of seats that aren't dealt yet, and the steps of each seat that is there. Exists only in contracts: no
+// value is made.
 type Seats = (u64, LinkedList<LinkedList<BoardStep>>);
 
-/// The rule of the number and the steps of all seats. Its key is the number of seats.
+/// The rule for the number and the steps of all seats. The key is the number of seats.
 pub struct Durable;
 
 impl TableRule<(), Seats, u64> for Durable {
@@ -32,7 +32,7 @@ impl TableRule<(), Seats, u64> for Durable {
     ghost first = { λ seats. (seats - 1, [] ∷ []) };
 }
 
-/// One more seat is dealt, which has made no step.
+/// Deals one more seat, which has made no step.
 pub struct NewSeat;
 
 impl Split<Seats> for NewSeat {
@@ -74,7 +74,7 @@ impl Play<(), Seats> for Look {
     ghost then = { λ step before found after. Looks before.0 found after.0 × (after.1 ≡ before.1) };
 }
 
-/// A number that only rises: the greatest that any seat has raised it to, 0 at first.
+/// A number that only rises: the greatest that a seat has raised it to, 0 at first.
 #[derive(Drop)]
 pub struct Board {
     table: Table<(), Seats, u64, Durable, Global>,
@@ -82,14 +82,14 @@ pub struct Board {
     ghost no_slot: { table.shared.table_id.slots ≡ 0 },
 }
 
-/// One holder's seat at the board. Contracts see all its steps.
+/// A holder's access to the board. Contracts can name all its steps.
 #[derive(Drop)]
 pub struct BoardSeat {
     seat: Seat<(), Seats>,
     ghost one: { (seat.me.0.0 ≡ 0) × (length seat.me.0.1 ≡ 1) },
 }
 
-/// Returned seats of one board. Contracts see the steps of each.
+/// Returned seats of one board. Contracts can name the steps of each.
 #[derive(Drop)]
 pub struct ReturnedSeats {
     all: Seat<(), Seats>,
@@ -100,7 +100,7 @@ impl BoardSeat {
     ghost use Rattle.std.specs.Prelude.{[], ◌∷◌};
     ghost use Rattle.board.specs.Seats.{returned, steps_of, AreReturnedTo, IsSeatIn};
 
-    /// Returns this seat, as the first of its board.
+    /// Turns this seat into a collection of returned seats, which has it alone.
     pub fn into_returned(self) -> ReturnedSeats
         ensures same { IsSeatIn self.seat.table_id self → AreReturnedTo self.seat.table_id result }
         ensures returned { returned result ≡ steps_of self ∷ [] }
@@ -115,10 +115,10 @@ impl Board {
     ghost use Rattle.board.specs.Board.{number_of, IsBoard, IsKept};
     ghost use Rattle.board.specs.Seats.{board_table, returned, seats_of, AreReturnedTo, IsSeatOf, steps_of};
 
-    /// Makes a board that reads 0 and its `seats` seats, which have made no step.
+    /// Makes a board with the number 0, and its `seats` seats, which have made no step.
     ///
     /// # Errors
-    /// `AllocError` if there is no memory for the seats.
+    /// `AllocError` if memory runs out.
     pub fn new(alloc: Global, seats: usize) -> Result<(Board, Vec<BoardSeat>), AllocError>
         requires { 0 < seats }
         ensures count { IfOk result (λ b. (vec_len b.1 ≡ seats) × (seats_of b.0 ≡ seats)) }
@@ -136,7 +136,7 @@ impl Board {
         Ok((Board { table }, made))
     }
 
-    /// Raises the number to `lsn` if it is below. Takes no lock and no memory.
+    /// Raises the number to `lsn`, unless it is greater. Takes no lock and allocates nothing.
     pub fn raise(&self, seat: &mut BoardSeat, lsn: u64)
         requires { IsSeatOf self.now seat.old }
         ensures same { IsSeatOf self.now seat.new }
@@ -146,8 +146,8 @@ impl Board {
         self.table.shared.fetch_max::<Raise>(&mut seat.seat, 0, lsn);
     }
 
-    /// Returns the number: the greatest raised so far (0 if none), at least all that this seat raised or read. Takes
-    /// no lock and no memory.
+    /// Returns the number: the greatest that was raised (0 if none), and at least all that this seat raised or read.
+    /// Takes no lock and allocates nothing.
     pub fn durable(&self, seat: &mut BoardSeat) -> u64
         requires { IsSeatOf self.now seat.old }
         ensures same { IsSeatOf self.now seat.new }
@@ -158,7 +158,7 @@ impl Board {
         self.table.shared.load::<Look>(&mut seat.seat, 0)
     }
 
-    /// Takes one more seat back. Takes no memory.
+    /// Adds a seat to the returned ones. Allocates nothing.
     pub fn take_back(&self, seats: &mut ReturnedSeats, seat: BoardSeat)
         requires { AreReturnedTo (board_table self.now) seats.old × IsSeatOf self.now seat }
         ensures same { AreReturnedTo (board_table self.now) seats.new }
@@ -168,9 +168,8 @@ impl Board {
         self.table.shared.join_seat::<Return>(&mut seats.all, seat);
     }
 
-    /// Closes a board whose seats were all returned, and returns its number. By the steps of exactly these seats, the
-    /// number is the greatest raised (0 if none), each number read is 0 or was raised, and no seat's readings fall.
-    /// Takes no memory.
+    /// Closes a board whose seats were all returned. Returns its number, which is the greatest that these seats raised
+    /// (0 if none). Each number that they read is 0 or was raised, and no seat's readings fall. Allocates nothing.
     pub fn end(self, seats: ReturnedSeats) -> u64
         requires seats { AreReturnedTo (board_table self) seats }
         requires all { length (returned seats) ≡ seats_of self }
@@ -183,8 +182,7 @@ impl Board {
         number
     }
 
-    /// Takes all seats back, closes the board and returns its number, as [`Board::end`] says of exactly these seats.
-    /// Takes no memory.
+    /// Takes all seats back, closes the board and returns its number, as [`Board::end`] does. Allocates nothing.
     pub fn close(self, mut seats: Vec<BoardSeat>) -> u64
         requires of { All (λ s. IsSeatOf self s) seats.items }
         requires all { (vec_len seats ≡ seats_of self) × (0 < vec_len seats) }

@@ -1,4 +1,4 @@
--- What a search answers.
+-- The answers of a search.
 use Rattle.std.specs.Prelude.{◌≡◌, ◌≤◌, ℕ, List, length, Option, Some, IfSome, IsSome, Result, Ok, Err, option_map, slice_get}
 use Rattle.std.specs.declared.alloc.Global.{Global}
 use Rattle.refutation.specs.declared.certificate.Certificate.{Certificate}
@@ -13,12 +13,12 @@ use Rattle.cert_search.specs.Plain.{IsPlain}
 abbrev pub rule_in : Option (Certificate Global) → Option Rule
 rule_in = option_map certificate_rule
 
--- The answer to a claim: none, or a rule that refutes it. With a budget of at least 100 a plain claim has one.
+-- The answer to a claim: None, or a rule that refutes it. With a budget of at least 100 a plain claim has a rule.
 pub record IsAnswer (budget : ℕ) (claim : State) (rule : Option Rule) : Type 0 where
   pub refutes : IfSome rule (λ r. Refutes r claim)
   pub plain : 100 ≤ budget → IsPlain claim → IsSome rule
 
--- each answer is one to the claim at its place
+-- each answer is one to the claim with its number
 abbrev pub EachAnswers : ℕ → List PlacedClaim → List (Option Rule) → Type 0
 EachAnswers budget claims rules = (i : ℕ) (c : PlacedClaim) (rule : Option Rule) → slice_get claims i ≡ Some c
     → slice_get rules i ≡ Some rule → IsAnswer budget c.claim rule
@@ -28,7 +28,7 @@ pub record AreAnswers (budget : ℕ) (claims : List PlacedClaim) (rules : List (
   pub as_many : length rules ≡ length claims
   pub each : EachAnswers budget claims rules
 
--- the answers to the claims of a plan, which has them
+-- the answers to the claims of a plan, if it has claims
 abbrev pub AreAnswersOf : ℕ → Result (List PlacedClaim) PlanFault → List (Option Rule) → Type 0
 AreAnswersOf budget (Ok claims) rules = AreAnswers budget claims rules
 AreAnswersOf budget (Err fault) rules = ⊥

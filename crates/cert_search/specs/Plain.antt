@@ -1,4 +1,4 @@
--- Claims that hold by the number of equal members alone.
+-- Claims that are true because enough members are equal.
 use Rattle.std.specs.Prelude.{ℕ, ◌+◌, ◌==◌, Bool, false, List, [], ◌∷◌, Option, Some, None, map, option_map, slice_index_or}
 use Rattle.std.specs.List.{position_from}
 use Rattle.volume_model.specs.Formula.{Formula, member, at_least}
@@ -15,17 +15,17 @@ is_member x (at_least k of) = false
 abbrev pub place_of : ℕ → List Formula → Option ℕ
 place_of x = position_from (is_member x) 0
 
--- the place of a member with that of an equal one among the others, if there is one
+-- the place of a member, and the place of an equal one among the others, if there is one
 abbrev pub pair_at : ℕ → Formula → List Formula → Option (ℕ × ℕ)
 pair_at i (member x) others = option_map (λ j. (i, j)) (place_of x others)
 pair_at i (at_least k of) others = None
 
--- one more at the front, if there is one
+-- the list with one more element in front, if there is one
 abbrev pub onto : {A : Type 0} → Option A → List A → List A
 onto None xs = xs
 onto (Some x) xs = x ∷ xs
 
--- the places of equal members of two lists, of which the first list is counted from a number on
+-- the places of equal members of two lists; the first list begins with place i
 abbrev pub equal_pairs : ℕ → List Formula → List Formula → List (ℕ × ℕ)
 equal_pairs i [] others = []
 equal_pairs i (f ∷ fs) others = onto (pair_at i f others) (equal_pairs (i + 1) fs others)
@@ -34,7 +34,7 @@ equal_pairs i (f ∷ fs) others = onto (pair_at i f others) (equal_pairs (i + 1)
 abbrev pub clashes : List (ℕ × ℕ) → List Rule
 clashes = map (λ p. clash 0 0)
 
--- all pairs of equal members are matched, and each is closed by a clash
+-- the match of all pairs of equal members, each closed by a clash
 abbrev pub plain_rule : Formula → Formula → Rule
 plain_rule left right = let pairs = equal_pairs 0 (children_of left) (children_of right) in pair_up 0 0 pairs (branches_of (clashes pairs))
 
@@ -42,7 +42,7 @@ plain_rule left right = let pairs = equal_pairs 0 (children_of left) (children_o
 abbrev pub first_item : List Formula → Formula
 first_item items = slice_index_or items 0 (member 0)
 
--- A claim is plain where the pairs of equal members refute it by their number: two thresholds over members, of which
--- enough are the same.
+-- A claim is plain if the match of its equal members refutes it: two thresholds over members, of which enough are
+-- equal.
 abbrev pub IsPlain : State → Type 0
 IsPlain st = Refutes (plain_rule (first_item st.left) (first_item st.right)) st

@@ -1,4 +1,4 @@
--- What a holder of a deque knows, with the deque's number.
+-- A view of a deque, with the deque's number and name.
 use Rattle.std.specs.Prelude.{◌≡◌, ◌<◌, ℕ, ◌+◌, ◌-◌, ◌%◌, ◌==◌, if◌then◌else◌, List, [], ◌∷◌, map, false, Option, Some, None, slice_get, slice_set}
 use Rattle.std.specs.List.{range_with_len}
 use Rattle.std.specs.declared.alloc.Global.{Global}
@@ -8,65 +8,65 @@ use Rattle.cert_search.specs.declared.own.Own.{Own}
 use Rattle.cert_search.specs.declared.steal_handle.StealHandle.{StealHandle}
 use Rattle.cert_search.specs.Deque.{had, guest_view, at_end, GetsClaim, claims_of}
 
--- which deque it is: two handles of one deque have one name
+-- the identity of a deque: two handles of one deque have the same name
 abbrev pub Name : Type 0
 Name = (ℕ × ℕ) × Global
 
--- the number of a deque, what a holder knows of it, and which deque it is
+-- the number of a deque, a view of it, and its name
 abbrev pub Sight : Type 0
 Sight = ℕ × Had × Name
 
--- what a worker knows of its own deque
+-- the owner's view of its deque
 abbrev pub own_sight : Own → Sight
 own_sight o = (o.which, worker_view o.deque, worker_deque o.deque)
 
--- what a worker knows of another's deque
+-- a worker's view of another worker's deque
 abbrev pub reach_sight : StealHandle → Sight
 reach_sight r = (r.which, view r.pass, stealer_deque r.stealer)
 
--- it is the same deque, with the same number
+-- both views are of the same deque, under the same number
 abbrev pub SameDeque : Sight → Sight → Type 0
 SameDeque s t = (t.0 ≡ s.0) × (t.2 ≡ s.2)
 
--- a mark of the end has been had of this deque
+-- an end mark was taken from this deque
 abbrev pub Ends : Sight → Sight → Type 0
 Ends s t = SameDeque s t × (t.1 ≡ at_end s.1)
 
--- the claim has been had of this deque
+-- the claim was taken from this deque
 abbrev pub Gets : Sight → ℕ → Sight → Type 0
 Gets s claim t = SameDeque s t × GetsClaim s.1 claim t.1
 
--- the same, whether or not a mark of the end has been had
+-- the same without whether an end mark was taken
 abbrev pub calm : Sight → Sight
 calm s = (s.0, had s.1.holder s.1.deals s.1.dealt s.1.got s.1.marks false, s.2)
 
--- what a worker knows of its own deque, and of another's, whether or not it has had a mark of the end
+-- the owner's view of its deque, without whether an end mark was taken
 abbrev pub own_calm : Own → Sight
 own_calm o = calm (own_sight o)
 
 abbrev pub reach_calm : StealHandle → Sight
 reach_calm r = calm (reach_sight r)
 
--- the claim has been had of one of the deques, and what is known of the others is as it was
+-- the claim was taken from one of the deques, and the other views are unchanged
 abbrev pub GetsOne : List Sight → ℕ → List Sight → Type 0
 GetsOne ss claim ts = (k : ℕ) × (s : Sight) × (t : Sight) × (slice_get ss k ≡ Some s) × (ts ≡ slice_set ss k t)
     × Gets s claim t
 
--- what is known of the deque d, and nothing where it isn't reached
+-- the view of deque d; an empty one if there is none
 abbrev pub look : ℕ → List Sight → Had
 look d [] = guest_view [] 0
 look d (s ∷ ss) = if s.0 == d then s.1 else look d ss
 
--- which deque has the number d
+-- the name of deque d
 abbrev pub name_at : ℕ → List (ℕ × Name) → Option Name
 name_at d [] = None
 name_at d (p ∷ ps) = if p.0 == d then Some p.1 else name_at d ps
 
--- what a worker knows of each deque, in the order in which it tries them
+-- a worker's views of all deques, in the order in which it tries them
 abbrev pub sights : Own → List StealHandle → List Sight
 sights own others = own_sight own ∷ map reach_sight others
 
--- the same, whether or not it has had marks of the end
+-- the same without whether end marks were taken
 abbrev pub calms : Own → List StealHandle → List Sight
 calms own others = own_calm own ∷ map reach_calm others
 
@@ -74,19 +74,19 @@ calms own others = own_calm own ∷ map reach_calm others
 abbrev pub share_of : Sight → ℕ × List ℕ
 share_of s = (s.0, s.1.dealt)
 
--- the deque d has been dealt its claims
+-- deque d with its claims
 abbrev pub share : ℕ → ℕ → ℕ → ℕ × List ℕ
 share claims workers d = (d, claims_of workers d claims)
 
--- the number of a deque, the claims that were dealt to it, and which deque it is
+-- the number of a deque, the claims that were dealt to it, and its name
 abbrev pub face : Sight → ℕ × List ℕ × Name
 face s = (s.0, s.1.dealt, s.2)
 
--- the order in which a worker tries the deques: its own, and then the others from its right neighbour's round
+-- the order in which a worker tries the deques: its own, then the others, beginning after it and going round
 abbrev pub round_of : ℕ → ℕ → List ℕ
 round_of workers which = which ∷ map (λ k. (which + k) % workers) (range_with_len 1 (workers - 1))
 
--- a worker of the deal reaches each deque, and each has been dealt its claims
+-- a worker of the deal has a view of each deque, and its claims were dealt to each
 pub record IsRound (claims workers which : ℕ) (ss : List Sight) : Type 0 where
   pub within : which < workers
   pub shares : map share_of ss ≡ map (share claims workers) (round_of workers which)

@@ -1,4 +1,4 @@
-//! Dealing claims to workers, before any worker starts.
+//! Deals claims to workers, before any worker starts.
 ghost use Rattle.std.specs.Prelude.{◌≡◌, ◌<◌, ◌≤◌, map, vec_len, All, IfOk, IfErr};
 ghost use Rattle.volume_model.specs.declared.fault.Fault.TheVariants.{NoMemory};
 ghost use Rattle.cert_search.specs.Hands.{hand_plain, hands_from, AreDealt, IsOfDeal, ShareDeques};
@@ -13,7 +13,7 @@ use volume_model::Fault;
 /// a hand for each worker, in order. The hands share the deques.
 ///
 /// # Errors
-/// [`NoMemory`](Fault::NoMemory).
+/// [`NoMemory`](Fault::NoMemory) if memory runs out.
 pub fn deal(alloc: Global, claims: usize, workers: usize) -> Result<Vec<Hand>, Fault>
     requires some { 0 < workers }
     requires few { workers ≤ 16 }
@@ -28,7 +28,7 @@ pub fn deal(alloc: Global, claims: usize, workers: usize) -> Result<Vec<Hand>, F
     Ok(hands_of(alloc, table, rows)?)
 }
 
-// Returns each worker's own deque, with its views of the others.
+// Joins each worker's own deque with its views of the others.
 fn hands_of(
     alloc: Global,
     table: Table,

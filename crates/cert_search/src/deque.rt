@@ -1,4 +1,4 @@
-//! The rule of a deque of claims.
+//! The protocol of a deque of claims.
 ghost use Rattle.std.specs.Prelude.{◌≡◌};
 
 use crossbeam_deque::protocol::{Join, Lesson, Outcome, Protocol, Split};
@@ -6,22 +6,23 @@ use crossbeam_deque::{Pass, Stealer, Worker};
 use std::alloc::Global;
 use std::collections::LinkedList;
 
-/// An element of a deque: a claim, or behind all claims a mark of the end for each worker.
+/// An element of a deque: a claim, or an end mark. An end mark for each worker follows the claims.
 #[derive(Drop)]
 pub enum Task {
     Claim(usize),
     End,
 }
 
-/// The holder of a view of a deque: its owner, with the number of other views, another worker, or nobody any more.
+/// The holder of a view of a deque: the deque's owner, with the number of views that it has lent; another worker; or
+/// nobody, once the view was given back.
 pub enum Holder {
     Owner(usize),
     Guest,
     Nobody,
 }
 
-/// What a holder knows of a deque: whether it may still deal, the claims dealt, those that it took, how many marks of
-/// the end were dealt, and whether it took one. No value of this type is made.
+/// A holder's view of a deque: whether it may still deal, the claims dealt, those that it took, the number of end
+/// marks, and whether it took one. Exists only in contracts: no value is made.
 pub struct Had {
     pub holder: Holder,
     pub deals: bool,
@@ -31,7 +32,7 @@ pub struct Had {
     pub ended: bool,
 }
 
-/// The rule: no claim stands in two views, or in a view and the deque.
+/// The protocol: no claim is in two views, or in a view and in the deque.
 pub struct Once;
 
 impl Protocol<Task, Had> for Once {
@@ -54,7 +55,7 @@ impl Outcome<Task, Had> for Deals {
     ghost then = { Adds };
 }
 
-/// A mark of the end is pushed: no claim is dealt any more.
+/// An end mark is pushed; no more claims are dealt.
 pub struct Closes;
 
 impl Outcome<Task, Had> for Closes {
@@ -63,7 +64,7 @@ impl Outcome<Task, Had> for Closes {
     ghost then = { λ v tasks w. w ≡ closed v };
 }
 
-/// A claim or a mark is taken from the deque by the holder.
+/// The holder takes a claim or an end mark from the deque.
 pub struct Takes;
 
 impl Outcome<Task, Had> for Takes {
@@ -72,7 +73,7 @@ impl Outcome<Task, Had> for Takes {
     ghost then = { Took };
 }
 
-/// No claim is dealt any more, and the new holder has taken none.
+/// A view is lent. No more claims are dealt, and the new holder has taken none.
 pub struct Thieves;
 
 impl Split<Had> for Thieves {
@@ -91,7 +92,7 @@ impl Join<Had> for Thieves {
     ghost spent = { spent_view };
 }
 
-/// What the owner learns of its deque.
+/// What the owner learns from its view.
 pub struct Settled;
 
 impl Lesson<Task, Had> for Settled {

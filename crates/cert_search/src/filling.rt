@@ -1,4 +1,4 @@
-//! Places for the answers to claims.
+//! Collects the answers to claims by their numbers.
 
 ghost use Rattle.std.specs.Prelude.{ℕ, ◌<◌, All, IfOk, IfSome, List, length};
 ghost use Rattle.plan.specs.LentClaims.{all_lent};

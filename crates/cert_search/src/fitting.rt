@@ -1,4 +1,4 @@
-//! Which certificates are kept where all together are too long: the shortest, as many as have room.
+//! Keeps the shortest certificates if they are too long together.
 
 ghost use Rattle.std.specs.Prelude.{◌≡◌, ◌<◌, IfErr, IfOk, None, get_or, if◌then◌else◌, length, map, nat_le, slice_set};
 ghost use Rattle.volume_model.specs.declared.fault.Fault.TheVariants.{NoMemory};
@@ -11,7 +11,8 @@ use refutation::Certificate;
 use std::alloc::{AllocError, Global};
 use volume_model::Fault;
 
-/// Returns the length of a certificate at the place k, where it isn't behind one of that length at the place i.
+/// Returns the length of the certificate at `k` if it comes no later than the one at `i`, else 0. Shorter ones come
+/// first.
 fn length_before(long: u32, k: usize, other: u32, i: usize) -> u32
     ensures { result ≡ length_before long k other i }
 {
@@ -22,7 +23,7 @@ fn length_before(long: u32, k: usize, other: u32, i: usize) -> u32
     }
 }
 
-/// Returns whether those that aren't behind the one at a place have room together.
+/// Returns whether the certificate at a place and those that come before it fit into the room.
 fn is_kept(lengths: &[u32], at: usize, room: u32) -> bool
     requires { at < length lengths.now }
     ensures { result ≡ nat_le (length_up_to (get_or lengths.now at 0) at 0 lengths.now) room }
@@ -38,7 +39,7 @@ fn is_kept(lengths: &[u32], at: usize, room: u32) -> bool
     true
 }
 
-/// Returns how long a certificate is, 0 where there is none.
+/// Returns the length of a certificate, 0 if there is none.
 fn length_in(certificate: &Option<Certificate<Global>>) -> u32
     ensures { result ≡ length_in (rule_in certificate.now) }
 {
@@ -48,7 +49,7 @@ fn length_in(certificate: &Option<Certificate<Global>>) -> u32
     }
 }
 
-/// Returns how long certificates are.
+/// Returns the lengths of certificates.
 fn lengths_of(
     alloc: Global,
     certificates: &[Option<Certificate<Global>>],
@@ -62,7 +63,7 @@ fn lengths_of(
     Ok(lengths)
 }
 
-/// Drops the certificate at a place, where it doesn't stay.
+/// Drops the certificate at a place unless it stays.
 fn keep_if(certificates: &mut Vec<Option<Certificate<Global>>>, at: usize, stays: bool)
     requires { at < length certificates.old.items }
     ensures { certificates.new.items ≡ (if stays then certificates.old.items else slice_set certificates.old.items at
@@ -73,10 +74,10 @@ fn keep_if(certificates: &mut Vec<Option<Certificate<Global>>>, at: usize, stays
     }
 }
 
-/// Drops those certificates that don't have room together: the shortest stay, of equally long ones the first.
+/// Drops certificates that don't fit into the room: the shortest stay; of equally long ones, the first.
 ///
 /// # Errors
-/// [`NoMemory`](Fault::NoMemory).
+/// [`NoMemory`](Fault::NoMemory) if memory runs out.
 pub fn keep_shortest(
     alloc: Global,
     certificates: &mut Vec<Option<Certificate<Global>>>,

@@ -1,8 +1,8 @@
-//! Observing a search.
+//! A hook that observes a search.
 
-/// Observes a search: called by the worker that searches a claim, when the search begins and when it has ended.
+/// Observes a search. The worker that searches a claim calls it at the beginning and at the end.
 pub trait Gate {
-    /// Is called when a worker has taken a claim, before its search begins.
+    /// Is called when a worker has taken a claim, before the search begins.
     fn started(&self, claim: usize);
 
     /// Is called when the claim's answer is known.

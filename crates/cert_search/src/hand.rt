@@ -1,4 +1,4 @@
-//! A worker's hand.
+//! A worker's hand: its access to the deques.
 ghost use Rattle.std.specs.Prelude.{◌≡◌, map, true, IfSome, IfNone, All};
 ghost use Rattle.cert_search.specs.Sights.{reach_sight, reach_calm, GetsOne};
 
@@ -6,7 +6,7 @@ use crate::own::Own;
 use crate::steal_handle::StealHandle;
 use std::sync::Wait;
 
-/// A worker's own deque and its views of the others, from its right neighbour's on.
+/// A worker's own deque and its views of the others, beginning after it and going round.
 #[derive(Drop)]
 pub struct Hand {
     own: Own,
@@ -17,7 +17,7 @@ impl Hand {
     ghost use Rattle.std.specs.Prelude.{◌≡◌, IfSome, IfNone};
     ghost use Rattle.cert_search.specs.Hands.{ComesAfterOwn, IsThrough, SameDeal, TakesClaim};
 
-    // Makes the hand of a worker with its own deque, and its views of the others.
+    // Makes the hand of a worker from its own deque and its views of the others.
     pub(crate) fn new(own: Own, others: Vec<StealHandle>) -> Hand
         ensures { (result.own ≡ own) × (result.others ≡ others) }
     {
@@ -32,8 +32,8 @@ impl Hand {
         (own, others)
     }
 
-    /// Takes its own next claim, or steals one. Returns `None` once it has taken a mark of the end of each deque,
-    /// behind which no claim is left; it does so from then on. Takes no memory.
+    /// Takes the next claim of its own deque, or steals one. Returns `None` once it has taken an end mark of each
+    /// deque, which means that no claim is left; each later call returns `None` too. Allocates nothing.
     pub fn take<R: Wait>(&mut self, rt: &R) -> Option<usize>
         ensures some { IfSome result (λ c. TakesClaim self.old c self.new) }
         ensures own_first { IfSome result (λ c. ComesAfterOwn self.old c self.new) }
@@ -47,7 +47,7 @@ impl Hand {
     }
 }
 
-// Steals from the deques of the others in turn.
+// Steals from the other deques in turn.
 fn steal_any<R: Wait>(rt: &R, others: &mut Vec<StealHandle>) -> Option<usize>
     ensures some { IfSome result (λ c. GetsOne (map reach_calm others.old.items) c (map reach_calm others.new.items)) }
     ensures same { IfNone result (map reach_calm others.new.items ≡ map reach_calm others.old.items) }

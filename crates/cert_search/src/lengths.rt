@@ -1,4 +1,4 @@
-//! How long the text of a certificate is.
+//! The length of a certificate's text.
 
 ghost use Rattle.std.specs.Prelude.{◌≡◌, ◌-◌, ◌≤◌, map};
 ghost use Rattle.refutation.specs.Rule.{branches_of};
@@ -10,7 +10,6 @@ use plan::PLAN_BYTES;
 use refutation::{Certificate, Refutation, Side};
 use std::alloc::Allocator;
 
-/// Returns how many digits a number has.
 fn digits(number: u16) -> u32
     ensures { result ≡ digits number }
 {
@@ -27,7 +26,6 @@ fn digits(number: u16) -> u32
     }
 }
 
-/// Returns how long the name of a side is.
 fn name_length(side: Side) -> u32
     ensures { result ≡ name_length side }
 {
@@ -37,21 +35,21 @@ fn name_length(side: Side) -> u32
     }
 }
 
-/// Returns the room that is left behind this many bytes and a number.
+/// Subtracts `bytes` and the digits of a number from `room`, down to 0.
 fn behind_number(room: u32, bytes: u32, number: u16) -> u32
     ensures { result ≡ room - bytes - digits number }
 {
     room.saturating_sub(bytes).saturating_sub(digits(number))
 }
 
-/// Returns the room that is left behind this many bytes and the numbers of two items.
+/// Subtracts `bytes` and the digits of two items' numbers from `room`, down to 0.
 fn behind_items(room: u32, bytes: u32, left: u16, right: u16) -> u32
     ensures { result ≡ room - bytes - digits left - digits right }
 {
     behind_number(room, bytes, left).saturating_sub(digits(right))
 }
 
-/// Returns the room that is left behind this many bytes, the name of a side and the number of an item.
+/// Subtracts `bytes`, the name of a side and the digits of an item's number from `room`, down to 0.
 fn behind_item(room: u32, bytes: u32, side: Side, item: u16) -> u32
     ensures { result ≡ room - bytes - name_length side - digits item }
 {
@@ -60,7 +58,7 @@ fn behind_item(room: u32, bytes: u32, side: Side, item: u16) -> u32
         .saturating_sub(digits(item))
 }
 
-/// Returns the room that is left behind the numbers of a list.
+/// Subtracts the numbers of a list from `room`, down to 0.
 fn behind_numbers(numbers: &[u8], room: u32) -> u32
     ensures { result ≡ room - numbers_length numbers.now }
 {
@@ -71,7 +69,7 @@ fn behind_numbers(numbers: &[u8], room: u32) -> u32
     left
 }
 
-/// Returns the room that is left behind the pairs of a list.
+/// Subtracts the pairs of a list from `room`, down to 0.
 fn behind_pairs(pairs: &[(u8, u8)], room: u32) -> u32
     ensures { result ≡ room - pairs_length pairs.now }
 {
@@ -82,7 +80,7 @@ fn behind_pairs(pairs: &[(u8, u8)], room: u32) -> u32
     left
 }
 
-/// Returns the room that is left behind a rule without its branches.
+/// Subtracts a rule without its branches from `room`, down to 0.
 fn behind_head<A: Allocator>(rule: &Refutation<A>, room: u32) -> u32
     ensures { result ≡ room - head_length (rule_of rule.now) }
 {
@@ -106,7 +104,7 @@ fn behind_head<A: Allocator>(rule: &Refutation<A>, room: u32) -> u32
     }
 }
 
-/// Returns the room that is left behind a rule and its branches.
+/// Subtracts a rule and its branches from `room`, down to 0.
 #[cycle(length)]
 fn behind_rule<A: Allocator>(rule: &Refutation<A>, room: u32) -> u32
     ensures { result ≡ room - rule_length (rule_of rule.now) }
@@ -132,8 +130,8 @@ fn behind_branches<A: Allocator>(branches: &[Refutation<A>], room: u32) -> u32
     left
 }
 
-/// Returns how many bytes the text of a certificate takes, each entry of a list and each rule with a comma behind it;
-/// at most one more than a plan's text may have.
+/// Returns the bytes of a certificate's text, at most one more than a plan's text may have. Counts a comma after each
+/// entry of a list and each rule.
 pub fn length_of<A: Allocator>(certificate: &Certificate<A>) -> u32
     ensures { result ≡ length_of (certificate_rule certificate.now) }
 {

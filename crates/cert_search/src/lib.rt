@@ -1,5 +1,5 @@
-//! The search for the certificates of a plan's claims: how a claim's certificate is found, and how claims are dealt
-//! to workers that steal from one another.
+//! Searches for the certificates of a plan's claims: finds one claim's certificate, and deals claims to workers that
+//! steal from one another.
 #![tactic(auto)]
 
 mod dealing;

@@ -1,4 +1,4 @@
-//! The search for one claim's certificate.
+//! Searches for one claim's certificate.
 
 ghost use Rattle.std.specs.Prelude.{◌≡◌, ◌≤◌, true, IfOk, IfErr, IfSome, IsSome};
 ghost use Rattle.volume_model.specs.declared.fault.Fault.TheVariants.{NoMemory};
@@ -19,13 +19,14 @@ use std::alloc::{Allocator, Global};
 use tree_search::{Tree, find_tree};
 use volume_model::Fault;
 
-/// The budget from which on each plain claim is found: the most nodes of its tree.
+/// With a budget of this many nodes or more each plain claim is found: its tree has at most as many.
 const PLAIN_NODES: u64 = 100;
 
-/// How many nodes the searches of all claims may try together.
+/// The number of nodes that the searches of all claims may try together.
 const ALL_NODES: u64 = 1_200_000;
 
-/// Returns how many nodes the search of each of this many claims may try, with this budget for each.
+/// Returns the number of nodes that the search of one of `claims` claims may try: at most `budget`, and its share of
+/// all.
 fn share(budget: u64, claims: usize) -> u64 {
     let claims = (claims as u64).max(1);
     budget.min(ALL_NODES / claims)
@@ -84,7 +85,7 @@ pub fn copy_certified<A: Allocator, B: Allocator>(
     judged(alloc, claim, certificate.copy_in(alloc)?)
 }
 
-/// Returns whether both sides begin with a member, as those of most plain claims do.
+/// Returns whether both sides begin with a member, as most plain claims do.
 fn seems_plain<A: Allocator>(claim: &Claim<A>) -> bool {
     let (left, right) = (children(&claim.left), children(&claim.right));
     match (left.first(), right.first()) {
@@ -107,8 +108,8 @@ fn plain<A: Allocator>(
     certified(alloc, claim, tree)
 }
 
-/// Returns the certificate of a claim, where it is found otherwise than by being plain. Tables and items lie in an
-/// arena, and trees that aren't read off the pairs of subexpressions that close.
+/// Returns the certificate of a claim that isn't plain. The arena holds tables, items, and the trees that don't come
+/// from closing pairs of subexpressions.
 fn unplain<A: Allocator, B: Allocator + Clone>(
     alloc: Global,
     arena: &B,
@@ -126,11 +127,11 @@ fn unplain<A: Allocator, B: Allocator + Clone>(
     }
 }
 
-/// Returns the certificate of one of this many claims, or none where the search gave up, by a search whose tables lie
-/// in an arena. Its share of all nodes bounds how many it tries, where the budget doesn't.
+/// Returns the certificate of one of `claims` claims, or `None` if the search gives up. Tries at most `budget` nodes,
+/// and at most the claim's share of all nodes. The tables are in the arena.
 ///
 /// # Errors
-/// [`NoMemory`](Fault::NoMemory).
+/// [`NoMemory`](Fault::NoMemory) if memory runs out.
 pub fn search_in<A: Allocator, B: Allocator + Clone>(
     alloc: Global,
     arena: &B,
@@ -155,7 +156,7 @@ pub fn search_in<A: Allocator, B: Allocator + Clone>(
     Ok(None)
 }
 
-/// Returns the same in an arena of its own.
+/// Does the same as `search_in`, in a new arena.
 pub fn search_shared<A: Allocator>(
     alloc: Global,
     claim: &Claim<A>,
@@ -169,11 +170,11 @@ pub fn search_shared<A: Allocator>(
     search_in(alloc, &&arena, claim, budget, claims)
 }
 
-/// Returns a certificate that refutes a claim, or none where the search gave up: the budget bounds how many nodes it
-/// tries. A claim that holds by the number of equal members alone is found with a budget of at least 100.
+/// Returns a certificate that refutes a claim, or `None` if the search gives up. Tries at most `budget` nodes. A claim
+/// that is true because enough members are equal is found with a budget of at least 100.
 ///
 /// # Errors
-/// [`NoMemory`](Fault::NoMemory).
+/// [`NoMemory`](Fault::NoMemory) if memory runs out.
 pub fn search_one(
     alloc: Global,
     claim: &Claim<Global>,

@@ -8,7 +8,7 @@ use crate::steal_handle::StealHandle;
 use std::alloc::{AllocError, Global};
 use std::sync::Wait;
 
-/// The deque of worker `which`, as its owner has it.
+/// The deque of worker `which`, for its owner.
 #[derive(Drop)]
 pub struct Own {
     which: usize,
@@ -26,7 +26,7 @@ impl Own {
     ghost use Rattle.cert_search.specs.Sights.{own_sight, reach_sight, Ends, Gets, SameDeque};
     ghost use Rattle.cert_search.specs.Dealing.{own_plain, own_out, GetsMarks};
 
-    // Makes a deque with no claim in it.
+    // Makes an empty deque.
     pub(crate) fn new(alloc: Global, which: usize, capacity: usize) -> Result<Own, AllocError>
         ensures { IfOk result (λ o. ((own_sight o).0 ≡ which) × ((own_sight o).1 ≡ first_view)) }
     {
@@ -38,7 +38,7 @@ impl Own {
         })
     }
 
-    // Deals a claim above all that were dealt before.
+    // Deals a claim with a greater number than all that were dealt before.
     pub(crate) fn deal(&mut self, claim: usize) -> Result<(), AllocError>
         requires deals { (own_sight self.old).1.deals ≡ true }
         requires unended { (own_sight self.old).1.ended ≡ false }
@@ -52,7 +52,7 @@ impl Own {
         }
     }
 
-    // Deals a mark of the end. From now on no claim is dealt.
+    // Adds an end mark. From now on no claim is dealt.
     pub(crate) fn close(&mut self) -> Result<(), AllocError>
         ensures { IfOk result (λ _. GetsMarks 1 self.old self.new) }
     {
@@ -62,7 +62,7 @@ impl Own {
         }
     }
 
-    // Takes the first claim, or else a mark of the end.
+    // Takes the first claim, or an end mark if no claim is left.
     pub(crate) fn take<R: Wait>(&mut self, rt: &R) -> Option<usize>
         ensures { MatchOption result (Ends (own_sight self.old) (own_sight self.new))
             (λ c. Gets (own_sight self.old) c (own_sight self.new)) }
@@ -83,7 +83,7 @@ impl Own {
         unreachable!()
     }
 
-    // Makes a view of the deque for another worker, which has had nothing of it. From now on no claim is dealt.
+    // Lends another worker a view of the deque, which has taken nothing. From now on no claim is dealt.
     pub(crate) fn reach(&mut self) -> Result<StealHandle, AllocError>
         ensures plain { own_plain self.new ≡ own_plain self.old }
         ensures lent { IfOk result (λ _. own_out self.new ≡ suc (own_out self.old)) }
@@ -116,7 +116,7 @@ impl Own {
         self.ended = self.ended || ended;
     }
 
-    // Learns what stands in its view.
+    // Learns from its view which claims were taken.
     pub(crate) fn learn(&mut self)
         ensures same { own_sight self.new ≡ own_sight self.old }
         ensures settles { Settles (own_sight self.old).1 }

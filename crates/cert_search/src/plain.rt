@@ -1,4 +1,4 @@
-//! Claims that hold by the number of equal members alone.
+//! Finds claims that are true because enough members are equal.
 
 ghost use Rattle.std.specs.Prelude.{◌≡◌, ◌<◌, ◌≤◌, IfOk, IfSome, None, Ok, length, true};
 ghost use Rattle.volume_model.specs.Answer.{Gives};
@@ -40,7 +40,7 @@ fn place_of<A: Allocator>(member: u8, others: &[(u8, Expr<A>)]) -> Option<usize>
     None
 }
 
-/// Returns the place of a member with that of an equal one among the others, if there is one.
+/// Returns the place of a member, and the place of an equal one among the others, if there is one.
 fn pair_at<A: Allocator>(i: u8, child: &Expr<A>, others: &[(u8, Expr<A>)]) -> Option<(u8, u8)>
     requires { length others.now ≤ 64 }
     ensures { result ≡ pair_at i (formula_of child.now) (formulas_of others.now) }

@@ -1,4 +1,4 @@
-//! The search for all certificates of a plan, by several workers.
+//! Searches for all certificates of a plan, with several workers.
 
 ghost use Rattle.std.specs.Prelude.{◌≡◌, ◌≢◌, ◌<◌, ◌≤◌, All, Err, IfOk, IfErr, IsOk, length, map};
 ghost use Rattle.volume_model.specs.declared.fault.Fault.TheVariants.{NoMemory};
@@ -27,7 +27,7 @@ use std::thread;
 use std::thread::Threads;
 use volume_model::Fault;
 
-/// Returns the answer at a claim's place, or searches the claim if the place is empty.
+/// Returns the answer at a claim's place. Searches the claim if the place is empty.
 fn answer(
     alloc: Global,
     claims: &[ClaimRef<'_>],
@@ -48,7 +48,7 @@ fn answer(
     }
 }
 
-/// Returns the answers at the places, and searches the claims of empty ones.
+/// Returns the answers at all places. Searches the claims of empty ones.
 fn answers(
     alloc: Global,
     claims: &[ClaimRef<'_>],
@@ -66,7 +66,7 @@ fn answers(
     Ok(answers)
 }
 
-/// Runs the workers, each on a thread of its own if there is one.
+/// Runs the workers. Each gets its own thread if one can be started.
 fn worked_by<R: Threads + Wait + Sync, G: Gate + Sync>(
     rt: &R,
     alloc: Global,
@@ -100,7 +100,7 @@ fn parts_of(alloc: Global, works: Vec<Worked>) -> Result<(Vec<Vec<Found>>, Vec<H
     Ok((found, hands))
 }
 
-/// Runs the workers over the claims dealt to them. Once all have ended each claim was taken by exactly one of them.
+/// Runs the workers over the claims dealt to them. At the end each claim was taken by exactly one of them.
 fn found_by<R: Threads + Wait + Sync, G: Gate + Sync>(
     rt: &R,
     alloc: Global,
@@ -120,7 +120,7 @@ fn found_by<R: Threads + Wait + Sync, G: Gate + Sync>(
     Ok(found)
 }
 
-/// Searches claims by `workers` workers.
+/// Searches claims with `workers` workers.
 fn searched<R: Threads + Wait + Sync, G: Gate + Sync>(
     rt: &R,
     alloc: Global,
@@ -140,13 +140,13 @@ fn searched<R: Threads + Wait + Sync, G: Gate + Sync>(
     answers(alloc, claims, budget, &mut places)
 }
 
-/// Returns a place for each claim of a plan, in the order of [`claims`](plan::claims()): a certificate that refutes the
-/// claim, or none where the search gave up. The budget bounds how many nodes are tried for a claim, and so does its
-/// share of the nodes of all.
+/// Returns an answer for each claim of a plan, in the order of [`claims`](plan::claims()): a certificate that refutes
+/// the claim, or `None` if the search gave up. `budget` bounds the nodes that are tried for one claim; all claims
+/// together share another bound.
 ///
 /// # Errors
-/// The kind of the first [`BadParent`](plan::PlanFault::BadParent) or [`MemberReused`](plan::PlanFault::MemberReused), which is
-/// found before any memory is taken; or else [`NoMemory`](Fault::NoMemory) once all workers have ended.
+/// The kind of the first [`BadParent`](plan::PlanFault::BadParent) or [`MemberReused`](plan::PlanFault::MemberReused),
+/// before anything is allocated; else [`NoMemory`](Fault::NoMemory) if memory runs out, once all workers have ended.
 pub fn search_all<R: Threads + Wait + Sync, G: Gate + Sync>(
     rt: &R,
     alloc: Global,

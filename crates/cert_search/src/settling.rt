@@ -1,4 +1,4 @@
-//! Taking back the hands of a deal.
+//! Takes back the hands of a deal, which shows that each claim was taken once.
 ghost use Rattle.std.specs.Prelude.{◌≡◌, ◌++◌, map, IfOk, IfErr};
 ghost use Rattle.volume_model.specs.declared.fault.Fault.TheVariants.{NoMemory};
 ghost use Rattle.cert_search.specs.Sights.{own_sight, reach_sight};
@@ -11,12 +11,12 @@ use crate::steal_handle::StealHandle;
 use std::alloc::{AllocError, Global};
 use volume_model::Fault;
 
-/// Takes back all hands of a deal, in order. No claim was taken by two of them, or twice by one. If one of them took
-/// a mark of the end of a deque, as each has that answered [`None`](Hand::take), each claim of that deque was taken
-/// by one of them.
+/// Takes back all hands of a deal, in order. Its contract says that no claim was taken by two of them, or twice by one.
+/// Each claim of a deque was taken if some hand took an end mark of that deque; a hand for which [`take`](Hand::take)
+/// returned `None` has taken one of each.
 ///
 /// # Errors
-/// [`NoMemory`](Fault::NoMemory).
+/// [`NoMemory`](Fault::NoMemory) if memory runs out.
 pub fn settle(alloc: Global, hands: Vec<Hand>) -> Result<(), Fault>
     requires { AreOfOneDeal hands.items }
     ensures once { IfOk result (λ _. HadOnce hands.items) }
@@ -29,7 +29,7 @@ pub fn settle(alloc: Global, hands: Vec<Hand>) -> Result<(), Fault>
     Ok(())
 }
 
-// Returns the hands' own deques in order, and their views of others' deques.
+// Returns the hands' own deques in order, and their views of other deques.
 fn parts_of(alloc: Global, hands: Vec<Hand>) -> Result<(Vec<Own>, Vec<StealHandle>), AllocError>
     ensures { IfOk result (λ p. (map own_sight p.0.items ≡ map hand_own hands.items)
         × (map reach_sight p.1.items ≡ all_others hands.items)) }
@@ -44,7 +44,7 @@ fn parts_of(alloc: Global, hands: Vec<Hand>) -> Result<(Vec<Own>, Vec<StealHandl
     Ok((owns, reaches))
 }
 
-// Appends the views of one more hand.
+// Appends the views of a hand.
 fn push_all(reaches: &mut Vec<StealHandle>, others: Vec<StealHandle>) -> Result<(), AllocError>
     ensures { IfOk result (λ _. map reach_sight reaches.new.items ≡ map reach_sight reaches.old.items ++ map reach_sight
         others.items) }
@@ -55,7 +55,7 @@ fn push_all(reaches: &mut Vec<StealHandle>, others: Vec<StealHandle>) -> Result<
     Ok(())
 }
 
-// Gives each view to the worker whose deque it is of.
+// Gives each view back to the worker that owns its deque.
 fn gather(owns: &mut Vec<Own>, reaches: Vec<StealHandle>)
     requires { AreTied (names_in owns.old.items) (map reach_sight reaches.items) }
     ensures { EachTaken owns.old.items (map reach_sight reaches.items) owns.new.items }
@@ -66,7 +66,7 @@ fn gather(owns: &mut Vec<Own>, reaches: Vec<StealHandle>)
     }
 }
 
-// Lets each worker learn what stands in its view.
+// Lets each owner learn from its view which claims were taken.
 fn learn_all(owns: &mut Vec<Own>)
     ensures { EachSettles owns.old.items }
 {

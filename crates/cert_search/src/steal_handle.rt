@@ -1,4 +1,4 @@
-//! A view of another worker's deque.
+//! A worker's view of another worker's deque.
 ghost use Rattle.std.specs.Prelude.{◌≡◌};
 ghost use Rattle.crossbeam_deque.specs.Handles.{IsPassOf, view, stealer_deque, stealer_flavor};
 ghost use Rattle.cert_search.specs.declared.deque.Holder.TheVariants.{Guest};
@@ -7,7 +7,7 @@ use crate::deque::{Entry, Takes, Task, Thief};
 use crossbeam_deque::Steal;
 use std::sync::Wait;
 
-/// A view of the deque of worker `which`, from which another worker steals.
+/// A view of the deque of worker `which`, for another worker to steal from.
 #[derive(Drop)]
 pub struct StealHandle {
     pub(crate) which: usize,
@@ -24,7 +24,7 @@ impl StealHandle {
     ghost use Rattle.std.specs.Prelude.{◌≡◌, MatchOption};
     ghost use Rattle.cert_search.specs.Sights.{reach_sight, Ends, Gets};
 
-    // Steals a claim, or else takes a mark of the end.
+    // Steals a claim, or takes an end mark if no claim is left.
     pub(crate) fn steal<R: Wait>(&mut self, rt: &R) -> Option<usize>
         ensures { MatchOption result (Ends (reach_sight self.old) (reach_sight self.new))
             (λ c. Gets (reach_sight self.old) c (reach_sight self.new)) }

@@ -6,7 +6,7 @@ use crate::own::Own;
 use crate::steal_handle::StealHandle;
 use std::alloc::{AllocError, Global};
 
-/// A deque for each worker, with its own claims. No claim was taken.
+/// A deque for each worker, with its claims. None was taken.
 #[derive(Drop)]
 pub struct Table {
     pub(crate) workers: usize,
@@ -34,7 +34,7 @@ impl Table {
         Ok(Table { workers, owns })
     }
 
-    // Returns the views of all other deques, from the right neighbour's round.
+    // Lends a worker views of all other deques, beginning after it and going round.
     fn row(&mut self, alloc: Global, which: usize) -> Result<Vec<StealHandle>, AllocError>
         requires { which < self.old.workers }
         ensures row { IfOk result (λ row. IsRow self.old.workers self.old.owns.items which row.items) }
@@ -50,7 +50,7 @@ impl Table {
         Ok(row)
     }
 
-    /// Makes the views of each worker.
+    /// Lends each worker its views.
     pub(crate) fn rows(&mut self, alloc: Global) -> Result<Vec<Vec<StealHandle>>, AllocError>
         requires none { AreOut self.old.workers 0 self.old.owns.items }
         ensures count { IfOk result (λ rows. vec_len rows ≡ self.old.workers) }
@@ -67,7 +67,7 @@ impl Table {
     }
 }
 
-// Returns a deque for each worker, with no claim in it.
+// Makes an empty deque for each worker.
 fn empty_deques(alloc: Global, capacity: usize, workers: usize) -> Result<Vec<Own>, AllocError>
     ensures { IfOk result (λ owns. IsFilledTo workers 0 owns.items) }
 {
@@ -78,7 +78,7 @@ fn empty_deques(alloc: Global, capacity: usize, workers: usize) -> Result<Vec<Ow
     Ok(owns)
 }
 
-// Deals claim c to the deque of worker c mod workers.
+// Deals claim c to the deque of worker `c mod workers`.
 fn deal_out(owns: &mut Vec<Own>, claims: usize) -> Result<(), AllocError>
     requires some { 0 < length owns.old.items }
     requires empty { IsFilledTo (length owns.old.items) 0 owns.old.items }
@@ -91,7 +91,7 @@ fn deal_out(owns: &mut Vec<Own>, claims: usize) -> Result<(), AllocError>
     Ok(())
 }
 
-// Puts a mark of the end for each worker into each deque, behind its claims.
+// Adds an end mark for each worker to each deque, after its claims.
 fn close_all(owns: &mut Vec<Own>, workers: usize) -> Result<(), AllocError>
     ensures { IfOk result (λ _. EachGetsMarks workers owns.old.items owns.new.items) }
 {
@@ -102,7 +102,7 @@ fn close_all(owns: &mut Vec<Own>, workers: usize) -> Result<(), AllocError>
     Ok(())
 }
 
-// Puts a mark of the end for each of so many workers.
+// Adds an end mark for each of `workers` workers.
 fn close_for(own: &mut Own, workers: usize) -> Result<(), AllocError>
     ensures { IfOk result (λ _. GetsMarks workers own.old own.new) }
 {

@@ -29,7 +29,7 @@ pub struct Worked {
     pub hand: Hand,
 }
 
-/// Empties the arena, or makes another if something in it is still held.
+/// Empties the arena, or makes a new one if something in it is still in use.
 fn emptied(alloc: Global, mut arena: Bump) -> Bump {
     match arena.reset() {
         Ok(()) => arena,
@@ -51,7 +51,7 @@ fn answer_in(
     search_in(alloc, &arena, &claim, budget, claims)
 }
 
-/// Returns the answer to a claim, `None` if memory ran out.
+/// Makes the answer to a claim; `None` if memory ran out.
 fn found_of(
     alloc: Global,
     arena: &Bump,
@@ -66,7 +66,7 @@ fn found_of(
     Some(Found { claim, answer })
 }
 
-/// Searches a claim and adds its answer, or nothing if memory runs out.
+/// Searches a claim and adds its answer. Adds nothing if memory runs out.
 fn add<G: Gate>(
     alloc: Global,
     arena: &Bump,
@@ -89,8 +89,8 @@ fn add<G: Gate>(
     }
 }
 
-/// Searches the claims that a hand takes, in an arena that is emptied after each. A claim whose search runs out of
-/// memory is left out.
+/// Searches the claims that a hand takes, in an arena that is emptied after each claim. Leaves out a claim whose search
+/// runs out of memory.
 pub fn work<R: Wait, G: Gate>(
     rt: &R,
     alloc: Global,

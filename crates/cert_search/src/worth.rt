@@ -1,4 +1,4 @@
-//! How many workers are worth their threads.
+//! Decides how many workers are worth their threads.
 
 ghost use Rattle.std.specs.Prelude.{◌<◌, ◌≤◌};
 
@@ -7,13 +7,13 @@ use quorum_checker::children;
 use quorum_expr::Expr;
 use std::alloc::Allocator;
 
-/// The number of pairs of subexpressions that is worth one more thread.
+/// The number of pairs of subexpressions for which one more thread is worth while.
 const PAIRS: usize = 1024;
 
-/// The number of pairs of two thresholds over members that take as long as one pair of another claim.
+/// This many pairs of a claim over plain thresholds take as long as one pair of another claim.
 const PLAIN: usize = 64;
 
-/// Returns the number of an expression's subexpressions, itself among them.
+/// Returns the number of an expression's subexpressions, itself included.
 fn size<A: Allocator>(expr: &Expr<A>) -> usize {
     match expr {
         Expr::Member(_) => 1,
@@ -27,7 +27,7 @@ fn size<A: Allocator>(expr: &Expr<A>) -> usize {
     }
 }
 
-/// Returns whether an expression is a threshold over members that weigh 1 each.
+/// Returns whether all children of an expression are members of weight 1.
 fn is_flat<A: Allocator>(expr: &Expr<A>) -> bool {
     for (weight, child) in children(expr) {
         match child {
@@ -38,7 +38,7 @@ fn is_flat<A: Allocator>(expr: &Expr<A>) -> bool {
     true
 }
 
-/// Returns the number of pairs of subexpressions of a claim's two sides. Pairs of thresholds over members count less.
+/// Returns the number of pairs of subexpressions of a claim's two sides. Claims over plain thresholds count less.
 fn pairs_of(claim: &ClaimRef<'_>) -> usize {
     let left = &claim.this.read;
     let right = match claim.parent {

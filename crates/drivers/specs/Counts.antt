@@ -1,4 +1,4 @@
--- The result of orders, and how many of them were made and refused.
+-- The completion of orders, and the counts of those made and refused.
 use Rattle.std.specs.Prelude.{◌+◌, Bool, true, false, Result, Ok, Err}
 use Rattle.volume_model.specs.declared.fault.Fault.{Fault}
 use Rattle.volume_model.specs.declared.fault.Fault.TheVariants.{NoMemory}
@@ -30,7 +30,7 @@ IsOutOfMemory (Made first count) = ⊥
 IsOutOfMemory Refused = ⊥
 IsOutOfMemory OutOfMemory = Unit {0}
 
--- the numbers with an order more; one that ran out of memory doesn't count
+-- the counts with one more order; one that ran out of memory doesn't count
 abbrev pub counts_with : Completion → RunCounts → RunCounts
 counts_with (Made first count) counts = record counts { made = counts.made + 1 }
 counts_with Refused counts = record counts { refused = counts.refused + 1 }

@@ -1,4 +1,4 @@
--- What a script's run on threads leaves.
+-- The result of a script's run on threads.
 use Rattle.std.specs.Prelude.{◌≡◌, ℕ, Bool, ◌+◌, ◌==◌, ◌&&◌, not, length, List, is_err}
 use Rattle.std.specs.List.{list_any}
 use Rattle.volume_model.specs.Plan.{Plan}
@@ -8,13 +8,13 @@ use Rattle.volume_model.specs.World.{opening, results}
 use Rattle.world.specs.Outcomes.{KeepsPromises, IsOutcomeOfRun}
 use Rattle.drivers.specs.declared.driving.Driven.{Driven}
 
--- whether the run of these events refuses none of them, and there are so many
+-- whether the run of these events refuses none of them, and they have this number
 abbrev pub replays : Plan → List Event → ℕ → Bool
 replays plan events steps = not (list_any (λ event_result. is_err event_result) (results plan (opening plan) events)) &&
     (length events == steps)
 
--- The threads left a journal, a run of the model over the plan, of which every promise of the volume holds. Each event
--- of the script was made or refused. The result is how that journal's run ends, and whether it refuses nothing and has
+-- The threads' journal is a run of the model over the plan, for which every promise of the volume holds. Each event of
+-- the script was made or refused. The outcome is that of the journal's run, which agrees if it refuses nothing and has
 -- as many steps as were made.
 pub record IsDriven (plan : Plan) (orders : ℕ) (driven : Driven) : Type 0 where
   pub entries : List Entry

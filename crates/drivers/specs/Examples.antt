@@ -1,4 +1,4 @@
--- What some lines say.
+-- The meaning of some lines.
 use Rattle.std.specs.Prelude.{◌≡◌, [], ◌∷◌, ℕ, Some, None, codes}
 use Rattle.volume_model.specs.ClientWriter.{Change}
 use Rattle.volume_model.specs.World.{Event}
@@ -9,8 +9,8 @@ use Rattle.drivers.specs.Grammar.LineAction.{Nothing, Pauses, Makes, Delivers, T
 abbrev pub byte_at : ℕ → ℕ → Change
 byte_at offset byte = record { group = 0; block = 0; offset = offset; bytes = byte ∷ [] }
 
--- A script that issues three records, delivers the second to a segment, waits, and restarts the segment; lines of the
--- other events; and lines that are outside the grammar.
+-- A script that issues three records, delivers the second to a segment, waits, and restarts the segment; lines with the
+-- other events; and lines that aren't in the grammar.
 pub record SayTheirLines : Type 0 where
   pub issues : action_of 0 (codes "issue 1 0:0:0:61 0:0:1:62 0:0:2:63")
       ≡ Some (Makes (Event.Issue 1 (byte_at 0 97 ∷ byte_at 1 98 ∷ byte_at 2 99 ∷ [])))

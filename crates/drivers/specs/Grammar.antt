@@ -1,4 +1,4 @@
--- What a line of a script says.
+-- The grammar of a script's lines.
 use Rattle.std.specs.Prelude.{ℕ, ◌==◌, ◌&&◌, nat_le, if◌then◌else◌, Bool, true, List, [], ◌∷◌, Option, Some, None, codes, find, option_and_then, option_map}
 use Rattle.std.specs.Str.{bytes_eq}
 use Rattle.volume_model.specs.ClientWriter.{Change}
@@ -7,9 +7,9 @@ use Rattle.drivers.specs.Words.{words_in, fields_in, sides_in, number_in, bytes_
 use Rattle.drivers.specs.declared.line.Verb.{Verb}
 use Rattle.drivers.specs.declared.line.Verb.TheVariants as verb
 
--- What a line does: nothing, as an empty line or a comment; it waits for the lines before it; it makes an event happen;
--- or it gives to a node or to a client the message that an earlier line made, the line and the message's place among
--- those of the line both from 1.
+-- The action of a line: nothing, for an empty line or a comment; a wait for the lines before it; an event; or the
+-- delivery of a message that an earlier line made to a node or a client. The line and the message's place in it are
+-- counted from 1.
 pub data LineAction : Type 0 where
   Nothing : LineAction
   Pauses : LineAction
@@ -17,7 +17,7 @@ pub data LineAction : Type 0 where
   Delivers : (group member line place : ℕ) → LineAction
   Takes : (volume line place : ℕ) → LineAction
 
--- the word that a line with this verb begins with
+-- the first word of a line with this verb
 abbrev pub name_of : Verb → List ℕ
 name_of verb.Assign = codes "assign"
 name_of verb.Advance = codes "advance"
@@ -40,11 +40,11 @@ abbrev pub verbs : List Verb
 verbs = verb.Assign ∷ verb.Advance ∷ verb.Refresh ∷ verb.Grow ∷ verb.Issue ∷ verb.Take ∷ verb.Cut ∷ verb.Open ∷
     verb.Resend ∷ verb.Read ∷ verb.Deliver ∷ verb.Hydrate ∷ verb.Restart ∷ verb.Offer ∷ verb.Wait ∷ []
 
--- the verb that a word is
+-- the verb with this name
 abbrev pub verb_in : List ℕ → Option Verb
 verb_in word = find (λ v. bytes_eq (name_of v) word) verbs
 
--- the largest numbers of a group or member, of an offset, of a volume epoch, configuration or block, and of a line,
+-- the greatest number of a group or member, of an offset, of a volume epoch, configuration or block, and of a line,
 -- message or record
 abbrev pub most_ids : ℕ
 most_ids = 255
@@ -58,7 +58,7 @@ most_blocks = 4294967295
 abbrev pub most_numbers : ℕ
 most_numbers = 18446744073709551615
 
--- a change of a block of a group, by its offset and its bytes
+-- a change to a block of a group: its offset and its bytes
 abbrev pub change_at : ℕ → ℕ → List ℕ → List ℕ → Option Change
 change_at group block offset bytes = option_and_then
     (λ o. option_map (λ hex. record { group = group; block = block; offset = o; bytes = hex }) (bytes_in bytes))
@@ -144,7 +144,7 @@ offer_in (group ∷ member ∷ lsn ∷ []) = option_and_then
     (number_in most_ids member)) (number_in most_ids group)
 offer_in _ = None
 
--- `L.K`, where L is one of so many earlier lines: the line and the place
+-- `L.K`, where L is one of the earlier lines: the line and the place
 abbrev pub name_in : ℕ → List (List ℕ) → Option (ℕ × ℕ)
 name_in earlier (line ∷ place ∷ []) =
     option_and_then (λ l. option_and_then (λ p. if nat_le 1 l && nat_le l earlier && nat_le 1 p then Some (l, p) else
@@ -171,7 +171,7 @@ abbrev pub wait_in : List (List ℕ) → Option LineAction
 wait_in [] = Some Pauses
 wait_in _ = None
 
--- what a verb says with the words after it, in a line after so many others
+-- the action of a verb with the words after it; earlier is the number of lines before
 abbrev pub said_by : ℕ → Verb → List (List ℕ) → Option LineAction
 said_by earlier verb.Assign words = option_map Makes (assign_in words)
 said_by earlier verb.Advance words = option_map Makes (advance_in words)
@@ -189,16 +189,16 @@ said_by earlier verb.Restart words = option_map Makes (restart_in words)
 said_by earlier verb.Offer words = option_map Makes (offer_in words)
 said_by earlier verb.Wait words = wait_in words
 
--- the same of all words of a line
+-- the action of all words of a line
 abbrev pub said : ℕ → List (List ℕ) → Option LineAction
 said earlier [] = None
 said earlier (word ∷ words) = option_and_then (λ verb. said_by earlier verb words) (verb_in word)
 
--- an empty line and a comment do nothing
+-- an empty line, and a comment
 abbrev pub is_silent : List ℕ → Bool
 is_silent [] = true
 is_silent (first ∷ more) = first == 35
 
--- what a line does after so many others; none where it is outside the grammar
+-- the action of a line; None if it isn't in the grammar
 abbrev pub action_of : ℕ → List ℕ → Option LineAction
 action_of earlier line = if is_silent line then Some Nothing else said earlier (words_in line)

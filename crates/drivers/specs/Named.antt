@@ -1,4 +1,4 @@
--- A line at the head of a text, and the message that it names.
+-- The first line of a text, and the message that it names.
 use Rattle.std.specs.Prelude.{◌≡◌, ℕ, ◌-◌, ◌<◌, ◌≤◌, true, List, [], ◌∷◌, ◌++◌, Option, Some, None, Result, Ok, Err, length, slice_index_or, take}
 use Rattle.std.specs.Borrow.{Bor}
 use Rattle.std.specs.List.{All}
@@ -12,7 +12,7 @@ use Rattle.drivers.specs.Script.{AddsLine, Kept}
 use Rattle.drivers.specs.Seen.{Seen, asked_by, seen_action}
 use Rattle.drivers.specs.Words.{is_numeral, sides_in}
 
--- a text begins with a numeral of this value below 2^32, and goes on with this
+-- the text begins with a numeral of this value, below 2^32, and continues with rest
 pub record IsNumberAt (text : List ℕ) (n : ℕ) (rest : List ℕ) : Type 0 where
   pub word : List ℕ
   pub is : text ≡ word ++ rest
@@ -20,17 +20,17 @@ pub record IsNumberAt (text : List ℕ) (n : ℕ) (rest : List ℕ) : Type 0 whe
   pub worth : n ≡ digits_value 10 word
   pub below : n ≤ 4294967295
 
--- a line ends where a text begins, and after it stands this
+-- the text begins with the end of a line, and continues with rest
 abbrev pub EndsLine : List ℕ → List ℕ → Type 0
 EndsLine [] rest = rest ≡ []
 EndsLine (b ∷ text) rest = (b ≡ 10) × (text ≡ rest)
 
--- bytes of words alone: ASCII, and neither a space nor a newline
+-- bytes that words may have: ASCII, without spaces and newlines
 abbrev pub IsVisible : List ℕ → Type 0
 IsVisible word = All (λ b. (32 < b) × (b < 128)) word
 
--- A text's first line goes on with a last word that names the message at a place of a line whose event has this index;
--- after the line stands this.
+-- The text begins with the last word of a line, which names the message at this place of the event with this index, and
+-- continues with rest after the line.
 pub record HasName (text : List ℕ) (events : List (Option ℕ)) (event place : ℕ) (rest : List ℕ) : Type 0 where
   pub word : List ℕ
   pub tail : List ℕ
@@ -41,14 +41,14 @@ pub record HasName (text : List ℕ) (events : List (Option ℕ)) (event place :
   pub named : name_in (length events) (sides_in word) ≡ Some (line, place)
   pub made : slice_index_or events (line - 1) None ≡ Some event
 
--- the first line of a text without its newline, and what comes after it
+-- the first line of a text without its newline, and the text after it
 pub record IsFirstLine (text line after : List ℕ) : Type 0 where
   pub first : line ≡ before_newline (take (length text - length after) text)
   pub pieces_are : pieces text ≡ take (length text - length after) text ∷ pieces after
   pub shorter : length after < length text
 
--- a text's first line asks for this, where these are the indexes of the earlier lines' events; after the line stands
--- this
+-- the first line of a text is this order, where events has the indexes of the earlier lines' events; after is the text
+-- after the line
 pub record HasOrder (text : List ℕ) (events : List (Option ℕ)) (order : Order) (after : List ℕ) : Type 0 where
   pub line : List ℕ
   pub first : IsFirstLine text line after
@@ -57,7 +57,7 @@ pub record HasOrder (text : List ℕ) (events : List (Option ℕ)) (order : Orde
   pub says : action_of (length events) line ≡ Some action
   pub asks : seen_action events action ≡ Seen.Asks (asked_by order)
 
--- the first line of a text was added to what is kept and this comes after it, or it isn't one that may stand there
+-- the first line of a text was added to what is kept, and after is the text after it; or the line is refused
 abbrev pub AddsFirst : List ℕ → Kept → Result (Bor (List ℕ)) Fault → Kept → Type 0
 AddsFirst text old (Ok after) new = (line : List ℕ) × IsFirstLine text line after.now × AddsLine line old (Ok tt) new
 AddsFirst text old (Err fault) new = (line : List ℕ) × (after : List ℕ) × IsFirstLine text line after × AddsLine line

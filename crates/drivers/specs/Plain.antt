@@ -1,9 +1,9 @@
--- A change at the head of a text.
+-- A change at the beginning of a text.
 use Rattle.std.specs.Prelude.{◌≡◌, ℕ, ◌≤◌, List, ◌∷◌, ◌++◌, Some}
 use Rattle.drivers.specs.Named.{IsNumberAt}
 use Rattle.drivers.specs.Words.{bytes_in}
 
--- a text begins with the numbers of a group, a block and an offset, a colon after each, and goes on with this
+-- the text begins with the numbers of a group, a block and an offset, with a colon after each, and continues with rest
 pub record IsPlaceAt (text : List ℕ) (group block offset : ℕ) (rest : List ℕ) : Type 0 where
   pub second : List ℕ
   pub third : List ℕ
@@ -13,7 +13,7 @@ pub record IsPlaceAt (text : List ℕ) (group block offset : ℕ) (rest : List �
   pub group_fits : group ≤ 255
   pub offset_fits : offset ≤ 65535
 
--- a text begins with the digits of these bytes, and goes on with this
+-- the text begins with the hexadecimal digits of these bytes, and continues with rest
 pub record AreBytesAt (text bytes rest : List ℕ) : Type 0 where
   pub word : List ℕ
   pub is : text ≡ word ++ rest

@@ -1,4 +1,4 @@
--- What a line of a script is to the program.
+-- A line of a script as the program keeps it.
 use Rattle.std.specs.Prelude.{ℕ, ◌-◌, List, Option, Some, None, slice_index_or}
 use Rattle.volume_model.specs.World as model
 use Rattle.world.specs.Events.{event_of}
@@ -9,13 +9,13 @@ use Rattle.drivers.specs.Grammar.LineAction.{Nothing, Pauses, Makes, Delivers, T
 use Rattle.drivers.specs.declared.line.Line.{Line}
 use Rattle.drivers.specs.declared.line.Line.TheVariants as lines
 
--- What an order asks for: an event as it is, or that a node or a client takes a message of the event with an index.
+-- An order: an event, or a node or a client taking a message of the event with an index.
 pub data Asked : Type 0 where
   Fixed : model.Event → Asked
   From : (group member event place : ℕ) → Asked
   TakeFrom : (volume event place : ℕ) → Asked
 
--- what a line asks for, if it isn't nothing
+-- a line as the program keeps it: nothing, a wait, or an order
 pub data Seen : Type 0 where
   Silent : Seen
   Pause : Seen
@@ -31,18 +31,18 @@ seen lines.Empty = Seen.Silent
 seen lines.Wait = Seen.Pause
 seen (lines.Order order) = Seen.Asks (asked_by order)
 
--- The delivery of a message of the line whose event has this index; a line without an event has made no message, and
--- number 0 is that of none.
+-- The delivery of a message of the line whose event has this index. A line without an event made no message; no message
+-- has number 0.
 abbrev pub asked_from : ℕ → ℕ → ℕ → Option ℕ → Asked
 asked_from group member place (Some event) = Asked.From group member event place
 asked_from group member place None = Asked.Fixed (model.Event.Deliver group member 0)
 
--- The same of what a client takes.
+-- The same for a client that takes a message.
 abbrev pub take_from : ℕ → ℕ → Option ℕ → Asked
 take_from volume place (Some event) = Asked.TakeFrom volume event place
 take_from volume place None = Asked.Fixed (model.Event.Take volume 0)
 
--- what an action asks for, where these are the indexes of the earlier lines' events
+-- an action as the program keeps it, where events has the indexes of the earlier lines' events
 abbrev pub seen_action : List (Option ℕ) → LineAction → Seen
 seen_action events Nothing = Seen.Silent
 seen_action events Pauses = Seen.Pause

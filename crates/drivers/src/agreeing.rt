@@ -1,4 +1,4 @@
-//! Whether a journal's run agrees with the counts of a script.
+//! Compares a journal's run with the counts of a script.
 
 ghost use Rattle.std.specs.Prelude.{◌≡◌, ◌==◌, ◌&&◌, not, is_err, vec_len};
 ghost use Rattle.std.specs.List.{list_any};
@@ -6,7 +6,7 @@ ghost use Rattle.std.specs.List.{list_any};
 use volume_model::Fault;
 use world::{Event, Outcome};
 
-/// Returns whether some event was refused.
+/// Returns whether any event was refused.
 fn refuses(results: &[Result<u32, Fault>]) -> bool
     ensures { result ≡ list_any (λ completion. is_err completion) results.now }
 {

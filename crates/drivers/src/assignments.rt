@@ -1,4 +1,4 @@
-//! Which driver follows each order, and which orders it waits for.
+//! Assigns orders to drivers.
 
 ghost use Rattle.std.specs.Prelude.{◌≡◌, ◌≤◌, IfOk, vec_len};
 
@@ -10,14 +10,14 @@ use std::alloc::{AllocError, Global};
 pub struct Assignment {
     /// The driver's number, from 0.
     pub driver: u8,
-    /// The number of orders before the last `wait` before it.
+    /// The number of orders before the last `wait`; the driver waits for these.
     pub behind: usize,
 }
 
-/// Assigns a script's orders to `drivers` drivers, by their line numbers.
+/// Assigns a script's orders to `drivers` drivers in turn, by their line numbers.
 ///
 /// # Errors
-/// `AllocError` if there is no memory for the list.
+/// `AllocError` if memory runs out.
 pub fn assignments(
     alloc: Global,
     script: &Script,

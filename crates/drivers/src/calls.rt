@@ -8,7 +8,7 @@ use world::{ActorAction, Event};
 /// Makes the step of an event that isn't a delivery.
 ///
 /// # Errors
-/// The actor's refusal; `NoMemory`; `NoMessage` if the event is a delivery.
+/// The actor's refusal; `NoMemory` if memory runs out; `NoMessage` if the event is a delivery.
 pub fn call<'a, L: FleetSite, R: Wait>(
     rt: &R,
     fleet: &Fleet<'a, L>,

@@ -1,4 +1,4 @@
-//! What a transaction of a script asks for.
+//! Reads the changes of a transaction.
 
 ghost use Rattle.std.specs.Prelude.{◌≡◌};
 ghost use Rattle.world.specs.Events.{event_of};
@@ -16,7 +16,7 @@ use volume_model::Fault;
 use world::Event;
 use writer_core::{Change, MOST_CHANGES};
 
-/// `issue V G:B:O:HEX ..`, with at least one change.
+/// Reads `issue V G:B:O:HEX ..`, with at least one change.
 pub fn issue(alloc: Global, mut words: Parts) -> Result<Event, Fault>
     requires { words.separator ≡ 32 }
     ensures { ReadsBy event_of (issue_in (parts_left words.entry)) result }
@@ -29,7 +29,7 @@ pub fn issue(alloc: Global, mut words: Parts) -> Result<Event, Fault>
     Ok(Event::Issue { volume, changes })
 }
 
-/// Reads changes, each a word.
+/// Reads changes, one a word.
 fn all_changes(alloc: Global, words: Parts) -> Result<Vec<Change>, Fault>
     requires { words.separator ≡ 32 }
     ensures { ReadsBy (λ v. changes_of v.items) (changes_in (parts_left words.entry)) result }
@@ -43,7 +43,7 @@ fn all_changes(alloc: Global, words: Parts) -> Result<Vec<Change>, Fault>
     each_change(alloc, words)
 }
 
-/// Returns the same, word by word.
+/// Reads changes word by word, for any form of them.
 fn each_change(alloc: Global, mut words: Parts) -> Result<Vec<Change>, Fault>
     ensures { ReadsBy (λ v. changes_of v.items) (changes_in (parts_left words.entry)) result }
 {
@@ -54,7 +54,7 @@ fn each_change(alloc: Global, mut words: Parts) -> Result<Vec<Change>, Fault>
     Ok(changes)
 }
 
-/// `G:B:O:HEX`
+/// Reads `G:B:O:HEX`.
 fn change(alloc: Global, word: &[u8]) -> Result<Change, Fault>
     ensures { ReadsBy change_of (change_by (fields_in word.now)) result }
 {

@@ -8,7 +8,7 @@ use std::thread::yield_now;
 /// The state of an empty slot.
 const EMPTY: u64 = 0;
 
-/// The state of an empty slot on which a thread sleeps.
+/// The state of an empty slot on which a thread is blocked.
 const SLEPT_ON: u64 = 1;
 
 /// The state of a refused order.
@@ -17,13 +17,13 @@ const REFUSED: u64 = 2;
 /// The state of an order that ran out of memory.
 const OUT_OF_MEMORY: u64 = 3;
 
-/// The state of an order that was made, plus the number of its messages.
+/// The state of an order that made no message. Each message adds 1.
 const MADE: u64 = 4;
 
-/// The number of polls of a slot, with a yield between two, before the thread sleeps.
+/// The number of polls of a slot, with a yield after each, before the thread blocks.
 const POLLS: u32 = 100;
 
-/// A slot for one order's completion. Setting it makes a system call only if a thread sleeps on it.
+/// A slot for one order's completion. Setting it makes a system call only if a thread is blocked on it.
 #[derive(Drop)]
 pub struct CompletionSlot {
     state: AtomicU64,
@@ -40,7 +40,7 @@ impl CompletionSlot {
         }
     }
 
-    /// Sets the completion and releases all threads that sleep on the slot.
+    /// Sets the completion, and wakes all threads that are blocked on the slot.
     pub fn set(&self, completion: Completion) {
         let state = match completion {
             Completion::Made { first, count } => {
@@ -70,7 +70,7 @@ impl CompletionSlot {
         }
     }
 
-    /// Waits for the completion: polls the slot up to `POLLS` times, yielding in between, then sleeps.
+    /// Waits for the completion: polls the slot up to `POLLS` times, yielding in between, then blocks.
     pub fn wait<R: Wait>(&self, rt: &R) -> Completion {
         let mut looks = 0;
         for _ in rt.forever() {
@@ -88,7 +88,7 @@ impl CompletionSlot {
         unreachable!()
     }
 
-    /// Marks the slot as one on which a thread sleeps. Returns false if it is set, or marked already.
+    /// Marks the slot as one on which a thread is blocked. Returns false if it is set, or marked already.
     fn start_sleeping(&self) -> bool {
         self.state
             .compare_exchange(EMPTY, SLEPT_ON, Ordering::SeqCst, Ordering::SeqCst)

@@ -14,7 +14,7 @@ use volume_model::Fault;
 #[derive(Drop)]
 pub struct CompletionTable {
     slots: Vec<CompletionSlot>,
-    /// Whether the run goes on: set once all threads are started, or one couldn't be.
+    /// Whether the threads may run: set once all of them are started, or one couldn't be.
     pub go: OnceLock<bool>,
 }
 
@@ -22,7 +22,7 @@ impl CompletionTable {
     /// Makes `orders` empty slots.
     ///
     /// # Errors
-    /// `AllocError` if there is no memory for them.
+    /// `AllocError` if memory runs out.
     pub fn new(alloc: Global, orders: usize) -> Result<CompletionTable, AllocError>
         ensures { IfOk result (λ completions. vec_len completions.slots ≡ orders) }
     {
@@ -51,8 +51,8 @@ impl CompletionTable {
         }
     }
 
-    /// Waits for order `event` and returns the number of its `place`-th message, from 1. Returns 0, which no message
-    /// has, if that order doesn't stand before `order` or made fewer.
+    /// Waits for order `event`. Returns the number of its `place`-th message, from 1, or 0, which no message has, if
+    /// that order isn't before `order` or made fewer.
     pub fn message<R: Wait>(&self, rt: &R, order: usize, event: usize, place: u64) -> u64 {
         if event >= order {
             return 0;

@@ -1,4 +1,4 @@
-//! A script's run on threads, from the fleet's opening to its end.
+//! Runs a script on threads, from the fleet's opening to its end.
 
 ghost use Rattle.std.specs.Prelude.{◌≡◌, ◌≤◌, ◌<◌, ◌+◌, IfErr, IfOk, vec_len};
 ghost use Rattle.std.specs.Arc.{arc_value};
@@ -36,13 +36,13 @@ pub struct Driven {
     pub steps: usize,
     /// The number of events that were refused.
     pub refused: usize,
-    /// Whether the journal's run by the world refuses nothing and has `steps` steps.
+    /// Whether the world's run of the journal refuses nothing and has `steps` steps.
     pub agrees: bool,
-    /// How that run ends.
+    /// The outcome of that run.
     pub outcome: Outcome,
 }
 
-/// Returns a part for each node's thread.
+/// Returns the part of each node's thread.
 fn node_parts(alloc: Global, nodes: &[Node]) -> Result<Vec<Part>, AllocError> {
     let mut parts = Vec::with_capacity(alloc, nodes.len())?;
     for node in nodes {
@@ -51,7 +51,7 @@ fn node_parts(alloc: Global, nodes: &[Node]) -> Result<Vec<Part>, AllocError> {
     Ok(parts)
 }
 
-/// Returns a part for each driver.
+/// Returns the part of each driver.
 fn driver_parts(alloc: Global, workers: u8) -> Result<Vec<Part>, AllocError> {
     let mut parts = Vec::with_capacity(alloc, usize::from(workers))?;
     for number in 0..workers {
@@ -78,14 +78,14 @@ fn contexts<'f, 'a, L: FleetSite>(
     Ok(contexts)
 }
 
-/// What all threads of a run are lent.
+/// What all threads of a run borrow.
 #[derive(Drop)]
 struct Stage {
     assignments: Vec<Assignment>,
     completions: CompletionTable,
 }
 
-/// Runs the drivers and nodes on threads of their own and takes their passes back.
+/// Runs drivers and nodes on threads and takes their passes back.
 fn ran<'f, 'a, L: FleetSite + Send + Sync, R: Threads + Wait + Sync>(
     rt: &'f R,
     alloc: Global,
@@ -114,7 +114,7 @@ fn ran<'f, 'a, L: FleetSite + Send + Sync, R: Threads + Wait + Sync>(
     run_all(rt, alloc, &stage.completions.go, run_threads, nodes)
 }
 
-/// Closes the fleet and returns the result of a run with these counts.
+/// Closes the fleet. Returns the result of a run with these counts.
 fn ended<'a, L: FleetSite>(
     alloc: Global,
     fleet: Fleet<'a, L>,
@@ -195,9 +195,9 @@ fn drive_fleet<L: FleetSite + Send + Sync, R: Threads + Wait + Sync>(
     drive_over(rt, alloc, fleet, passes, plan, script, workers, nodes)
 }
 
-/// Runs a script over a checked plan on a fleet with 64 client slots. `workers` drivers take the lines in turn; each
-/// node that a line delivers to has a thread; a line that names a message waits for the line that made it; no line
-/// behind a `wait` starts before all lines before it have ended.
+/// Runs a script over a checked plan on a fleet with 64 client slots. `workers` drivers take the lines in turn, and
+/// each node that a line delivers to has a thread. A line that names a message waits for the line that made it; no line
+/// after a `wait` starts before all lines before it have ended.
 ///
 /// # Errors
 /// `NoMemory` if memory ran out or a thread couldn't be started.

@@ -2,7 +2,7 @@
 
 ghost use Rattle.drivers.specs.Examples.{SayTheirLines};
 
-/// Proves what the grammar says of some lines.
+/// Proves the meaning of some lines of the grammar.
 pub fn say_their_lines()
     ensures { SayTheirLines }
 {}

@@ -1,5 +1,5 @@
-//! Scripts: a text's lines as orders, and their run on threads, where drivers take the lines in turn and each node takes
-//! its messages on a thread of its own.
+//! Scripts: reads a text's lines as orders, and runs them on threads. Drivers take the lines in turn, and each node
+//! takes its messages on its own thread.
 #![tactic(auto)]
 
 mod agreeing;

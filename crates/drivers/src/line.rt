@@ -1,4 +1,4 @@
-//! Reading one line of a script.
+//! Reads a line of a script.
 
 ghost use Rattle.std.specs.Prelude.{◌≡◌, [], IfOk, length, option_map};
 ghost use Rattle.world.specs.Events.{event_of};
@@ -17,7 +17,7 @@ use std::alloc::{AllocError, Global};
 use volume_model::Fault;
 use world::{Event, Order};
 
-/// The word that a line begins with.
+/// The first word of a line.
 #[derive(Clone, Copy)]
 pub enum Verb {
     Assign,
@@ -37,14 +37,14 @@ pub enum Verb {
     Wait,
 }
 
-/// What a line does.
+/// The action of a line.
 #[derive(Drop)]
 pub enum Line {
-    /// Nothing: it is empty or a comment.
+    /// Nothing: the line is empty or a comment.
     Empty,
-    /// The lines before it end before those after it begin. A run takes them one by one, so there it does nothing.
+    /// The lines before it end before those after it begin. It does nothing in `run`, which takes the lines one by one.
     Wait,
-    /// It makes an event happen.
+    /// An order.
     Order(Order),
 }
 
@@ -72,7 +72,7 @@ fn verb_of(word: &str) -> Option<Verb>
     }
 }
 
-/// Returns the verb that these bytes are.
+/// Returns the verb with these bytes.
 #[inline(always)]
 fn verb_by(word: &[u8]) -> Option<Verb>
     ensures { result ≡ verb_in word.now }
@@ -90,7 +90,7 @@ fn is_silent(line: &[u8]) -> bool
     line.is_empty() || line[0] == b'#'
 }
 
-/// Returns what a line does, or that it isn't one of a script. `events` has the index of each earlier line's event.
+/// Reads a line; `Malformed` if it isn't in the grammar. `events` has the index of each earlier line's event.
 #[inline(always)]
 pub fn line_of(alloc: Global, text: &[u8], events: &[Option<u32>]) -> Result<Line, Fault>
     ensures { ReadsBy seen (option_map (seen_action events.now) (action_of (length events.now) text.now)) result }
@@ -134,7 +134,7 @@ fn said_by(alloc: Global, verb: Verb, words: Parts, events: &[Option<u32>]) -> R
     }
 }
 
-/// Returns the line that makes an event happen.
+/// Returns the line of an event.
 #[inline(always)]
 fn line_by(alloc: Global, event: Event) -> Result<Line, AllocError>
     ensures { IfOk result (λ line. seen line ≡ Seen.Asks (Asked.Fixed (event_of event))) }
@@ -142,7 +142,7 @@ fn line_by(alloc: Global, event: Event) -> Result<Line, AllocError>
     Ok(Line::Order(Order::Event(Box::new(alloc, event)?)))
 }
 
-/// `wait`
+/// Reads `wait`.
 fn wait(words: Parts) -> Result<Line, Fault>
     ensures { ReadsBy seen (option_map (seen_action []) (wait_in (parts_left words.entry))) result }
 {

@@ -1,15 +1,15 @@
-//! The lines that most of a script is made of: deliveries and takings of messages that earlier lines made, each read as it comes.
-//! What isn't read here is read as any other line.
+//! Fast paths for the most frequent lines: deliveries and takings of messages that earlier lines made. Other lines are
+//! read by the general reader.
 
 ghost use Rattle.std.specs.Prelude.{◌≡◌, ◌<◌, ◌≤◌, ◌∷◌, ◌++◌, IfSome, codes, length, slice_index};
 ghost use Rattle.drivers.specs.Named.{EndsLine, HasName, HasOrder, IsNumberAt};
 
 use world::Order;
 
-/// With a number up to this one any digit more makes a number below 2^32.
+/// With a number up to this one any further digit gives a number below 2^32.
 const TAKES_ANY_DIGIT: u32 = 429_496_728;
 
-/// Returns the number at the head of a text, of whose digits the first isn't 0, and what comes after it.
+/// Returns the number at the beginning of a text whose first digit isn't 0, and the text after it.
 #[inline(always)]
 fn digits(text: &[u8]) -> (u32, &[u8])
     requires some { 0 < length text.now }
@@ -29,7 +29,7 @@ fn digits(text: &[u8]) -> (u32, &[u8])
     (value, &[])
 }
 
-/// Returns the number at the head of a text, and what comes after it.
+/// Returns the number at the beginning of a text, and the text after it.
 #[inline(always)]
 pub fn number(text: &[u8]) -> Option<(u32, &[u8])>
     ensures { IfSome result (λ found. IsNumberAt text.now found.0 found.1.now) }
@@ -41,7 +41,7 @@ pub fn number(text: &[u8]) -> Option<(u32, &[u8])>
     }
 }
 
-/// Returns the number of a group or a member at the head of a text, and what comes after it and a space.
+/// Returns the group or member at the beginning of a text, and the text after it and a space.
 #[inline(always)]
 fn id(text: &[u8]) -> Option<(u8, &[u8])>
     ensures { IfSome result (λ found. IsNumberAt text.now found.0 (32 ∷ found.1.now) × (found.0 ≤ 255)) }
@@ -53,7 +53,7 @@ fn id(text: &[u8]) -> Option<(u8, &[u8])>
     Some((number as u8, after(rest, b' ')?))
 }
 
-/// Returns what comes after a byte, where a text begins with it.
+/// Returns the text after a byte, if the text begins with it.
 #[inline(always)]
 pub fn after(text: &[u8], byte: u8) -> Option<&[u8]>
     ensures { IfSome result (λ rest. text.now ≡ byte ∷ rest.now) }
@@ -64,7 +64,7 @@ pub fn after(text: &[u8], byte: u8) -> Option<&[u8]>
     }
 }
 
-/// Returns what comes after the end of a line, where a text begins with it.
+/// Returns the text after the end of a line, if the text begins with one.
 #[inline(always)]
 fn after_line(text: &[u8]) -> Option<&[u8]>
     ensures { IfSome result (λ rest. EndsLine text.now rest.now) }
@@ -76,7 +76,7 @@ fn after_line(text: &[u8]) -> Option<&[u8]>
     }
 }
 
-/// `L.K` at the end of a line: the index of the event of line L, the place, and what comes after the line.
+/// Reads `L.K` at the end of a line. Returns the index of line L's event, the place, and the text after the line.
 #[inline(always)]
 fn name<'a>(text: &'a [u8], events: &[Option<u32>]) -> Option<(u32, u32, &'a [u8])>
     ensures { IfSome result (λ found. HasName text.now events.now found.0 found.1 found.2.now) }
@@ -90,7 +90,7 @@ fn name<'a>(text: &'a [u8], events: &[Option<u32>]) -> Option<(u32, u32, &'a [u8
     Some((events[line as usize - 1]?, place, rest))
 }
 
-/// Returns what comes after `deliver `, where a text begins with it.
+/// Returns the text after `deliver `, if the text begins with it.
 #[inline(always)]
 fn after_deliver(text: &[u8]) -> Option<&[u8]>
     ensures { IfSome result (λ rest. text.now ≡ codes "deliver " ++ rest.now) }
@@ -101,7 +101,7 @@ fn after_deliver(text: &[u8]) -> Option<&[u8]>
     }
 }
 
-/// Returns what comes after `take `, where a text begins with it.
+/// Returns the text after `take `, if the text begins with it.
 #[inline(always)]
 fn after_take(text: &[u8]) -> Option<&[u8]>
     ensures { IfSome result (λ rest. text.now ≡ codes "take " ++ rest.now) }
@@ -112,7 +112,7 @@ fn after_take(text: &[u8]) -> Option<&[u8]>
     }
 }
 
-/// `deliver G M L.K`, where the line L has an event.
+/// Reads `deliver G M L.K`, if line L has an event.
 #[inline(always)]
 fn delivery<'a>(text: &'a [u8], events: &[Option<u32>]) -> Option<(Order, &'a [u8])>
     ensures { IfSome result (λ found. HasOrder text.now events.now found.0 found.1.now) }
@@ -132,7 +132,7 @@ fn delivery<'a>(text: &'a [u8], events: &[Option<u32>]) -> Option<(Order, &'a [u
     ))
 }
 
-/// `take V L.K`, where the line L has an event.
+/// Reads `take V L.K`, if line L has an event.
 #[inline(always)]
 fn taking<'a>(text: &'a [u8], events: &[Option<u32>]) -> Option<(Order, &'a [u8])>
     ensures { IfSome result (λ found. HasOrder text.now events.now found.0 found.1.now) }
@@ -150,8 +150,8 @@ fn taking<'a>(text: &'a [u8], events: &[Option<u32>]) -> Option<(Order, &'a [u8]
     ))
 }
 
-/// Returns the order of the first line of a text, and what comes after the line, where it is a delivery or a taking as
-/// most are. `events` has the index of each earlier line's event.
+/// Reads the first line of a text, if it is a frequent form of a delivery or taking. Returns its order, and the text
+/// after the line. `events` has the index of each earlier line's event.
 #[inline(always)]
 pub fn named_order<'a>(text: &'a [u8], events: &[Option<u32>]) -> Option<(Order, &'a [u8])>
     ensures { IfSome result (λ found. HasOrder text.now events.now found.0 found.1.now) }

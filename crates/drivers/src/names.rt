@@ -1,4 +1,4 @@
-//! Messages that are named by the lines that made them.
+//! Reads lines with messages that are named by the lines that made them.
 
 ghost use Rattle.std.specs.Prelude.{◌≡◌, IfOk, length, option_map};
 ghost use Rattle.drivers.specs.Grammar.{deliver_in, name_in, take_in};
@@ -12,7 +12,7 @@ use std::alloc::{AllocError, Global};
 use volume_model::Fault;
 use world::{Event, Order};
 
-/// `L.K`, where L is one of this many earlier lines: the line and the place.
+/// Reads `L.K`, where L is one of `earlier` lines: the line and the place.
 #[inline(always)]
 fn name_of(name: &[u8], earlier: usize) -> Result<(u64, u64), Fault>
     ensures { ReadsBy (λ n. (n.0, n.1)) (name_in earlier (sides_in name.now)) result }
@@ -26,7 +26,7 @@ fn name_of(name: &[u8], earlier: usize) -> Result<(u64, u64), Fault>
     Ok((line, place))
 }
 
-/// Returns the same of the only word that is left.
+/// Does the same for the only word that is left.
 #[inline(always)]
 fn last_name(words: Parts, earlier: usize) -> Result<(u64, u64), Fault>
     requires { words.separator ≡ 32 }
@@ -38,7 +38,7 @@ fn last_name(words: Parts, earlier: usize) -> Result<(u64, u64), Fault>
     name_of(name, earlier)
 }
 
-/// `deliver G M L.K`, where L is an earlier line.
+/// Reads `deliver G M L.K`, where L is an earlier line.
 #[inline(always)]
 pub fn deliver(alloc: Global, mut words: Parts, events: &[Option<u32>]) -> Result<Order, Fault>
     requires { words.separator ≡ 32 }
@@ -70,7 +70,7 @@ fn delivery(
             event,
             place,
         }),
-        // The line has no event, so it has made no message: number 0 is that of none.
+        // The line has no event, so it made no message. No message has number 0.
         None => {
             let none = Event::Deliver {
                 group,
@@ -82,7 +82,7 @@ fn delivery(
     }
 }
 
-/// `take V L.K`, where L is an earlier line.
+/// Reads `take V L.K`, where L is an earlier line.
 pub fn take(alloc: Global, mut words: Parts, events: &[Option<u32>]) -> Result<Order, Fault>
     requires { words.separator ≡ 32 }
     ensures { ReadsBy (λ order. Seen.Asks (asked_by order)) (option_map (seen_action events.now)
@@ -94,7 +94,7 @@ pub fn take(alloc: Global, mut words: Parts, events: &[Option<u32>]) -> Result<O
     Ok(taking(alloc, volume, place, event)?)
 }
 
-/// Returns the taking of a message of a line with this event.
+/// Returns the order to take a message of a line with this event.
 fn taking(alloc: Global, volume: u32, place: u64, event: Option<u32>) -> Result<Order, AllocError>
     ensures { IfOk result (λ order. asked_by order ≡ take_from volume place event) }
 {
@@ -104,7 +104,7 @@ fn taking(alloc: Global, volume: u32, place: u64, event: Option<u32>) -> Result<
             event,
             place,
         }),
-        // The line has no event, so it has made no message: number 0 is that of none.
+        // The line has no event, so it made no message. No message has number 0.
         None => Ok(Order::Event(Box::new(alloc, Event::Take { volume, message: 0 })?)),
     }
 }

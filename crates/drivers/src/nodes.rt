@@ -34,7 +34,7 @@ pub fn receiver(order: &Order) -> Option<Node> {
     }
 }
 
-/// Returns for each member of each group, 64 a group, whether an order delivers to it.
+/// Returns for each member of each group (64 a group) whether an order delivers to it.
 fn marks(alloc: Global, groups: u8, orders: &[Order]) -> Result<Vec<bool>, AllocError> {
     let mut marks = vec![in alloc; false; usize::from(groups) * MEMBERS]?;
     for order in orders {
@@ -51,7 +51,7 @@ fn marks(alloc: Global, groups: u8, orders: &[Order]) -> Result<Vec<bool>, Alloc
 /// Returns the nodes that the plan names and these orders deliver to, each once.
 ///
 /// # Errors
-/// `AllocError` if there is no memory for the list.
+/// `AllocError` if memory runs out.
 pub fn receivers(
     alloc: Global,
     plan: &CheckedPlan,

@@ -1,4 +1,4 @@
-//! Events that have numbers alone.
+//! Reads lines that have only numbers.
 
 ghost use Rattle.world.specs.Events.{event_of};
 ghost use Rattle.drivers.specs.Grammar.{advance_in, assign_in, cut_in, grow_in, hydrate_in, offer_in, open_in, read_in, refresh_in, resend_in, restart_in};
@@ -9,7 +9,7 @@ use crate::parts::Parts;
 use volume_model::Fault;
 use world::Event;
 
-/// `assign`
+/// Reads `assign`.
 pub fn assign(words: Parts) -> Result<Event, Fault>
     ensures { ReadsBy event_of (assign_in (parts_left words.entry)) result }
 {
@@ -17,7 +17,7 @@ pub fn assign(words: Parts) -> Result<Event, Fault>
     Ok(Event::Assign)
 }
 
-/// `advance G C`
+/// Reads `advance G C`.
 pub fn advance(mut words: Parts) -> Result<Event, Fault>
     ensures { ReadsBy event_of (advance_in (parts_left words.entry)) result }
 {
@@ -30,7 +30,7 @@ pub fn advance(mut words: Parts) -> Result<Event, Fault>
     })
 }
 
-/// `refresh V`
+/// Reads `refresh V`.
 pub fn refresh(mut words: Parts) -> Result<Event, Fault>
     ensures { ReadsBy event_of (refresh_in (parts_left words.entry)) result }
 {
@@ -39,7 +39,7 @@ pub fn refresh(mut words: Parts) -> Result<Event, Fault>
     Ok(Event::Refresh { volume })
 }
 
-/// `grow`
+/// Reads `grow`.
 pub fn grow(words: Parts) -> Result<Event, Fault>
     ensures { ReadsBy event_of (grow_in (parts_left words.entry)) result }
 {
@@ -47,7 +47,7 @@ pub fn grow(words: Parts) -> Result<Event, Fault>
     Ok(Event::Grow)
 }
 
-/// `cut V`
+/// Reads `cut V`.
 pub fn cut(mut words: Parts) -> Result<Event, Fault>
     ensures { ReadsBy event_of (cut_in (parts_left words.entry)) result }
 {
@@ -56,7 +56,7 @@ pub fn cut(mut words: Parts) -> Result<Event, Fault>
     Ok(Event::Cut { volume })
 }
 
-/// `open V`
+/// Reads `open V`.
 pub fn open(mut words: Parts) -> Result<Event, Fault>
     ensures { ReadsBy event_of (open_in (parts_left words.entry)) result }
 {
@@ -65,7 +65,7 @@ pub fn open(mut words: Parts) -> Result<Event, Fault>
     Ok(Event::Open { volume })
 }
 
-/// `resend V N`
+/// Reads `resend V N`.
 pub fn resend(mut words: Parts) -> Result<Event, Fault>
     ensures { ReadsBy event_of (resend_in (parts_left words.entry)) result }
 {
@@ -75,7 +75,7 @@ pub fn resend(mut words: Parts) -> Result<Event, Fault>
     Ok(Event::Resend { volume, lsn })
 }
 
-/// `read V G B`
+/// Reads `read V G B`.
 pub fn read(mut words: Parts) -> Result<Event, Fault>
     ensures { ReadsBy event_of (read_in (parts_left words.entry)) result }
 {
@@ -90,7 +90,7 @@ pub fn read(mut words: Parts) -> Result<Event, Fault>
     })
 }
 
-/// `hydrate G M`
+/// Reads `hydrate G M`.
 pub fn hydrate(mut words: Parts) -> Result<Event, Fault>
     ensures { ReadsBy event_of (hydrate_in (parts_left words.entry)) result }
 {
@@ -100,7 +100,7 @@ pub fn hydrate(mut words: Parts) -> Result<Event, Fault>
     Ok(Event::Hydrate { group, member })
 }
 
-/// `restart G M`
+/// Reads `restart G M`.
 pub fn restart(mut words: Parts) -> Result<Event, Fault>
     ensures { ReadsBy event_of (restart_in (parts_left words.entry)) result }
 {
@@ -110,7 +110,7 @@ pub fn restart(mut words: Parts) -> Result<Event, Fault>
     Ok(Event::Restart { group, member })
 }
 
-/// `offer G M N`
+/// Reads `offer G M N`.
 pub fn offer(mut words: Parts) -> Result<Event, Fault>
     ensures { ReadsBy event_of (offer_in (parts_left words.entry)) result }
 {

@@ -1,4 +1,4 @@
-//! Numbers at the head of a text.
+//! Reads numbers at the beginning of a text.
 
 ghost use Rattle.std.specs.Prelude.{◌≡◌, ◌==◌, ◌&&◌, ◌||◌, ◌+◌, ◌*◌, ◌^◌, ◌≤◌, MatchOption, length, nat_le, not, slice_index};
 ghost use Rattle.std.specs.List.{slice_split};
@@ -7,10 +7,10 @@ ghost use Rattle.drivers.specs.Reads.{ReadsBy};
 
 use volume_model::Fault;
 
-/// With a number up to this one any digit more makes a number below 2^64.
+/// With a number up to this one any further digit gives a number below 2^64.
 const TAKES_ANY_DIGIT: u64 = 1_844_674_407_370_955_160;
 
-/// Returns whether there is a first digit, which is 0 only where it is alone.
+/// Returns whether there is a digit, and no leading zero.
 #[inline(always)]
 fn begins_numeral(digits: &[u8]) -> bool
     ensures { result ≡ (nat_le 1 (length digits.now) && (nat_le (length digits.now) 1 || not
@@ -19,7 +19,7 @@ fn begins_numeral(digits: &[u8]) -> bool
     !digits.is_empty() && (digits.len() <= 1 || digits[0] != b'0')
 }
 
-/// Returns whether digits of this value are a numeral, and it is at most `most`.
+/// Returns whether digits with this value are a numeral of at most `most`.
 #[inline(always)]
 fn is_number(digits: &[u8], value: u64, most: u64) -> bool
     ensures { result ≡ (nat_le 1 (length digits.now) && (nat_le (length digits.now) 1 || not
@@ -28,7 +28,7 @@ fn is_number(digits: &[u8], value: u64, most: u64) -> bool
     begins_numeral(digits) && value <= most
 }
 
-/// Returns the number with one decimal digit more, if it is below 2^64.
+/// Returns the number with one more decimal digit, if it is below 2^64.
 #[inline(always)]
 fn with_digit(value: u64, digit: u8) -> Option<u64>
     requires { digit ≤ 9 }
@@ -40,8 +40,8 @@ fn with_digit(value: u64, digit: u8) -> Option<u64>
     value.checked_mul(10)?.checked_add(u64::from(digit))
 }
 
-/// Returns the number that the first part of a text spells in decimal without leading zeros, if it is at most `most`,
-/// and the text behind the separator after it, if there is one.
+/// Reads the first part of a text as a decimal number of at most `most`, without leading zeros. Returns it, and the
+/// text after the separator, if there is one.
 #[inline(always)]
 pub fn split_number(text: &[u8], separator: u8, most: u64) -> Result<(u64, Option<&[u8]>), Fault>
     ensures { ReadsBy (λ found. (found.0, left_of separator found.1))

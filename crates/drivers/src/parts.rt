@@ -1,4 +1,4 @@
-//! The parts of a text between separators, taken one by one.
+//! Parts of a text between separators, which are taken one by one.
 
 ghost use Rattle.std.specs.Prelude.{◌≡◌, ◌≢◌, ◌==◌, ◌↔◌, ◌∷◌, [], IsTrue, MatchOption, length};
 ghost use Rattle.std.specs.List.{slice_split};
@@ -9,12 +9,12 @@ use crate::numeral::split_number;
 use crate::seeking::{count_of, first_place};
 use volume_model::Fault;
 
-/// What is left of a text that is taken part by part.
+/// The remaining parts of a text.
 #[derive(Clone, Copy)]
 pub struct Parts<'a> {
     /// The byte between two parts.
     separator: u8,
-    /// The parts that are left with the separators between them, if there is one left.
+    /// The remaining parts with the separators between them; `None` if no part remains.
     left: Option<&'a [u8]>,
 }
 
@@ -41,7 +41,7 @@ impl<'a> Parts<'a> {
         }
     }
 
-    /// Returns how many are left.
+    /// Returns the number of remaining parts.
     #[inline(always)]
     pub fn len(&self) -> usize
         ensures { result ≡ length (parts_left self.now) }
@@ -52,7 +52,7 @@ impl<'a> Parts<'a> {
         }
     }
 
-    /// Returns whether none is left.
+    /// Returns whether no part remains.
     #[inline(always)]
     pub fn is_empty(&self) -> bool
         ensures { IsTrue result ↔ (parts_left self.now ≡ []) }
@@ -60,7 +60,7 @@ impl<'a> Parts<'a> {
         self.left.is_none()
     }
 
-    /// Takes the first that is left.
+    /// Takes the next part.
     #[inline(always)]
     pub fn take_first(&mut self) -> Option<&'a [u8]>
         ensures part { MatchOption result (parts_left self.old ≡ [])
@@ -72,7 +72,7 @@ impl<'a> Parts<'a> {
         Some(first)
     }
 
-    /// Takes the first that is left, a number of at most `most`.
+    /// Takes the next part as a number of at most `most`.
     #[inline(always)]
     pub fn take_number(&mut self, most: u64) -> Result<u64, Fault>
         ensures number { ReadsBy (λ number. (number, parts_left self.new)) (first_number most (parts_left self.old))
@@ -87,7 +87,7 @@ impl<'a> Parts<'a> {
         Ok(number)
     }
 
-    /// Takes the first that is left, the number of a group or a member, at most 255.
+    /// Takes the next part as a group or a member, at most 255.
     #[inline(always)]
     pub fn take_id(&mut self) -> Result<u8, Fault>
         ensures number { ReadsBy (λ number. (number, parts_left self.new)) (first_number 255 (parts_left self.old))
@@ -97,7 +97,7 @@ impl<'a> Parts<'a> {
         Ok(self.take_number(u64::from(u8::MAX))? as u8)
     }
 
-    /// Takes the first that is left, the number of a volume epoch, a configuration or a block, below 2^32.
+    /// Takes the next part as a volume epoch, a configuration or a block, below 2^32.
     #[inline(always)]
     pub fn take_block(&mut self) -> Result<u32, Fault>
         ensures number { ReadsBy (λ number. (number, parts_left self.new))
@@ -107,7 +107,7 @@ impl<'a> Parts<'a> {
         Ok(self.take_number(u64::from(u32::MAX))? as u32)
     }
 
-    /// Takes the first that is left, an offset in a block, below 2^16.
+    /// Takes the next part as an offset in a block, below 2^16.
     #[inline(always)]
     pub fn take_offset(&mut self) -> Result<u16, Fault>
         ensures number { ReadsBy (λ number. (number, parts_left self.new)) (first_number 65535 (parts_left self.old))
@@ -117,7 +117,7 @@ impl<'a> Parts<'a> {
         Ok(self.take_number(u64::from(u16::MAX))? as u16)
     }
 
-    /// Takes the first that is left, an LSN, below 2^64.
+    /// Takes the next part as an LSN, below 2^64.
     #[inline(always)]
     pub fn take_lsn(&mut self) -> Result<u64, Fault>
         ensures { ReadsBy (λ number. (number, parts_left self.new)) (first_number 18446744073709551615
@@ -126,7 +126,7 @@ impl<'a> Parts<'a> {
         self.take_number(u64::MAX)
     }
 
-    /// Checks that nothing more is left.
+    /// Checks that no part remains.
     #[inline(always)]
     pub fn end(self) -> Result<(), Fault>
         ensures { Reads (ended (parts_left self.entry)) result }
@@ -138,7 +138,7 @@ impl<'a> Parts<'a> {
         }
     }
 
-    /// Returns all that are left, with the separators between them.
+    /// Returns all remaining parts, with the separators between them.
     #[inline(always)]
     pub fn rest(self) -> Option<&'a [u8]>
         ensures { left_of self.entry.separator result ≡ parts_left self.entry }

@@ -1,4 +1,4 @@
-//! The bytes that a change's digits spell.
+//! Reads the bytes of a change from hexadecimal digits.
 
 ghost use Rattle.std.specs.Prelude.{◌≡◌};
 ghost use Rattle.redo_record.specs.Payload.{payload_bytes};
@@ -30,7 +30,7 @@ pub fn byte_of(high: u8, low: u8) -> Result<u8, Fault>
     Ok(digit(high)? * 16 + digit(low)?)
 }
 
-/// Reads 1 to 64 bytes, each of them two hexadecimal digits in lower case.
+/// Reads 1 to 64 bytes, each as two hexadecimal digits in lower case.
 pub fn payload_of(word: &[u8]) -> Result<Payload, Fault>
     ensures { ReadsBy payload_bytes (bytes_in word.now) result }
 {

@@ -1,4 +1,4 @@
-//! The changes that most transactions are made of, each read as it comes. What isn't read here is read word by word.
+//! A fast path for the most frequent form of changes. Other forms are read word by word.
 
 ghost use Rattle.std.specs.Prelude.{◌≡◌, IfOk, IfSome, Some, take};
 ghost use Rattle.redo_record.specs.Payload.{HasRoom};
@@ -13,7 +13,7 @@ use redo_record::MOST_BYTES;
 use std::alloc::{AllocError, Global};
 use writer_core::Change;
 
-/// `G:B:O:` at the head of a text: the group, the block and the offset, and what comes after them.
+/// Reads `G:B:O:` at the beginning of a text. Returns the group, the block, the offset, and the text after them.
 #[inline(always)]
 fn place_at(text: &[u8]) -> Option<(u8, u32, u16, &[u8])>
     ensures { IfSome result (λ found. IsPlaceAt text.now found.0 found.1 found.2 found.3.now) }
@@ -28,7 +28,7 @@ fn place_at(text: &[u8]) -> Option<(u8, u32, u16, &[u8])>
     Some((group as u8, block, offset as u16, rest))
 }
 
-/// Puts the bytes that the digits at the head of a text spell: how many there are, and what comes after them.
+/// Reads the bytes whose digits are at the beginning of a text. Returns their number, and the text after them.
 #[inline(always)]
 fn put_bytes<'a>(text: &'a [u8], bytes: &mut [u8; MOST_BYTES]) -> Option<(usize, &'a [u8])>
     ensures { IfSome result (λ found. AreBytesAt text.now (take found.0 bytes.new) found.1.now × HasRoom found.0) }
@@ -52,7 +52,7 @@ fn put_bytes<'a>(text: &'a [u8], bytes: &mut [u8; MOST_BYTES]) -> Option<(usize,
     Some((count, rest))
 }
 
-/// Changes with a space between two of them, where each is read as it comes. Room is made for this many at once.
+/// Reads changes with a space between two of them. Reserves room for this many.
 pub fn plain_changes(
     alloc: Global,
     text: &[u8],

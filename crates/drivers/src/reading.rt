@@ -1,4 +1,4 @@
-//! The lines of a script in turn: one event a line.
+//! Reads the lines of a script: at most one event a line.
 
 ghost use Rattle.std.specs.Prelude.{◌≡◌, ◌<◌, ◌≤◌, ◌↔◌, IfOk, IsTrue, OnOk, length, vec_len};
 ghost use Rattle.std.specs.Str.{IsUtf8};
@@ -23,27 +23,27 @@ const SCRIPT_LINES: usize = 100_000;
 /// A line that does something. There may be many.
 #[derive(Clone, Copy)]
 pub struct Step {
-    /// Its number, from 1.
+    /// The line's number, from 1.
     pub line: u32,
-    /// Whether it has an event; a `wait` has none.
+    /// Whether it has an event. A `wait` has none.
     pub has_event: bool,
 }
 
 const _: () = prove!(size_of::<Step>() <= 8);
 
-/// What a script does, line by line.
+/// A script: its lines and its orders.
 #[derive(Drop)]
 pub struct Script {
     /// The lines that do something, in order.
     pub steps: Vec<Step>,
-    /// The events of those that have one, in order.
+    /// The orders of the lines that have one, in order.
     pub orders: Vec<Order>,
 }
 
 /// Why a script can't be run.
 #[derive(Clone, Copy, Debug, PartialEq, Eq)]
 pub enum ScriptFault {
-    /// The line with this number, from 1, isn't one of a script.
+    /// The line with this number, from 1, is bad.
     Line(usize),
     /// Memory ran out.
     NoMemory,
@@ -60,7 +60,7 @@ impl From<AllocError> for ScriptFault {
     }
 }
 
-/// Returns the index of an event behind this many. More than an order can name are as if memory ran out.
+/// Returns the index of the next event. Reports an index that doesn't fit an order as out of memory.
 fn index_of(events: usize) -> Result<u32, AllocError>
     ensures { IfOk result (λ index. index ≡ events) }
 {
@@ -112,14 +112,13 @@ fn keep(script: &mut Script, events: &mut Vec<Option<u32>>, line: Line) -> Resul
     Ok(())
 }
 
-/// Returns whether bytes are UTF-8.
 fn is_utf8(bytes: &[u8]) -> bool
     ensures { IsTrue result ↔ IsUtf8 bytes.now }
 {
     str::from_utf8(bytes).is_ok()
 }
 
-/// Adds a line. Out of line, since most lines are read without it.
+/// Adds a line. Out of line, since most lines take the fast path.
 #[inline(never)]
 fn add_line(
     alloc: Global,
@@ -142,7 +141,7 @@ fn add_line(
     }
 }
 
-/// Adds the first line of a text, and returns the text after it.
+/// Adds the first line of a text. Returns the text after it.
 #[inline(always)]
 fn add_first<'a>(
     alloc: Global,
@@ -165,7 +164,7 @@ fn add_first<'a>(
     }
 }
 
-/// Returns why a script can't be run whose line with this number was refused.
+/// Returns why a script can't be run if the line with this number was refused.
 fn stop_at(fault: Fault, line: usize) -> ScriptFault
     ensures { result ≡ stop_at fault line }
 {
@@ -175,8 +174,8 @@ fn stop_at(fault: Fault, line: usize) -> ScriptFault
     }
 }
 
-/// Returns for how many lines of a text room is made: one more than it has newlines, and no more than a script may
-/// have.
+/// Returns the number of lines to reserve room for: one more than there are newlines, and at most as many as a script
+/// may have.
 fn lines_at_most(text: &[u8]) -> usize
     ensures { result ≤ SCRIPT_LINES }
 {
@@ -186,7 +185,7 @@ fn lines_at_most(text: &[u8]) -> usize
 /// Reads a script: at most 100,000 lines in 16,777,216 bytes, each of them UTF-8.
 ///
 /// # Errors
-/// The number of the first bad line; or `NoMemory`, which may come in place of a bad line.
+/// The number of the first bad line; or `NoMemory` if memory runs out, possibly before a bad line.
 pub fn read_script(alloc: Global, text: &[u8]) -> Result<Script, ScriptFault>
     ensures { ReadsScript text.now result }
 {

@@ -10,7 +10,7 @@ use std::sync::Wait;
 use wire::Messages;
 use world::{ClientAction, Event, Order};
 
-/// A gate that looks at nothing.
+/// A gate that does nothing.
 struct Open;
 
 impl StepGate for Open {
@@ -56,7 +56,7 @@ impl<'f, 'a, L: FleetSite> Run<'f, 'a, L> {
         }
     }
 
-    /// Delivers the message of order `index` to a node and sets its completion.
+    /// Delivers the message of order `index` to a node, and sets the order's completion.
     pub fn deliver<R: Wait>(&self, rt: &R, pass: &mut Pass<'a, L>, index: usize, node: Node) {
         let Some(order) = self.orders.get(index) else {
             return;
@@ -68,8 +68,8 @@ impl<'f, 'a, L: FleetSite> Run<'f, 'a, L> {
         self.completions.set(index, Completion::of(call));
     }
 
-    /// Posts order `index` to a node's thread and waits for its completion. If the plan names no such node, the fleet
-    /// refuses it.
+    /// Posts order `index` to a node's thread, and waits for its completion. If the plan doesn't name the node, calls
+    /// the fleet, which refuses it.
     fn send<R: Wait>(&self, rt: &R, pass: &mut Pass<'a, L>, index: usize, node: Node) {
         let Node { group, member } = node;
         if self.fleet.names(group, member) {
@@ -80,8 +80,8 @@ impl<'f, 'a, L: FleetSite> Run<'f, 'a, L> {
         }
     }
 
-    /// Returns the oldest order's index that was posted to a node; waits while there is none. Returns `None` at the
-    /// closing letter, or if the plan names no such node.
+    /// Returns the index of the oldest order that was posted to a node. Blocks while there is none. Returns `None` at
+    /// the closing letter, or if the plan doesn't name the node.
     pub fn collect<R: Wait>(&self, rt: &R, pass: &mut Pass<'a, L>, node: Node) -> Option<usize> {
         let Node { group, member } = node;
         if !self.fleet.names(group, member) {
@@ -100,7 +100,7 @@ impl<'f, 'a, L: FleetSite> Run<'f, 'a, L> {
         }
     }
 
-    /// Follows order `index` and sets its completion. Waits first for the order whose message it names.
+    /// Follows order `index`, and sets its completion. First waits for the order whose message it names.
     pub fn follow<R: Wait>(&self, rt: &R, pass: &mut Pass<'a, L>, index: usize) {
         let Some(order) = self.orders.get(index) else {
             return;

@@ -1,4 +1,4 @@
-//! How many orders were made, and how many were refused.
+//! The numbers of orders that were made and refused.
 
 ghost use Rattle.std.specs.Prelude.{◌≡◌, ◌+◌, ◌<◌, ◌^◌, IfErr, IfOk};
 ghost use Rattle.volume_model.specs.declared.fault.Fault.TheVariants.{NoMemory};
@@ -6,7 +6,7 @@ ghost use Rattle.volume_model.specs.declared.fault.Fault.TheVariants.{NoMemory};
 use crate::completion::Completion;
 use volume_model::Fault;
 
-/// How many orders were made, and how many were refused.
+/// The numbers of orders that were made and refused.
 #[derive(Clone, Copy)]
 pub struct RunCounts {
     pub made: usize,
@@ -16,7 +16,7 @@ pub struct RunCounts {
 impl RunCounts {
     ghost use Rattle.drivers.specs.Counts.{IsOutOfMemory, counts_with};
 
-    /// Returns the counts of no order.
+    /// Returns zero counts.
     pub fn new() -> RunCounts
         ensures made { result.made ≡ 0 }
         ensures refused { result.refused ≡ 0 }

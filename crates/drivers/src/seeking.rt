@@ -1,10 +1,10 @@
-//! Where a byte stands in a text, and how often.
+//! Finds and counts bytes of a text.
 
 ghost use Rattle.std.specs.Prelude.{◌≡◌, ◌+◌, ◌^◌, ◌<◌, ◌≤◌, ◌==◌, count_by, length, position};
 
 use memchr::memchr;
 
-/// The number of bytes counted at a time: at most what a count of one byte holds.
+/// The number of bytes that are counted together, so that the count fits a byte.
 const PIECE: usize = 192;
 
 /// Returns the first place of a byte in a text.
@@ -15,7 +15,7 @@ pub fn first_place(text: &[u8], byte: u8) -> Option<usize>
     memchr(byte, text)
 }
 
-/// Returns how often a byte stands in a piece of a text.
+/// Returns how often a byte occurs in a piece of a text.
 #[inline(always)]
 fn count_in_piece(piece: &[u8], byte: u8) -> u8
     requires { length piece.now ≤ PIECE }
@@ -31,8 +31,8 @@ fn count_in_piece(piece: &[u8], byte: u8) -> u8
     count
 }
 
-/// Returns how often a byte stands in a text. Piece by piece, with a count of one byte, many bytes are compared at a
-/// time; `memchr_iter` goes from one place to the next.
+/// Returns how often a byte occurs in a text. Counts piece by piece, so that many bytes are compared at once;
+/// `memchr_iter` would go from one occurrence to the next.
 pub fn count_of(text: &[u8], byte: u8) -> usize
     ensures counted { result ≡ count_by (λ b. b == byte) text.now }
     ensures within { result + 1 < 2 ^ 64 }

@@ -1,4 +1,4 @@
-//! The threads of a run, from their start to their end.
+//! Starts and joins the threads of a run.
 
 use crate::nodes::Node;
 use crate::run::Run;
@@ -20,7 +20,7 @@ pub struct Workers<'f, 'a, L: FleetSite> {
     pub run: Run<'f, 'a, L>,
 }
 
-/// Starts a thread for each of these. They wait for the signal to go.
+/// Starts a thread for each of these. They wait until all are started.
 fn start<'s, 'f: 's, 'a: 's, E, L: FleetSite + Send + Sync + 's, R: Wait + Sync>(
     scope: &Scope<'s, E>,
     rt: &'f R,
@@ -34,7 +34,7 @@ fn start<'s, 'f: 's, 'a: 's, E, L: FleetSite + Send + Sync + 's, R: Wait + Sync>
     Ok(threads)
 }
 
-/// Joins these threads and collects their passes. Returns false if there was no room for one.
+/// Joins these threads and collects their passes. Returns false if there was no room for a pass.
 fn join_all<'a, L: FleetSite, R: Threads + Wait>(
     rt: &R,
     threads: Vec<JoinHandle<Pass<'a, L>>>,
@@ -48,8 +48,8 @@ fn join_all<'a, L: FleetSite, R: Threads + Wait>(
     all
 }
 
-/// Starts all threads in a scope, lets them go, closes the nodes' mailboxes by the pass of a driver once the drivers
-/// have ended, and takes the passes back. If one couldn't be started, none goes.
+/// Starts all threads in a scope and lets them run. Joins the drivers, closes the nodes' mailboxes, and joins the
+/// nodes. Returns all passes. If a thread couldn't be started, none runs.
 fn run_in<'s, 'f: 's, 'a: 's, E, L: FleetSite + Send + Sync + 's, R: Threads + Wait + Sync>(
     scope: &Scope<'s, E>,
     rt: &'f R,
@@ -82,7 +82,7 @@ fn run_in<'s, 'f: 's, 'a: 's, E, L: FleetSite + Send + Sync + 's, R: Threads + W
 /// Runs all threads and takes their passes back.
 ///
 /// # Errors
-/// `AllocError` if memory ran out or a thread couldn't be started; then no thread has made a step.
+/// `AllocError` if memory ran out or a thread couldn't be started. Then no thread has made a step.
 pub fn run_all<'f, 'a, L: FleetSite + Send + Sync, R: Threads + Wait + Sync>(
     rt: &'f R,
     alloc: Global,

@@ -23,7 +23,7 @@ pub struct WorkerContext<'f, 'a, L: FleetSite> {
 }
 
 impl<'f, 'a, L: FleetSite> WorkerContext<'f, 'a, L> {
-    /// Follows this driver's orders. Before each it waits for all orders before the last `wait`.
+    /// Follows this driver's orders. Before each of them waits for all orders before the last `wait`.
     fn drive<R: Wait>(&mut self, rt: &R, number: u8) {
         let WorkerContext { run, pass, .. } = self;
         let mut waited = 0;
@@ -49,7 +49,7 @@ impl<'f, 'a, L: FleetSite> WorkerContext<'f, 'a, L> {
         }
     }
 
-    /// Does its part, if the run goes on, and returns its pass.
+    /// Does its part, if all threads were started. Returns its pass.
     pub fn work<R: Wait>(self, rt: &R) -> Pass<'a, L> {
         let mut worker = self;
         if *worker.run.completions.go.wait(rt) {

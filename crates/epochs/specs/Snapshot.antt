@@ -7,11 +7,11 @@ use Rattle.volume_model.specs.declared.fault.Fault.{Fault}
 use Rattle.volume_model.specs.declared.fault.Fault.TheVariants.{BadField, NoGroup}
 use Rattle.epochs.specs.declared.snapshot.AuthoritySnapshot.{AuthoritySnapshot}
 
--- the model's authority whose state a snapshot is
+-- the authority of the model for a snapshot
 abbrev pub authority_in : AuthoritySnapshot → model.Authority
 authority_in s = record { last_volume = s.last_volume; configurations = s.configurations.items }
 
--- a state that an authority over the plan can have is resumed as it was saved
+-- resuming a snapshot: a state that an authority over the plan can have is restored
 abbrev pub resumed : Plan → model.Authority → Result model.Authority Fault
 resumed plan a =
     refuse_if (a.last_volume == 0) BadField (

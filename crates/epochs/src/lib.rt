@@ -1,4 +1,4 @@
-//! The authority of a volume: it assigns volume epochs, and leads each group along its plan.
+//! The authority of a volume, which assigns volume epochs and leads each group along its plan.
 #![tactic(auto)]
 
 mod authority;

@@ -1,6 +1,6 @@
 //! The state of an authority that survives a restart.
 
-/// The state of an authority that survives a restart: all of it but its plan.
+/// The state of an authority that survives a restart: all of it except the plan.
 #[derive(Drop)]
 pub struct AuthoritySnapshot {
     /// The last volume epoch that the authority has assigned.

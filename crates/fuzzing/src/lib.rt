@@ -1,4 +1,4 @@
-//! What random runs of the volume are made and judged by: numbers that a seed determines, and verdicts over what a command printed.
+//! Tools for random runs of the volume: random numbers from a seed, and verdicts over a command's output.
 #![tactic(auto)]
 
 mod rng;

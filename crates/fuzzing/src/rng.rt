@@ -1,4 +1,4 @@
-//! Random numbers that a seed determines.
+//! Random numbers from a seed.
 
 ghost use Rattle.std.specs.Prelude.{◌<◌, length};
 
@@ -8,7 +8,7 @@ use rand_core::SeedableRng;
 use rand_xoshiro::Xoshiro256PlusPlus;
 use std::alloc::{AllocError, Global};
 
-/// A generator whose numbers its seed determines.
+/// A generator that returns the same numbers for the same seed.
 #[derive(Drop)]
 pub struct Rng {
     source: Xoshiro256PlusPlus,
@@ -32,12 +32,12 @@ impl Rng {
         self.source.random_range(0..bound)
     }
 
-    /// Returns a number that is at least `least` and fewer than `spread` above it.
+    /// Returns a number from `least` to `least + spread - 1`.
     pub fn from(&mut self, least: usize, spread: usize) -> usize {
         least.saturating_add(self.below(spread))
     }
 
-    /// Returns true in this many of 100 cases.
+    /// Returns true in `percent` of 100 cases.
     pub fn chance(&mut self, percent: usize) -> bool {
         self.below(100) < percent
     }
@@ -48,7 +48,7 @@ impl Rng {
         all.get(place).copied()
     }
 
-    /// Returns these in a random order.
+    /// Returns the elements in a random order.
     pub fn shuffled(&mut self, alloc: Global, all: &[u8]) -> Result<Vec<u8>, AllocError> {
         let mut order = all.to_vec(alloc)?;
         order.as_mut_slice().shuffle(&mut self.source);

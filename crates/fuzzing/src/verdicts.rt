@@ -1,4 +1,4 @@
-//! Verdicts over what a command printed.
+//! Verdicts over a command's output.
 
 ghost use Rattle.std.specs.Prelude.{◌≡◌, ◌↔◌, ◌≤◌, ◌<◌, IsTrue, string_bytes};
 
@@ -22,14 +22,14 @@ impl CommandOutput {
     }
 }
 
-/// Returns whether an acknowledged commit stands in the log that a later recovery found.
+/// Returns whether the commits up to `durable` are within the cut of a later recovery.
 pub fn is_kept(durable: u64, cut: u64) -> bool
     ensures { IsTrue result ↔ (durable ≤ cut) }
 {
     durable <= cut
 }
 
-/// Returns whether an LSN was given before the next one.
+/// Returns whether an LSN is below the next one.
 pub fn is_given(lsn: u64, next: u64) -> bool
     ensures { IsTrue result ↔ (lsn < next) }
 {

@@ -7,7 +7,7 @@ use Rattle.hydration.specs.declared.kept.Kept.{Kept}
 use Rattle.hydration.specs.Kept.{all_kept}
 use Rattle.hydration.specs.Pieces.{seen_pieces}
 
--- the copy of the model that a kept one is
+-- the copy of the model for a kept one
 abbrev pub collected_of : Collected → Copy
 collected_of collected = record { sender = collected.from; pieces = seen_pieces collected.pieces }
 
@@ -15,6 +15,6 @@ collected_of collected = record { sender = collected.from; pieces = seen_pieces 
 abbrev pub all_collected : List Collected → List Copy
 all_collected copies = map collected_of copies
 
--- what kept pieces hold
+-- the contents of kept pieces
 abbrev pub contents_kept : List Kept → List model.Contents
 contents_kept kept = map (λ piece. piece.contents) (all_kept kept)

@@ -4,7 +4,7 @@ use Rattle.volume_model.specs.Node.{From}
 use Rattle.wire.specs.Contents.{contents_of}
 use Rattle.hydration.specs.declared.copied.Copied.{Copied}
 
--- the copy of the model that a copy is
+-- the report of the model for a copy
 abbrev pub copy_of : Copied → From
 copy_of copied = record { sender = copied.from; contents = contents_of (arc_value copied.contents) }
 

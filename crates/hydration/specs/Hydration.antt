@@ -19,22 +19,22 @@ use Rattle.hydration.specs.Collected.{all_collected, collected_of}
 abbrev pub copies_of : Hydration → List Copy
 copies_of h = all_collected h.copies.items
 
--- what a node becomes, as the model says it
+-- the model's volume epoch and contents of a hydrated node
 abbrev pub state_of : State → Hydrated
 state_of s = record { volume = s.volume; contents = contents_of s.contents }
 
--- it can't be a piece beside those that are kept of its sender
+-- the piece can't belong to those kept of its sender
 abbrev pub is_bad : CopyReport → List Copy → Bool
 is_bad report copies = is_bad_piece (pieces_from copies report.from) report.part.value.series
     (piece_in report.piece report.of) (contents_of report.part.value.contents)
 
--- the copies with a member's piece more
+-- the copies with one more piece
 abbrev pub with_report : CopyReport → List Copy → List Copy
 with_report report copies = with_copy report.from report.part.value.series (piece_in report.piece report.of)
     (contents_of report.part.value.contents) copies
 
--- What is kept after a piece that a member reports. A sender that is no member is refused, and then what can't be a
--- piece.
+-- The copies after a CopyReport. A sender that isn't a member (below 64) is refused first, then a piece that can't
+-- belong to those kept.
 abbrev pub kept_after : CopyReport → List Copy → Result (List Copy) Fault
 kept_after report copies = refuse_if (nat_le 64 report.from) NotAddressed (refuse_if (is_bad report copies) BadPiece
     (Ok (with_report report copies)))
@@ -44,18 +44,18 @@ abbrev pub place_of : List Copy → ℕ → Option ℕ
 place_of [] sender = None
 place_of (copy ∷ rest) sender = if copy.sender == sender then Some 0 else option_map suc (place_of rest sender)
 
--- the copies after a change of the one at a place
+-- the copies after a change of the copy at a place
 abbrev pub changed_at : ℕ → Change → List Copy → List Copy
 changed_at place change [] = []
 changed_at zero change (copy ∷ rest) = record copy { pieces = changed change copy.pieces } ∷ rest
 changed_at (suc place) change (copy ∷ rest) = copy ∷ changed_at place change rest
 
--- the copies, once a piece that was made ready is kept
+-- the copies after the prepared piece is kept
 abbrev pub kept_by : Keeping → List Copy → List Copy
 kept_by (New collected) copies = copies ++ collected_of collected ∷ []
 kept_by (At place change) copies = changed_at place change copies
 
--- it is the copy of a member of which no other piece is kept
+-- the copy is new and has only this piece
 abbrev pub first_kept : CopyReport → Collected → Type 0
 first_kept report collected = collected_of collected ≡ record {
   sender = report.from;
@@ -63,24 +63,24 @@ first_kept report collected = collected_of collected ≡ record {
       report.part.value.series (piece_in report.piece report.of) (contents_of report.part.value.contents);
 }
 
--- by this change of the copy at a place the piece is kept
+-- this change of the copy at a place keeps the piece
 abbrev pub kept_at : ℕ → CopyReport → List Copy → Change → Type 0
 kept_at place report copies change = changed_at place change copies ≡ with_report report copies
 
--- the copies as they are
+-- the copies unchanged
 abbrev pub just : Unit {0} → List Copy → List Copy
 just u copies = copies
 
--- there is room for a copy more
+-- there is room for one more copy
 abbrev pub HasRoom : Hydration → Type 0
 HasRoom h = length h.copies.items < vec_capacity h.copies
 
--- the copy at this place can be changed so
+-- the change of the copy at this place is possible
 pub record CanChangeAt (h : Hydration) (place : ℕ) (change : Change) : Type 0 where
   pub within : place < length h.copies.items
   pub can : (d : Collected) → CanChange (slice_index_or h.copies.items place d).pieces change
 
--- what was made ready can be kept
+-- the prepared piece can be kept
 abbrev pub CanKeep : Hydration → Keeping → Type 0
 CanKeep h (New collected) = HasRoom h
 CanKeep h (At place change) = CanChangeAt h place change

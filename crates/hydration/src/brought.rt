@@ -1,4 +1,4 @@
-//! What complete copies bring.
+//! The contents of complete copies.
 
 ghost use Rattle.std.specs.Prelude.{◌≡◌, map, IfOk};
 ghost use Rattle.std.specs.FinSet as set;
@@ -29,7 +29,7 @@ pub(crate) fn copied_by(copies: &[Collected]) -> MemberSet
     members
 }
 
-/// Returns the newest of the pieces' lineages and of one that comes behind them.
+/// Returns the newest of the pieces' lineages and `last`.
 fn newest_of<'a>(kept: &'a [Kept], last: &'a Lineage) -> &'a Lineage
     ensures { lineage_of result.now ≡ newest_with (lineage_of last.now) (contents_kept kept.now) }
 {
@@ -42,7 +42,7 @@ fn newest_of<'a>(kept: &'a [Kept], last: &'a Lineage) -> &'a Lineage
     newest
 }
 
-/// Returns the newest lineage of the complete copies and of one that comes behind them.
+/// Returns the newest lineage of the complete copies and `last`.
 fn newest_brought<'a>(copies: &'a [Collected], last: &'a Lineage) -> &'a Lineage
     ensures { lineage_of result.now ≡ newest_with (lineage_of last.now) (brought (all_collected copies.now)) }
 {
@@ -59,10 +59,10 @@ fn newest_brought<'a>(copies: &'a [Collected], last: &'a Lineage) -> &'a Lineage
     }
 }
 
-/// Returns the newest lineage of the complete copies, and none where there is no such copy.
+/// Returns the newest lineage of the complete copies, or the empty lineage if there is none.
 ///
 /// # Errors
-/// `AllocError` if there is no memory.
+/// `AllocError` if memory runs out.
 pub(crate) fn newest_copied(alloc: Global, copies: &[Collected]) -> Result<Lineage, AllocError>
     ensures { IfOk result (λ lineage. lineage_of lineage ≡ newest (brought (all_collected copies.now))) }
 {
@@ -70,7 +70,7 @@ pub(crate) fn newest_copied(alloc: Global, copies: &[Collected]) -> Result<Linea
     newest_brought(copies, &none).clone()
 }
 
-/// Returns the records of a copy where it is complete, and none where it isn't.
+/// Returns the records of a copy if it is complete, else no records.
 fn united_records(alloc: Global, copy: &Collected) -> Result<RecordSet, AllocError>
     ensures { IfOk result (λ set. records_of set ≡ united (brought_by (collected_of copy.now))) }
 {
@@ -81,10 +81,10 @@ fn united_records(alloc: Global, copy: &Collected) -> Result<RecordSet, AllocErr
     }
 }
 
-/// Returns all records of the complete copies that are live in the lineage, copy by copy.
+/// Returns all records of the complete copies that are live in the lineage.
 ///
 /// # Errors
-/// `AllocError` if there is no memory.
+/// `AllocError` if memory runs out.
 pub(crate) fn copied_in(
     alloc: Global,
     lineage: &Lineage,

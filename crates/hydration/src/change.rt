@@ -1,15 +1,15 @@
-//! What becomes of kept pieces.
+//! Prepared changes of the kept pieces.
 
 use crate::kept::Kept;
 use crate::pieces::Pieces;
 
-/// What becomes of kept pieces, with all that it takes.
+/// A prepared change of the kept pieces. Applying it allocates nothing.
 #[derive(Drop)]
 pub enum Change {
-    /// They stay as they are.
+    /// The pieces stay as they are.
     Nothing,
-    /// One more is kept.
+    /// One more piece is kept.
     More(Kept),
-    /// Those of another series take their place.
+    /// The pieces of another series replace the kept ones.
     Anew(Pieces),
 }

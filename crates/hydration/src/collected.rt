@@ -1,21 +1,21 @@
-//! Copies in pieces, and what becomes of them.
+//! Copies in pieces, and prepared changes of them.
 
 ghost use Rattle.std.specs.Prelude.{◌<◌};
 
 use crate::change::Change;
 use crate::pieces::Pieces;
 
-/// What is kept of a member's copy.
+/// The pieces kept of a member's copy.
 #[derive(Drop)]
 pub struct Collected {
     /// The member.
     pub from: u8,
-    /// The pieces that are kept.
+    /// The pieces.
     pub pieces: Pieces,
     pub ghost member: { from < 64 },
 }
 
-/// What becomes of the copies that are gathered, with all that it takes.
+/// A prepared change of the collected copies. Applying it allocates nothing.
 #[derive(Drop)]
 pub enum Keeping {
     /// The first piece of a member's copy.

@@ -1,21 +1,21 @@
-//! Copies, and what becomes of them.
+//! Reports that are kept, and the state of a hydrated node.
 
 ghost use Rattle.std.specs.Prelude.{◌<◌};
 
 use std::sync::Arc;
 use wire::Contents;
 
-/// What a member holds, as it said.
+/// A report that was kept: what a member says that it holds.
 #[derive(Drop)]
 pub struct Copied {
     /// The member.
     pub from: u8,
-    /// What it holds, shared with the report.
+    /// What the member holds, shared with the report.
     pub contents: Arc<Contents>,
     pub ghost member: { from < 64 },
 }
 
-/// What a node becomes that is made whole.
+/// The state of a node that becomes whole.
 #[derive(Drop)]
 pub struct State {
     /// The volume epoch of the lineage's last entry.

@@ -1,4 +1,4 @@
-//! What copies hold together.
+//! The contents of several reports together.
 
 ghost use Rattle.std.specs.Prelude.{◌≡◌, IfOk};
 ghost use Rattle.std.specs.FinSet as set;
@@ -14,7 +14,7 @@ use quorum_expr::MemberSet;
 use redo_record::RecordSet;
 use std::alloc::{AllocError, Global};
 
-/// Returns the members from which there are copies.
+/// Returns the members that sent the copies.
 pub fn senders(copies: &[Copied]) -> MemberSet
     ensures { set.contains result ≡ senders (copies_in copies.now) }
 {
@@ -25,7 +25,7 @@ pub fn senders(copies: &[Copied]) -> MemberSet
     members
 }
 
-/// Returns the newest of the copies' lineages and of one that comes behind them.
+/// Returns the newest of the copies' lineages and `last`.
 pub fn newest_with<'a>(copies: &'a [Copied], last: &'a Lineage) -> &'a Lineage
     ensures { lineage_of result.now ≡ newest_with (lineage_of last.now) (contents_of (copies_in copies.now)) }
 {
@@ -35,10 +35,10 @@ pub fn newest_with<'a>(copies: &'a [Copied], last: &'a Lineage) -> &'a Lineage
     }
 }
 
-/// Returns a set of records with all those of the copies that are live in the lineage.
+/// Returns the union of `kept` and the records of the copies that are live in the lineage.
 ///
 /// # Errors
-/// `AllocError` if there is no memory.
+/// `AllocError` if memory runs out.
 pub fn with_found(
     alloc: Global,
     lineage: &Lineage,

@@ -1,4 +1,4 @@
-//! Copies, gathered until their senders are a read quorum.
+//! Collects copies until their senders are a read quorum.
 
 ghost use Rattle.std.specs.Prelude.{◌≡◌, ◌<◌, [], false, Err, Ok, Some, None, IfOk, IsSome, OnErr, option_map};
 ghost use Rattle.std.specs.FinSet as set;
@@ -20,7 +20,7 @@ use std::alloc::{AllocError, Global};
 use volume_model::Fault;
 use wire::{Contents, CopyReport};
 
-/// Copies of members' segments, in pieces: of each member those of one series.
+/// Copies of members' segments, in pieces. One series is kept of each member.
 #[derive(Drop)]
 pub struct Hydration {
     alloc: Global,
@@ -45,7 +45,7 @@ impl Hydration {
         copied_by(&self.copies)
     }
 
-    /// Returns the place of a member's copy, `None` if no piece of it is kept.
+    /// Returns the place of a member's copy, or `None` if no piece of it is kept.
     fn place(&self, from: u8) -> Option<usize>
         ensures { result ≡ place_of (copies_of self.now) from }
     {
@@ -57,7 +57,7 @@ impl Hydration {
         None
     }
 
-    /// Returns the pieces that are kept of a member's copy, `None` if there is none.
+    /// Returns the pieces kept of a member's copy, or `None` if there is none.
     fn pieces_from(&self, from: u8) -> Option<&Pieces>
         ensures { option_map (λ pieces. seen_pieces pieces.now) result ≡ pieces_from (copies_of self.now) from }
     {
@@ -65,7 +65,7 @@ impl Hydration {
         Some(&self.copies[place].pieces)
     }
 
-    /// Prepares to keep a piece of a member of which none is kept: makes the room and the copy.
+    /// Prepares to keep the first piece of a member: reserves room and copies the piece.
     fn prepare_new(&mut self, report: &CopyReport) -> Result<Collected, AllocError>
         requires member { report.now.from < 64 }
         requires piece { report.now.piece < report.now.of }
@@ -87,7 +87,7 @@ impl Hydration {
         })
     }
 
-    /// Prepares to keep a piece of the member whose copy stands in this place.
+    /// Prepares to keep a piece of the member whose copy is at this place.
     fn prepare_at(&mut self, place: usize, report: &CopyReport) -> Result<Change, AllocError>
         requires place { place_of (copies_of self.old) report.now.from ≡ Some place }
         requires piece { is_bad report.now (copies_of self.old) ≡ false }
@@ -106,11 +106,11 @@ impl Hydration {
         )
     }
 
-    /// Prepares to keep a piece of a copy: reserves the room and copies the piece. What is kept is unchanged.
+    /// Prepares to keep a piece of a copy: reserves room and copies the piece. The kept pieces are unchanged.
     ///
     /// # Errors
-    /// `NotAddressed` if the sender is no member; `BadPiece` if it can't be a piece beside those that are kept of the
-    /// member; `NoMemory` if neither applies and memory ran out.
+    /// `NotAddressed` if the sender isn't a member (below 64); `BadPiece` if the piece can't belong to those kept of
+    /// the sender; else `NoMemory` if memory runs out.
     pub fn prepare(&mut self, report: &CopyReport) -> Result<Keeping, Fault>
         ensures copy { Answers kept_by (kept_after report.now (copies_of self.old)) (copies_of self.old) result
             (copies_of self.old) }
@@ -136,7 +136,7 @@ impl Hydration {
         }
     }
 
-    /// Keeps the piece that was prepared last; takes no memory.
+    /// Keeps the piece that was prepared last. Allocates nothing.
     pub fn keep(&mut self, keeping: Keeping)
         requires { CanKeep self.old keeping }
         ensures { copies_of self.new ≡ kept_by keeping (copies_of self.old) }
@@ -147,10 +147,10 @@ impl Hydration {
         }
     }
 
-    /// Keeps a piece of a copy: of each member one series is kept, and the first piece of each number.
+    /// Keeps a piece of a copy. Of each member one series is kept, and the first piece with each number.
     ///
     /// # Errors
-    /// Those of [`Hydration::prepare`]; what is kept is unchanged.
+    /// Those of [`Hydration::prepare`]. The kept pieces are unchanged.
     pub fn take(&mut self, report: &CopyReport) -> Result<(), Fault>
         ensures { Answers just (kept_after report.now (copies_of self.old)) (copies_of self.old) result
             (copies_of self.new) }
@@ -167,10 +167,10 @@ impl Hydration {
         self.copies.clear();
     }
 
-    /// Returns the state that the complete copies make, or `None` if their senders aren't a read quorum.
+    /// Returns the state that the complete copies give, or `None` if their senders aren't a read quorum.
     ///
     /// # Errors
-    /// `NoMemory`.
+    /// `NoMemory` if memory runs out.
     pub fn finish(&self, alloc: Global, read: &Expr<Global>) -> Result<Option<State>, Fault>
         ensures state { Gives (option_map state_of) result (Ok (finished (formula_of read.now) (copies_of self.now))) }
         ensures memory { OnErr result (result ≡ Err NoMemory) }

@@ -1,4 +1,4 @@
-//! Pieces that are kept.
+//! Kept pieces.
 
 ghost use Rattle.std.specs.Prelude.{◌≡◌};
 ghost use Rattle.hydration.specs.Kept.{kept_of};
@@ -9,9 +9,9 @@ use wire::Contents;
 /// A piece that is kept.
 #[derive(Drop)]
 pub struct Kept {
-    /// Its number, from 0.
+    /// The piece's number, from 0.
     pub number: u16,
-    /// What it has.
+    /// The piece's contents.
     pub contents: Contents,
 }
 

@@ -1,4 +1,4 @@
-//! How a fresh member becomes whole: from copies of what the members of a read set hold, which come in pieces.
+//! Hydration: a new member becomes whole from copies of what the members of a read quorum hold. Copies come in pieces.
 #![tactic(auto)]
 
 mod brought;

@@ -1,4 +1,4 @@
-//! Pieces of one series, which are kept until all are there.
+//! Pieces of one series, which are collected until all have come.
 
 ghost use Rattle.std.specs.Prelude.{◌≡◌, true, map, IfOk};
 ghost use Rattle.redo_record.specs.RecordSet.{records_of};
@@ -11,13 +11,13 @@ use redo_record::RecordSet;
 use std::alloc::{AllocError, Global};
 use wire::Contents;
 
-/// The pieces that are kept of one series: the volume epoch of an install, or the number of a copy.
+/// The pieces kept of one series. The series is the volume epoch of an install, or the number of a copy.
 #[derive(Drop)]
 pub struct Pieces {
     series: u64,
     of: u16,
     kept: Vec<Kept>,
-    /// For each number whether its piece is kept.
+    /// For each number, whether its piece is kept.
     marks: Vec<bool>,
     ghost once: { are_once of (all_kept kept.items) ≡ true },
     ghost marked: { marks.items ≡ marks_of of (all_kept kept.items) },
@@ -30,10 +30,10 @@ impl Pieces {
     ghost use Rattle.hydration.specs.Pieces.{seen_pieces};
     ghost use Rattle.hydration.specs.Changes.{CanChange, changed};
 
-    /// Returns the first piece of a series, of which no other is kept.
+    /// Makes a series with its first piece.
     ///
     /// # Errors
-    /// `AllocError` if there is no memory.
+    /// `AllocError` if memory runs out.
     pub fn first(
         alloc: Global,
         series: u64,
@@ -67,7 +67,7 @@ impl Pieces {
         self.series
     }
 
-    /// Returns how many pieces there are in all.
+    /// Returns the number of pieces of the series.
     pub fn of(&self) -> u16
         ensures { result ≡ (seen_pieces self.now).of }
     {
@@ -81,7 +81,7 @@ impl Pieces {
         &self.kept
     }
 
-    /// Returns whether the piece of this number is kept.
+    /// Returns whether the piece with this number is kept.
     pub fn has(&self, number: u16) -> bool
         ensures { result ≡ has_piece (seen_pieces self.now) number }
     {
@@ -98,8 +98,8 @@ impl Pieces {
         self.kept.len() == usize::from(self.of)
     }
 
-    /// Returns whether the contents can't be the piece of this number beside those that are kept: they are no piece
-    /// at all, or the kept ones are of the same series and of another number of pieces.
+    /// Returns whether the piece can't belong to those kept: it isn't a valid piece, or those kept are of the same
+    /// series with another number of pieces.
     pub fn is_bad(
         kept: Option<&Pieces>,
         series: u64,
@@ -119,11 +119,11 @@ impl Pieces {
         }
     }
 
-    /// Prepares to keep a piece of this series: makes the room and the copy, and nothing where the piece of this
-    /// number is kept already. What is kept stays what it was.
+    /// Prepares to keep a piece of this series: reserves room and copies the piece, unless it is kept already. The kept
+    /// pieces are unchanged.
     ///
     /// # Errors
-    /// `AllocError` if there is no memory.
+    /// `AllocError` if memory runs out.
     pub fn prepare(&mut self, piece: u16, contents: &Contents) -> Result<Change, AllocError>
         requires { piece < (seen_pieces self.old).of }
         ensures change { IfOk result (λ change. changed change (seen_pieces self.old)
@@ -141,11 +141,11 @@ impl Pieces {
         }))
     }
 
-    /// Prepares to keep a piece of a copy: a complete copy is left as it is, a later one replaces the kept pieces,
-    /// and an earlier one changes nothing. What is kept stays what it was.
+    /// Prepares to keep a piece of a copy. A complete copy never changes; else a piece of a later series replaces the
+    /// kept pieces, and one of an earlier series is ignored. The kept pieces are unchanged.
     ///
     /// # Errors
-    /// `AllocError` if there is no memory.
+    /// `AllocError` if memory runs out.
     pub fn prepare_series(
         &mut self,
         alloc: Global,
@@ -174,7 +174,7 @@ impl Pieces {
         Ok(Change::Anew(pieces))
     }
 
-    /// Makes the change that was prepared last; takes no memory.
+    /// Makes the change that was prepared last. Allocates nothing.
     pub fn apply(&mut self, change: Change)
         requires { CanChange self.old change }
         ensures { seen_pieces self.new ≡ changed change (seen_pieces self.old) }
@@ -189,7 +189,7 @@ impl Pieces {
         }
     }
 
-    /// Returns whether all pieces are kept once the change is made.
+    /// Returns whether all pieces are kept after the change.
     pub fn is_complete_with(&self, change: &Change) -> bool
         requires { CanChange self.now change.now }
         ensures { result ≡ is_complete (changed change.now (seen_pieces self.now)) }
@@ -201,10 +201,10 @@ impl Pieces {
         }
     }
 
-    /// Returns the records of all kept pieces, as a set.
+    /// Returns the union of all kept pieces' records.
     ///
     /// # Errors
-    /// `AllocError` if there is no memory.
+    /// `AllocError` if memory runs out.
     pub fn join(&self, alloc: Global) -> Result<RecordSet, AllocError>
         ensures { IfOk result (λ set. records_of set ≡ united (contents_in (seen_pieces self.now))) }
     {
@@ -212,10 +212,10 @@ impl Pieces {
         joined(alloc, parts)
     }
 
-    /// Returns the records of all pieces that are kept once the change is made, as a set.
+    /// Returns the union of the records of all pieces that are kept after the change.
     ///
     /// # Errors
-    /// `AllocError` if there is no memory.
+    /// `AllocError` if memory runs out.
     pub fn join_with(&self, alloc: Global, change: &Change) -> Result<RecordSet, AllocError>
         ensures { IfOk result
             (λ set. records_of set ≡ united (contents_in (changed change.now (seen_pieces self.now)))) }
@@ -232,7 +232,7 @@ impl Pieces {
     }
 }
 
-/// Returns the records of kept pieces, each a set of its own.
+/// Returns the set of records of each piece.
 fn parts_of(alloc: Global, all: &[Kept]) -> Result<Vec<RecordSet>, AllocError>
     ensures { IfOk result (λ parts. map records_of parts.items ≡ sets_kept all.now) }
 {
@@ -243,8 +243,7 @@ fn parts_of(alloc: Global, all: &[Kept]) -> Result<Vec<RecordSet>, AllocError>
     Ok(parts)
 }
 
-/// Returns the records of sets in any order, as one set. Of sets that stand one behind the other none is gone through
-/// twice.
+/// Returns the union of the sets. Sorts them first, so that sets that don't overlap are joined in one pass.
 fn joined(alloc: Global, mut parts: Vec<RecordSet>) -> Result<RecordSet, AllocError>
     ensures { IfOk result (λ set. records_of set ≡ all_records (map records_of parts.items)) }
 {
@@ -252,7 +251,7 @@ fn joined(alloc: Global, mut parts: Vec<RecordSet>) -> Result<RecordSet, AllocEr
     RecordSet::join(alloc, &parts)
 }
 
-/// Returns the least LSN of a set, 0 where it has no record.
+/// Returns the least LSN of a set, 0 if it has no record.
 fn first_lsn(set: &RecordSet) -> u64 {
     match set.as_slice().first() {
         Some(packet) => packet.lsn(),

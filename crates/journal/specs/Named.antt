@@ -1,14 +1,14 @@
--- The name of no table, and the plan of no group.
+-- Placeholders: a table and a plan.
 use Rattle.std.specs.Prelude.{[]}
 use Rattle.atomic_table.specs.Seated.{TableId}
 use Rattle.volume_model.specs.Formula.Formula.{member}
 use Rattle.volume_model.specs.Plan.{Plan}
 
--- the name of no table
+-- a placeholder table
 abbrev pub no_table : TableId
 no_table = record { words = 0; slots = 0; views_name = 0; atom = 0; block = 0; offset = 0; slot_names = [] }
 
--- the plan of no group
+-- a plan without groups
 abbrev pub no_plan : Plan
 no_plan =
     record {

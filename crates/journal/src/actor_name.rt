@@ -1,4 +1,4 @@
-//! Which actor an event is a step of.
+//! The actor of an event.
 
 ghost use Rattle.std.specs.Prelude.{◌≡◌};
 ghost use Rattle.volume_model.specs.Actor.{actor_of};

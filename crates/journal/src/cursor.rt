@@ -1,4 +1,4 @@
-//! Where an actor stands in the history.
+//! An actor's cursor in the history.
 
 ghost use Rattle.std.specs.Prelude.{◌≡◌, length, []};
 ghost use Rattle.std.specs.Coded.{Coded-set};
@@ -10,8 +10,8 @@ use crate::history::{History, LogPrefix};
 use crate::row::Site;
 use std::marker::PhantomData;
 
-/// An actor's place in the history: the prefix up to its last entry, `number` entries long. It lies under the actor's
-/// lock, beside the actor.
+/// An actor's cursor: the prefix of the history up to the actor's last entry, `number` entries long. The actor's lock
+/// protects it too.
 #[derive(Drop)]
 pub struct ActorCursor<L: Site> {
     pub(crate) who: ActorName,
@@ -38,7 +38,7 @@ impl<L: Site> ActorCursor<L> {
         }
     }
 
-    // Notes that the actor has made a step, which ends the history.
+    // Records a step of the actor, which is the last one of the history.
     pub(crate) fn advance(&mut self, seen: LogPrefix, number: usize)
         requires { (front_book seen ≡ L.history) × (length (front_log seen) ≡ number) }
         ensures { (self.new.who ≡ self.old.who) × (self.new.number ≡ number)

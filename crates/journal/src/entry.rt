@@ -1,4 +1,4 @@
-//! The entry of a step, the note of a refusal, and the receipt that a caller gets.
+//! Entries of steps, notes of refusals, and receipts for callers.
 
 use volume_model::Fault;
 use wire::Messages;
@@ -24,10 +24,10 @@ pub struct Entry {
 pub struct Note {
     /// The refused event.
     pub event: Event,
-    /// The fault.
+    /// Why it was refused.
     pub fault: Fault,
-    /// The journal's length at the refusal. In its state after that many entries the actor refuses the event with
-    /// this fault.
+    /// The journal's length at the refusal. The actor refuses the event with this fault in its state after that many
+    /// entries.
     pub number: usize,
 }
 

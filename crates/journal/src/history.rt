@@ -1,5 +1,4 @@
-//! The history of all steps, which exists in proofs alone: its one keeper appends to it, and others know prefixes of
-//! it.
+//! The history of all steps, which exists only in proofs. Its one keeper appends to it; others have prefixes of it.
 
 ghost use Rattle.std.specs.Prelude.{◌≡◌, true, [], length};
 ghost use Rattle.std.specs.Coded.{Coded-set};
@@ -13,15 +12,15 @@ use std::collections::LinkedList;
 use std::marker::{Brand, PhantomData};
 use std::mem;
 
-/// What a seat knows: whether it keeps the history, a prefix of it, and a prefix to compare. No value of this type is
-/// made.
+/// The view of a seat: whether it keeps the history, its prefix, and a prefix to compare. Exists only in contracts: no
+/// value is made.
 pub struct Line {
     pub keeps: bool,
     pub log: LinkedList<Entry>,
     pub claim: LinkedList<Entry>,
 }
 
-/// The rule: what seats know are prefixes of what the keeper knows.
+/// The rule: each seat's prefix is a prefix of the keeper's history.
 pub struct Begun;
 
 impl TableRule<(), Line, ()> for Begun {
@@ -33,7 +32,7 @@ impl TableRule<(), Line, ()> for Begun {
     ghost first = { λ _. line true [] [] };
 }
 
-/// A new seat knows the prefix that its maker knows.
+/// A new seat gets the prefix of the seat that made it.
 pub struct Fronts;
 
 impl Split<Line> for Fronts {
@@ -45,7 +44,7 @@ impl Split<Line> for Fronts {
     ghost right = { λ v. line false v.log [] };
 }
 
-/// A seat takes another's prefix for a comparison and gives it back.
+/// A seat borrows another's prefix to compare it, and gives it back.
 pub struct Claims;
 
 impl Join<Line> for Claims {
@@ -66,7 +65,7 @@ impl Split<Line> for Claims {
     ghost right = { λ v. line false v.claim [] };
 }
 
-/// Names an entry; each call picks one.
+/// A name for an entry. Each call uses its own.
 pub trait Named {
     ghost use Rattle.journal.specs.declared.entry.Entry.{Entry};
 
@@ -93,7 +92,7 @@ impl<N: Named> Play<(), Line> for Extend<N> {
         × (after.1 ≡ before.1) };
 }
 
-/// The keeper finds that the prefix which it compares is one of its history.
+/// The keeper learns that the borrowed prefix is one of its history.
 pub struct Compare;
 
 impl Play<(), Line> for Compare {
@@ -111,7 +110,7 @@ pub struct LogPrefix {
     ghost no_slot: { seat.me.1 ≡ [] },
 }
 
-/// The history as its keeper has it, before it has a name.
+/// The history with its keeper's seat, before it has a name.
 #[derive(Drop)]
 pub struct Opened {
     table: Table<(), Line, (), Begun, Global>,
@@ -122,7 +121,7 @@ pub struct Opened {
     ghost no_slot: { seat.me.1 ≡ [] },
 }
 
-/// The history as its keeper has it, under a name.
+/// The history with its keeper's seat, under a name.
 #[derive(Drop)]
 pub struct History<L: Site> {
     pub(crate) opened: Opened,
@@ -138,7 +137,7 @@ impl Opened {
     /// Makes an empty history.
     ///
     /// # Errors
-    /// `AllocError` if there is no memory for it.
+    /// `AllocError` if memory runs out.
     pub fn new(alloc: Global) -> Result<Opened, AllocError>
         ensures { IfOk result (λ h. log_of h ≡ []) }
     {
@@ -146,7 +145,7 @@ impl Opened {
         Ok(Opened { table, seat })
     }
 
-    // Adds the entry that is named.
+    // Appends the named entry.
     #[inline(always)]
     fn extend<N: Named>(&mut self, entry: &Entry)
         requires { entry.now ≡ N.entry }

@@ -7,18 +7,18 @@ use crate::actor_name::ActorName;
 use std::alloc::{AllocError, Global};
 use world::MEMBERS;
 
-/// The number of each actor's last entry, 0 if it has none.
+/// The number of each actor's last entry, from 1; 0 if it has none.
 #[derive(Drop)]
 pub struct LastEntries {
     /// The authority's number.
     authority: usize,
     /// Each client's number, by volume epoch. No client has volume epoch 0.
     clients: Vec<usize>,
-    /// Each node's number: 64 a group, one a member.
+    /// Each node's number: 64 for each group, one for each member.
     nodes: Vec<usize>,
 }
 
-// Returns so many actors that have made no step.
+// Makes `count` numbers, all 0.
 fn none_yet(alloc: Global, count: usize) -> Result<Vec<usize>, AllocError>
     ensures { IfOk result (λ v. v.items ≡ replicate count 0) }
 {
@@ -29,7 +29,7 @@ fn none_yet(alloc: Global, count: usize) -> Result<Vec<usize>, AllocError>
     Ok(made)
 }
 
-// Returns the place of a member of a group.
+// Returns the index of a member's number.
 fn place(group: u8, member: u8) -> usize
     ensures { result ≡ slot_of group member }
 {

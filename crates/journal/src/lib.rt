@@ -1,5 +1,5 @@
-//! The journal of the steps of many actors, each under its own lock. Callers enter their steps by passes; the journal
-//! is a run of the model.
+//! The journal lists the steps of many actors, each of which has its own lock. Callers enter their steps with passes.
+//! The journal is a run of the model.
 #![tactic(auto)]
 
 mod actor_name;

@@ -1,4 +1,4 @@
-//! The journal, as it lies under its lock.
+//! The journal, behind its lock.
 
 ghost use Rattle.std.specs.Prelude.{◌≡◌, ◌+◌, ◌<◌, ◌≤◌, ℕ, length, map, Some, vec_capacity, vec_len};
 ghost use Rattle.std.proofs.Props.{props};
@@ -30,8 +30,8 @@ use volume_model::Fault;
 use wire::Messages;
 use world::Event;
 
-/// The journal: unwritten cells, entries, the number of messages before each, each actor's last entry, and the number
-/// of joined groups. Its lists have room for all cells from the start.
+/// The journal: the unwritten cells, the entries, the number of messages before each, the number of each actor's last
+/// entry, and the number of groups that have joined. Its lists have room for all cells from the start.
 #[derive(Drop)]
 pub struct Log<'a, L: Site> {
     rest: &'a mut [Option<Entry>],
@@ -54,7 +54,7 @@ pub struct Log<'a, L: Site> {
     ghost counted: { book.total ≡ vec_len entries },
 }
 
-// Waits for good, which no step brings about.
+// Blocks forever. Called only if a count would pass 2^64, which can't happen.
 fn never<R: Wait, T>(rt: &R) -> T
     ensures { ⊥ }
 {
@@ -62,7 +62,7 @@ fn never<R: Wait, T>(rt: &R) -> T
     unreachable!()
 }
 
-// Writes an entry into the first of these cells and returns it.
+// Writes an entry into the first of these cells, and returns it.
 #[inline(always)]
 fn write<'a>(rest: &mut &'a mut [Option<Entry>], entry: Entry) -> &'a Entry
     requires { 0 < length rest.old.now }
@@ -72,7 +72,7 @@ fn write<'a>(rest: &mut &'a mut [Option<Entry>], entry: Entry) -> &'a Entry
     let Some(cell) = rest.split_off_first_mut() else {
         unreachable!()
     };
-    // What stands in it is of a journal before, if the row had one.
+    // A cell can hold an entry of an earlier journal over the same row.
     if cell.is_some() {
         *cell = None;
     }
@@ -81,7 +81,7 @@ fn write<'a>(rest: &mut &'a mut [Option<Entry>], entry: Entry) -> &'a Entry
     written
 }
 
-// Returns the number after so many messages more. Past 2^64 it waits for good.
+// Returns the number of messages after `more` were made. Blocks forever if it passes 2^64.
 fn total<R: Wait>(rt: &R, messages: u64, more: usize) -> u64
     ensures { result ≡ messages + more }
 {
@@ -91,7 +91,7 @@ fn total<R: Wait>(rt: &R, messages: u64, more: usize) -> u64
     }
 }
 
-// Returns how many groups have joined after an event, of those that had before it. Past 2^64 it waits for good.
+// Returns the number of groups that have joined after an event. Blocks forever if it passes 2^64.
 fn joined_after<R: Wait>(rt: &R, joined: u64, event: &Event) -> u64
     ensures { result ≡ joined_after joined (event_of event.now) }
 {
@@ -101,7 +101,7 @@ fn joined_after<R: Wait>(rt: &R, joined: u64, event: &Event) -> u64
     }
 }
 
-// Returns a place between two others, so many steps behind the first or before the second.
+// Returns the place `step` places after the first or before the second of two.
 fn probe(low: usize, high: usize, step: usize, ahead: bool) -> usize
     requires { (0 < step) × (low + step < high) }
     ensures { (low < result) × (result < high) }
@@ -129,11 +129,11 @@ impl<'a, L: Site> Log<'a, L> {
     ghost use Rattle.journal.specs.PassSteps.{durable_in, made, IsElse, NamesEarlier, Stands};
     ghost use Rattle.journal.specs.Passes.{journal_of, kept_in, message_ref_message, message_ref_number, letter_step, cursor_number, marked, notes_of, seat_of, seen_at, steps_of, world_of, AddsRefusal, AddsStep, HasNoteRoom, HasPlace, HasStepRoom, SeesAll};
 
-    /// Makes an empty journal over a row of unwritten cells, for clients of volume epochs up to the last slot's and
-    /// the nodes of `groups` groups, of which `born` are there at birth.
+    /// Makes an empty journal over a row of cells, for `slots` client slots and the nodes of `groups` groups, of which
+    /// `born` exist at birth.
     ///
     /// # Errors
-    /// `AllocError` if there is no memory for its lists.
+    /// `AllocError` if memory runs out.
     pub fn new(
         alloc: Global,
         row: &'a mut Row,
@@ -165,8 +165,8 @@ impl<'a, L: Site> Log<'a, L> {
         })
     }
 
-    /// Returns whether the cursor is the actor's last entry here. If so, the actor is in the state that the journal's
-    /// run gives it. Of an actor that the journal has a place for it always is.
+    /// Returns whether the cursor is at the actor's last entry here. If so, the actor's state is the one that the
+    /// journal's run gives it. Always true for an actor that the journal has a place for.
     #[inline(always)]
     pub fn compare(&mut self, cursor: &mut ActorCursor<L>) -> bool
         ensures log { (self.new.entries ≡ self.old.entries) × (self.new.firsts ≡ self.old.firsts)
@@ -189,7 +189,7 @@ impl<'a, L: Site> Log<'a, L> {
         true
     }
 
-    /// Returns whether the journal keeps the actor's last number. If it doesn't, the actor has made no step.
+    /// Returns whether the journal has a place for the actor. If not, the actor has made no step.
     pub fn has_place(&self, who: ActorName) -> bool
         ensures { MatchBool result (HasPlace self.now (seen_who who)) (Agree (seen_who who) (opening L.plan)
             (world_of self.now)) }
@@ -197,7 +197,7 @@ impl<'a, L: Site> Log<'a, L> {
         self.lasts.get(who).is_some()
     }
 
-    /// Brings the pass up to the whole journal.
+    /// Brings the pass up to the end of the journal.
     #[inline(always)]
     pub fn catch_up(&mut self, pass: &mut Pass<'a, L>)
         ensures log { (self.new.entries ≡ self.old.entries) × (self.new.firsts ≡ self.old.firsts)
@@ -218,21 +218,21 @@ impl<'a, L: Site> Log<'a, L> {
         self.rest.is_empty()
     }
 
-    /// Returns the number of entries, which is the number of the last one.
+    /// Returns the number of entries.
     pub fn len(&self) -> usize
         ensures { result ≡ length (journal_of self.now) }
     {
         self.entries.len()
     }
 
-    /// Returns how many groups have joined.
+    /// Returns the number of groups that have joined.
     pub fn joined(&self) -> u64
         ensures { result ≡ groups_joined (world_of self.now).authority }
     {
         self.joined
     }
 
-    // Enters an entry, and answers what was seen then.
+    // Appends an entry. Returns the prefix that ends with it.
     #[inline(always)]
     fn append<R: Wait>(&mut self, rt: &R, entry: Entry, pass: &mut Pass<'a, L>) -> LogPrefix
         requires cell { 0 < length self.old.rest.now }
@@ -291,7 +291,7 @@ impl<'a, L: Site> Log<'a, L> {
         whole
     }
 
-    /// Enters the step of an actor whose lock the caller holds, and returns its receipt.
+    /// Enters the step of an actor whose lock the caller holds. Returns its receipt.
     #[inline(always)]
     pub fn enter<R: Wait>(
         &mut self,
@@ -353,7 +353,7 @@ impl<'a, L: Site> Log<'a, L> {
     /// Returns a copy of the events, in order.
     ///
     /// # Errors
-    /// `AllocError` if there is no memory for the copy.
+    /// `AllocError` if memory runs out.
     pub fn events(&self, alloc: Global) -> Result<Vec<Event>, AllocError>
         ensures { IfOk result (λ made. events_of made.items ≡ events (journal_of self.now)) }
     {
@@ -364,8 +364,7 @@ impl<'a, L: Site> Log<'a, L> {
         Ok(made)
     }
 
-    // Returns the place of the step that made a message, looked for between two places: from the one or from the other
-    // on, in steps that double.
+    // Finds the entry that made a message by galloping search between two places, from the first or from the last one.
     fn between(&self, first: usize, end: usize, ahead: bool, number: u64) -> usize
         requires within { (first < end) × (end ≤ vec_len self.now.entries) }
         requires made { (before L.plan (journal_of self.now) first < number)
@@ -389,8 +388,8 @@ impl<'a, L: Site> Log<'a, L> {
         low
     }
 
-    // Returns two places between which the step stands that made a message: the first one is this place, or the next
-    // one where the step stands behind that.
+    // Narrows the search for the entry that made a message: returns the given place and the next, or the next and the
+    // end.
     #[inline(always)]
     fn behind(&self, near: usize, end: usize, number: u64) -> (usize, usize)
         requires within { (near < end) × (end ≤ vec_len self.now.entries) }
@@ -410,8 +409,8 @@ impl<'a, L: Site> Log<'a, L> {
         (near, next)
     }
 
-    // Returns the place of the step that made a message: looked for behind this place where it stands there, else from
-    // the end on.
+    // Finds the entry that made a message: searches from `near` on if it isn't before that, else backwards from the
+    // end.
     #[inline(always)]
     fn maker(&self, near: usize, number: u64) -> usize
         requires { (0 < number) × (number ≤ self.now.messages) }
@@ -428,7 +427,7 @@ impl<'a, L: Site> Log<'a, L> {
         self.between(0, end, false, number)
     }
 
-    // Looks a message up by its number, beginning near this place. None where no step has made it.
+    // Looks a message up by its number; the search begins at `near`. Returns `None` if no step has made it.
     #[inline(always)]
     fn find_near(&mut self, near: usize, number: u64) -> Option<MessageRef<'a, L>>
         ensures log { (self.new.entries ≡ self.old.entries) × (self.new.firsts ≡ self.old.firsts)
@@ -455,7 +454,7 @@ impl<'a, L: Site> Log<'a, L> {
         })
     }
 
-    /// Shows that a message found before still has its number.
+    /// Shows that a message that was looked up before still has its number.
     #[inline(always)]
     pub fn has(&mut self, message_ref: &mut MessageRef<'a, L>)
         ensures log { journal_of self.new ≡ journal_of self.old }
@@ -468,8 +467,8 @@ impl<'a, L: Site> Log<'a, L> {
         history.opened.compare(&mut message_ref.seen);
     }
 
-    /// Looks a message up by its number and brings the pass up to the whole journal. Returns `None` if no step has
-    /// made it.
+    /// Looks a message up by its number, and brings the pass up to the end of the journal. Returns `None` if no step
+    /// has made it.
     #[inline(always)]
     pub fn seek(&mut self, pass: &mut Pass<'a, L>, number: u64) -> Option<MessageRef<'a, L>>
         ensures log { (self.new.entries ≡ self.old.entries) × (self.new.firsts ≡ self.old.firsts)
@@ -491,7 +490,7 @@ impl<'a, L: Site> Log<'a, L> {
         found
     }
 
-    /// Notes the model's refusal of an event, with the journal's length.
+    /// Notes the model's refusal of an event in the pass, with the journal's length.
     pub fn refuse(&self, pass: &mut Pass<'a, L>, event: Event, fault: Fault)
         requires settled { SeesAll pass.old self.now }
         requires noted { IsNoted fault }
@@ -503,7 +502,7 @@ impl<'a, L: Site> Log<'a, L> {
         pass.note(event, fault, self.entries.len());
     }
 
-    // Checks that each step and each note of the pass is in the journal.
+    // Shows that each step of the pass is in the journal, and each of its notes is true of it.
     fn check(&mut self, pass: &mut Pass<'a, L>)
         ensures log { self.new.entries ≡ self.old.entries }
         ensures stands { All (Stands L.plan (journal_of self.old)) (steps_of pass.old) }
@@ -515,8 +514,8 @@ impl<'a, L: Site> Log<'a, L> {
         self.catch_up(pass);
     }
 
-    /// Takes a pass back: each of its steps stands in the journal, and each of its notes is true of it. Returns its
-    /// part of the ledger and its seat on the board. Takes no memory.
+    /// Takes a pass back. Each of its steps is in the journal, and each of its notes is true of it. Returns its share
+    /// of the count of steps, and its seat on the board. Allocates nothing.
     pub fn take_back(&mut self, mut pass: Pass<'a, L>) -> (Share<L>, BoardSeat)
         ensures log { self.new.entries ≡ self.old.entries }
         ensures stands { All (Stands L.plan (journal_of self.old)) (steps_of pass.entry) }
@@ -538,8 +537,8 @@ impl<'a, L: Site> Log<'a, L> {
         self.book.audit(whole);
     }
 
-    /// Shows that the journal is a run of the model, and that each step stands behind the one that made the message
-    /// it names.
+    /// Shows that the journal is a run of the model, and that each step comes after the one that made the message it
+    /// names.
     pub fn replays(&self)
         ensures run { IsRun L.plan (journal_of self.now) }
         ensures before { NamesEarlier L.plan (journal_of self.now) }

@@ -1,4 +1,4 @@
-//! A message of the journal, lent by its entry.
+//! References to messages of the journal.
 
 ghost use Rattle.std.specs.Prelude.{◌≡◌, ◌+◌, ◌<◌, length, slice_get, Some};
 ghost use Rattle.std.proofs.Props.{props};
@@ -33,7 +33,7 @@ impl<'a, L: Site> MessageRef<'a, L> {
     ghost use Rattle.wire.specs.Message.{message_of};
     ghost use Rattle.journal.specs.Passes.{message_ref_message, message_ref_number};
 
-    /// Returns the message's number. Messages are numbered from 1 in the order they were made.
+    /// Returns the message's number. Messages are numbered from 1 in the order in which they were made.
     pub fn number(&self) -> u64
         ensures { result ≡ message_ref_number self.now }
     {

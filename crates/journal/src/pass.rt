@@ -1,4 +1,4 @@
-//! What one caller did.
+//! Passes: what one caller did.
 
 ghost use Rattle.std.specs.Prelude.{◌≡◌, ◌<◌, ◌≤◌, ℕ, length, All, vec_len, []};
 ghost use Rattle.std.proofs.Props.{props};
@@ -33,7 +33,7 @@ pub struct Pass<'a, L: Site> {
     pub(crate) share: Share<L>,
     pub(crate) steps: Vec<PassStep<'a, L>>,
     pub(crate) notes: Vec<Note>,
-    /// The entry that made the last message found; the next search starts there.
+    /// The place of the entry that made the last message looked up. The next search begins there.
     pub(crate) near: usize,
     pub(crate) seen: LogPrefix,
     pub(crate) seat: BoardSeat,
@@ -57,7 +57,7 @@ impl<'a, L: Site> Pass<'a, L> {
     ghost use Rattle.board.specs.Seats.{board_table, IsSeatIn};
     ghost use Rattle.journal.specs.Passes.{steps_of, notes_of, seat_of, HasNoteRoom, HasStepRoom};
 
-    /// Makes a pass without steps, of an empty journal.
+    /// Makes a pass without steps, over an empty journal.
     pub fn new(
         alloc: Global,
         share: Share<L>,
@@ -84,7 +84,7 @@ impl<'a, L: Site> Pass<'a, L> {
     /// Reserves room for a step and a note.
     ///
     /// # Errors
-    /// `AllocError` if there is no memory; the pass is unchanged.
+    /// `AllocError` if memory runs out. The pass is unchanged.
     #[inline(always)]
     pub fn reserve(&mut self) -> Result<(), AllocError>
         ensures same { (steps_of self.new ≡ steps_of self.old) × (notes_of self.new ≡ notes_of self.old)
@@ -97,7 +97,7 @@ impl<'a, L: Site> Pass<'a, L> {
         self.grow()
     }
 
-    // Makes room where one of the lists has none: apart, since mostly both have.
+    // Reserves room in both lists. Out of line, since mostly both have room.
     #[inline(never)]
     fn grow(&mut self) -> Result<(), AllocError>
         ensures same { (steps_of self.new ≡ steps_of self.old) × (notes_of self.new ≡ notes_of self.old)
@@ -108,7 +108,7 @@ impl<'a, L: Site> Pass<'a, L> {
         self.notes.reserve(1)
     }
 
-    // Keeps where the step stands that made the message which was found last.
+    // Remembers where the entry of the last looked-up message is.
     pub(crate) fn stay(&mut self, near: usize)
         ensures did { (self.new.steps ≡ self.old.steps) × (self.new.notes ≡ self.old.notes)
             × (seat_of self.new ≡ seat_of self.old) }
@@ -138,7 +138,7 @@ impl<'a, L: Site> Pass<'a, L> {
         });
     }
 
-    /// Raises the board's number to `durable` by the pass's seat.
+    /// Raises the board's number to `durable`, with the pass's seat.
     pub fn raise(&mut self, board: &Board, durable: u64)
         requires { board_table board.now ≡ L.board }
         ensures same { (steps_of self.new ≡ steps_of self.old) × (notes_of self.new ≡ notes_of self.old) }
@@ -148,8 +148,8 @@ impl<'a, L: Site> Pass<'a, L> {
         board.raise(&mut self.seat, durable);
     }
 
-    /// Returns the board's number, the greatest raised so far (0 if none), which is at least all that the pass raised
-    /// or read.
+    /// Returns the board's number: the greatest that was raised (0 if none), and at least all that the pass raised or
+    /// read.
     pub fn durable(&mut self, board: &Board) -> u64
         requires { board_table board.now ≡ L.board }
         ensures same { (steps_of self.new ≡ steps_of self.old) × (notes_of self.new ≡ notes_of self.old) }

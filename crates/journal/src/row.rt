@@ -1,11 +1,11 @@
-//! The cells in which the entries of a journal stand.
+//! The cells that hold the entries of a journal.
 
 use crate::entry::Entry;
 use std::alloc::{AllocError, Global};
 use std::marker::Brand;
 use std::sync::ledger::Ledger;
 
-/// Names a journal: its row of cells, its ledger and its plan. Each call of a program picks one.
+/// A name for a journal: its row of cells, its ledger and its plan. Each call of a program uses its own.
 pub trait Site: Ledger {
     ghost use Rattle.std.specs.Prelude.{ℕ, List};
     ghost use Rattle.atomic_table.specs.Seated.{TableId};
@@ -23,7 +23,7 @@ pub trait Site: Ledger {
     // The table of the journal's history.
     ghost history: { TableId };
 
-    // How many client slots there are.
+    // The number of client slots.
     ghost slots: { ℕ };
 }
 
@@ -54,7 +54,7 @@ impl Row {
     /// Makes a row of `cells` unwritten cells.
     ///
     /// # Errors
-    /// `AllocError` if there is no memory for them.
+    /// `AllocError` if memory runs out.
     pub fn new(alloc: Global, cells: usize) -> Result<Row, AllocError>
         ensures { IfOk result (λ row. vec_len row.cells ≡ cells) }
     {

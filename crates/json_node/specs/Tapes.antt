@@ -11,6 +11,6 @@ use Rattle.json_node.specs.declared.on_tape.TapeNode.{TapeNode}
 abbrev pub data_of : TapeNode → Data
 data_of n = or_null (data_at n.element)
 
--- of a text of JSON the root has the value that serde_json reads, and there is none where it reads none
+-- for the tokens of a JSON text, the root is the value that serde_json reads; there is none if it reads none
 abbrev pub IsRootOf : List Token → Option TapeNode → Type 0
 IsRootOf ts root = (text : List ℕ) → ts ≡ tokens text → IsSome (document text) → option_map data_of root ≡ read text

@@ -22,7 +22,7 @@ pub trait Node: Drop {
     fn is_number(&self) -> bool
         ensures { result ≡ is_some (as_number (means self.now)) };
 
-    /// Returns the node's whole number from 0, which is written in digits alone.
+    /// Returns the node's value, if it is a whole number from 0 that is written in digits only.
     fn as_u64(&self) -> Option<u64>
         ensures { result ≡ option_and_then as_u64 (as_number (means self.now)) };
 

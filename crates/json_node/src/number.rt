@@ -19,7 +19,7 @@ fn digit(byte: u8) -> Option<u64>
     }
 }
 
-/// Returns the number that a text spells in one digit, or in two of which the first isn't 0.
+/// Returns the value of one digit, or of two of which the first isn't 0.
 fn short_number(text: &str) -> Option<u64>
     ensures small { IfSome result (λ n. n < 100) }
     ensures is { IfSome result (λ n. text.now ≡ decimal n) }
@@ -106,7 +106,7 @@ pub(crate) fn is_in_range(text: &str) -> bool
     }
 }
 
-/// Returns the whole number from 0 that a text of digits alone spells.
+/// Returns the value of a text, if it has only digits.
 pub(crate) fn whole_number(text: &str) -> Option<u64>
     ensures { result ≡ option_and_then as_u64 (number_of text.now) }
 {

@@ -1,4 +1,4 @@
--- What actions say of the slots, of messages and of durable points.
+-- Actions that need slots or messages, or move durable points.
 use Rattle.std.specs.Prelude.{◌≡◌, ◌≢◌, ℕ, List, Option, IsSome}
 use Rattle.volume_model.specs.Lists.{numbered}
 use Rattle.volume_model.specs.Message.{Message}
@@ -10,27 +10,27 @@ use Rattle.world.specs.declared.actions.ClientAction.{ClientAction}
 use Rattle.world.specs.declared.actions.ClientAction.TheVariants.{Open, Take}
 use Rattle.journal.specs.PassSteps.{durable_of}
 
--- a volume epoch is to be assigned, and that of the last slot was
+-- the action is Assign, and the last slot's volume epoch is assigned already
 abbrev pub IsSpent : AuthorityAction → Authority → ℕ → Type 0
 IsSpent Assign now slots = now.last_volume ≡ slots
 IsSpent other now slots = ⊥
 
--- if a volume epoch is to be assigned, that of the last slot wasn't
+-- if the action is Assign, the last slot's volume epoch isn't assigned yet
 abbrev pub IsLeft : AuthorityAction → Authority → ℕ → Type 0
 IsLeft Assign now slots = now.last_volume ≢ slots
 IsLeft other now slots = Unit {0}
 
--- a message was found among these, if the event takes one, and it is this
+-- if the event takes a message, found is that message among these
 abbrev pub IsFound : List Message → Event → Option Message → Type 0
 IsFound made (Event.Take volume message) found = IsSome found × (numbered made message ≡ found)
 IsFound made other found = Unit {0}
 
--- a message was found, if the action takes one
+-- if the action takes a message, one was found
 abbrev pub HasFound : ClientAction → Option Message → Type 0
 HasFound (Take message) found = IsSome found
 HasFound other found = Unit {0}
 
--- the durable point that a step shows: the client's, if the action may move it
+-- the durable point in a step's entry: the client's if the action may move it, else 0
 abbrev pub action_durable : ClientAction → Client → ℕ
 action_durable (Take message) now = durable_of now
 action_durable Open now = durable_of now

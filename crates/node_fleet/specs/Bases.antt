@@ -1,4 +1,4 @@
--- What contracts see of the base of a fleet.
+-- The base of a fleet as seen by contracts.
 use Rattle.std.specs.Prelude.{◌≡◌, ℕ, List, Option, All, vec_len}
 use Rattle.volume_model.specs.Plan.{Plan}
 use Rattle.atomic_table.specs.Seated.{TableId}
@@ -8,23 +8,22 @@ use Rattle.node_fleet.specs.Mails.{ids_of, AreNew, AreSeatsOf, HasNodes, HasNoSt
 use Rattle.journal.specs.Fronts.{book_of}
 use Rattle.node_fleet.specs.declared.base.Base.{Base}
 
--- for how many passes it is
+-- the number of passes of the base
 abbrev pub passes_of : Base → ℕ
 passes_of base = vec_len base.seats
 
--- which mailboxes it has
+-- the identities of its mailboxes
 abbrev pub mail_in : Base → List (Option MailboxId)
 mail_in base = ids_of base.mail
 
--- it has a new mailbox for each node that the plan names, and seats for each of its passes, at which nothing was done
+-- it has a new mailbox for each node that the plan names, and unused seats for each of its passes
 pub record HasMail (plan : Plan) (base : Base) : Type 0 where
   pub nodes : HasNodes plan base.mail
   pub fresh : AreNew (passes_of base) base.mail
   pub seats : All (λ s. AreSeatsOf base.mail s × HasNoSteps s) base.callers.items
   pub count : vec_len base.callers ≡ passes_of base
 
--- the board of the base has this table, its mailboxes are these, and its history and the ledger of its steps have these
--- names
+-- the base's board has this table, its mailboxes have these identities, and its history and ledger have these names
 pub record IsBaseOf (plan : Plan) (board history : TableId) (mail : List (Option MailboxId)) (name parts : ℕ)
     (base : Base) : Type 0 where
   pub board_is : board_table base.board ≡ board

@@ -7,9 +7,9 @@ use Rattle.node_fleet.specs.declared.mailbox.MailStep.TheVariants.{Posted, Colle
 use Rattle.node_fleet.specs.Views.{At}
 use Rattle.board.specs.Shares.{View, first_of, seats_in, share_of, shares}
 
--- The letters that were collected are `got`, and then `items` wait: a place is a number in this list.
+-- The letters got were collected, and items are queued; a place is an index of got ++ items.
 pub record Keeps (got items : List (Option ℕ)) (views : List (List MailStep)) : Type 0 where
-  -- one place has one letter
+  -- each place has one letter
   pub posted : (p i place : ℕ) (x : Option ℕ) → At views p i (Posted place x) → get_elem? (got ++ items) place ≡ some x
   pub posted_once : (p i q j place : ℕ) (x y : Option ℕ) → At views p i (Posted place x) → At views q j (Posted place y)
       → (p ≡ q) × (i ≡ j)
@@ -19,41 +19,41 @@ pub record Keeps (got items : List (Option ℕ)) (views : List (List MailStep)) 
   pub collected : (p i place : ℕ) (x : Option ℕ) → At views p i (Collected place x) → get_elem? got place ≡ some x
   pub collected_once : (p i q j place : ℕ) (x y : Option ℕ) → At views p i (Collected place x) → At views q j
       (Collected place y) → (p ≡ q) × (i ≡ j)
-  -- in the order of places
+  -- each seat collects in the order of places
   pub in_order : (p i j k l : ℕ) (x y : Option ℕ) → i < j → At views p i (Collected k x) → At views p j (Collected l y)
       → k < l
 
--- how many seats there are, and a view of some of them
+-- the number of all seats, and a view of some of them
 abbrev pub Knows : Type 0 → Type 0
 Knows A = ℕ × View A
 
 abbrev pub views_in : {A : Type 0} → List (Knows A) → List (View A)
 views_in views = map (λ v. v.1) views
 
--- each view that stands for a seat knows how many there are
+-- each view that has a seat knows the number of all seats
 abbrev pub KnowAll : {A : Type 0} → ℕ → List (Knows A) → Type 0
 KnowAll {A} seats views = (p : ℕ) (v : Knows A) → get_elem? views p ≡ some v → 0 < share_of v.1 → v.0 ≡ seats
 
--- the views know for how many seats they stand together, and the steps of these keep the rule
+-- the views have as many seats together as they know, and the steps of these seats follow the rule
 abbrev pub IsMailbox : List (Option ℕ) → List (Knows MailStep) → Type 0
 IsMailbox items views = KnowAll (shares (views_in views)) views
     × ((got : List (Option ℕ)) × Keeps got items (seats_in (views_in views)))
 
--- the steps of exactly these seats keep the rule of a mailbox: some letters were collected, and some wait
+-- the steps of exactly these seats follow the rule of a mailbox, for some collected and some queued letters
 abbrev pub AreKept : List (List MailStep) → Type 0
 AreKept views = (got : List (Option ℕ)) × (items : List (Option ℕ)) × Keeps got items views
 
--- one more step: the letter was posted at some place
+-- one more step: the letter was posted at a place
 abbrev pub AddsPosted : List MailStep → Option ℕ → List MailStep → Type 0
 AddsPosted before letter after = (place : ℕ) × (after ≡ before ++ Posted place letter ∷ [])
 
--- one more step: the letter was collected at some place, above all that were collected before
+-- one more step: the letter was collected from a place above all places from which this seat collected before
 abbrev pub AddsCollected : List MailStep → Option ℕ → List MailStep → Type 0
 AddsCollected before letter after =
     (place : ℕ) × (after ≡ before ++ Collected place letter ∷ [])
     × ((i k : ℕ) (x : Option ℕ) → get_elem? before i ≡ some (Collected k x) → k < place)
 
--- a view of one seat has one step more
+-- a view of one seat has one more step
 abbrev pub Adds : Knows MailStep → MailStep → Knows MailStep → Type 0
 Adds before step after = after ≡ (before.0, (before.1.0, (first_of before.1.1 ++ step ∷ []) ∷ []))
 

@@ -1,4 +1,4 @@
--- That seats are of mailboxes, and that mailboxes are new, has one proof at most, so that it can be a ghost field.
+-- Facts about seats and mailboxes have at most one proof, so that they can be ghost fields.
 use Rattle.std.proofs.Props.{props}
 use Rattle.std.proofs.Common.{ℕ, List, [], ◌∷◌, Option, Some, None}
 use Rattle.node_fleet.specs.declared.mailbox.MailSeat.{MailSeat}

@@ -1,4 +1,4 @@
--- What contracts see of a node's actor, and what it does.
+-- A node's actor as seen by contracts.
 use Rattle.std.specs.Prelude.{ℕ, Option}
 use Rattle.std.specs.declared.sync.ledger.Ledger.{Ghosts as LedgerGhosts}
 use Rattle.volume_model.specs.Message.{Message}
@@ -9,18 +9,18 @@ use Rattle.journal.specs.declared.row.Site.{Ghosts as SiteGhosts}
 use Rattle.node_fleet.specs.declared.node.NodeActor.{NodeActor}
 
 module _ {X : Type 0} {s : SiteGhosts X} {l : LedgerGhosts X} where
-  -- its group
+  -- the group of a node
   abbrev pub actor_group : NodeActor X s l → ℕ
   actor_group actor = actor.group
 
-  -- the member whose node it is
+  -- the member of a node
   abbrev pub actor_member : NodeActor X s l → ℕ
   actor_member actor = actor.member
 
-  -- the node of the model that it is
+  -- the node of the model for the actor
   abbrev pub actor_node : NodeActor X s l → Node
   actor_node actor = node_of actor.segment
 
-  -- what it does with a message that was found
+  -- its answer to a message that was looked up
   abbrev pub delivery_of : NodeActor X s l → Option Message → NodeAnswer
   delivery_of actor found = deliver s.plan actor.group actor.member (node_of actor.segment) found

@@ -1,4 +1,4 @@
--- What contracts see of a pass of a fleet.
+-- A pass of a fleet as seen by contracts.
 use Rattle.std.specs.Prelude.{◌≡◌, ℕ, List, [], Result}
 use Rattle.volume_model.specs.declared.fault.Fault.{Fault}
 use Rattle.volume_model.specs.Judging.{Refusal}
@@ -20,31 +20,31 @@ module _ {X : Type 0} {f : FleetGhosts X} {s : SiteGhosts X} where
   abbrev pub steps_of : Pass X f s → List Made
   steps_of pass = journal.steps_of pass.entered
 
-  -- what it was refused
+  -- the refusals of a pass
   abbrev pub notes_of : Pass X f s → List Refusal
   notes_of pass = journal.notes_of pass.entered
 
-  -- what it raised and read on the board
+  -- what the pass raised and read on the board
   abbrev pub seat_of : Pass X f s → List BoardStep
   seat_of pass = journal.seat_of pass.entered
 
-  -- what it posted and collected at the mailbox of a node
+  -- what the pass posted and collected at the mailbox of a node
   abbrev pub mail_of : Pass X f s → ℕ → ℕ → List MailStep
   mail_of pass group member = steps_at pass.mail (slot_of group member)
 
-  -- it has made no step, was refused nothing, has raised and read nothing, and has posted and collected nothing
+  -- the pass has made no step, has no note, and has used neither the board nor a mailbox
   abbrev pub IsFresh : Pass X f s → Type 0
   IsFresh pass = (steps_of pass ≡ []) × (notes_of pass ≡ []) × (seat_of pass ≡ []) × HasNoSteps pass.mail
 
-  -- it has posted and collected nothing more
+  -- the pass has posted and collected nothing more
   abbrev pub IsMailSame : Pass X f s → Pass X f s → Type 0
   IsMailSame before after = after.mail ≡ before.mail
 
-  -- it has made no step and no note more, and nothing on the board
+  -- the pass has no more steps or notes, and hasn't used the board
   abbrev pub IsEntrySame : Pass X f s → Pass X f s → Type 0
   IsEntrySame before after = after.entered ≡ before.entered
 
-  -- it has the step of this event more, as its receipt says, or a note of the refusal
+  -- the pass has one more step, with this event and as the receipt says, or a note of the refusal
   abbrev pub Records : Event → Result Receipt Fault → Pass X f s → Pass X f s → Type 0
   Records event result before after =
       RecordsCall event result (steps_of before) (steps_of after) (notes_of before) (notes_of after)

@@ -3,7 +3,7 @@ use Rattle.std.specs.Prelude.{◌≡◌, ℕ, ◌&&◌, nat_lt, List, Option, is
 use Rattle.volume_model.specs.Plan.{Plan, is_named}
 use Rattle.world.specs.Slots.{members, slot_of, in_slot}
 
--- something stands in the slot of each node that the plan names, and in no other
+-- exactly the slots of the nodes that the plan names are in use
 abbrev pub HasEach : {A : Type 0} → Plan → List (Option A) → Type 0
 HasEach plan slots = (group member : ℕ)
     → (nat_lt member members && is_some (in_slot (slice_get slots (slot_of group member)))) ≡ is_named plan group member

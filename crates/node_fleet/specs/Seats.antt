@@ -1,4 +1,4 @@
--- What contracts see of a mailbox and its seats.
+-- A mailbox and its seats as seen by contracts.
 use Rattle.std.specs.Prelude.{◌≡◌, ℕ, List, [], Option, length}
 use Rattle.atomic_table.specs.Seated.{TableId}
 use Rattle.atomic_table.specs.declared.badge.Badge.{Badge}
@@ -10,7 +10,7 @@ use Rattle.node_fleet.specs.declared.mailbox.MailStep.{MailStep}
 use Rattle.node_fleet.specs.declared.mailbox.MailSeat.{MailSeat}
 use Rattle.node_fleet.specs.declared.mailbox.Mailbox.{Mailbox}
 
--- which mailbox it is, and how many seats it has
+-- the identity of a mailbox, and the number of its seats
 pub record MailboxId : Type 0 where
   pub table : TableId
   pub key : Badge (Key (Option ℕ))
@@ -24,19 +24,19 @@ id_of m = record {
       m.seats;
 }
 
--- how many seats the mailbox has
+-- the number of seats of the mailbox
 abbrev pub seats_of : Mailbox → ℕ
 seats_of m = m.seats
 
--- for how many letters it has room
+-- the number of letters for which it has room
 abbrev pub capacity_of : Mailbox → ℕ
 capacity_of m = ruled_capacity (sends_on m.to)
 
--- the steps of each seat that was taken back, the last one first, of one that wasn't its own alone
+-- the steps of each seat that this one stands for: one seat, or several that were taken back, the last one first
 abbrev pub returned : MailSeat → List (List MailStep)
 returned seat = (view seat.pass).1.1
 
--- what the seat did, oldest first
+-- the steps of the seat, oldest first
 abbrev pub steps_of : MailSeat → List MailStep
 steps_of seat = first_of (returned seat)
 

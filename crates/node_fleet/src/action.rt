@@ -1,4 +1,4 @@
-//! How a node of a fleet performs an action.
+//! Actions of a fleet's nodes.
 
 ghost use Rattle.std.specs.Prelude.{◌≡◌};
 
@@ -22,13 +22,13 @@ impl<L: Site> NodeActor<L> {
     ghost use Rattle.node_fleet.specs.Ready.{IsStale};
     ghost use Rattle.node_fleet.specs.Nodes.{actor_group, actor_member, actor_node};
 
-    /// Performs an action without a message and enters the step. The caller holds the node's lock and the journal's.
+    /// Performs an action and enters the step. The caller holds the node's lock and the journal's.
     ///
     /// # Errors
-    /// The node is unchanged. [`StaleCursor`](Halt::StaleCursor) if the cursor isn't the node's last entry. Else, and
-    /// noted: `NoActor` if the group hasn't joined; the node's own refusal, of [`NodeAction::Hydrate`]
-    /// `AlreadyWhole`, `NotEnough` or `Full`, of [`NodeAction::Offer`] `NotWhole`, `NotInstalled` or `NoRecord`;
-    /// `JournalFull` if no cell is left. `NoMemory`, which isn't noted.
+    /// The node is unchanged. [`StaleCursor`](Halt::StaleCursor) if the cursor isn't at the node's last entry;
+    /// `NoMemory` if memory runs out. All others are noted: `NoActor` if the group hasn't joined; for
+    /// [`NodeAction::Hydrate`] `AlreadyWhole`, `NotEnough` or `Full`; for [`NodeAction::Offer`] `NotWhole`,
+    /// `NotInstalled` or `NoRecord`; `JournalFull` if no cell is left.
     pub fn act<'a, R: Wait>(
         &mut self,
         rt: &R,

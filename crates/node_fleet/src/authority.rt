@@ -38,7 +38,7 @@ impl<L: Site> AuthorityActor<L> {
     ghost use Rattle.node_fleet.specs.RecordsAttempt.{Enters, IsExact, PassRecords};
     ghost use Rattle.node_fleet.specs.Ready.{IsStale};
 
-    /// Makes the actor of a new volume's authority, which has made no step.
+    /// Makes the actor of a new volume's authority.
     pub fn new(cursor: ActorCursor<L>, authority: Authority) -> AuthorityActor<L>
         requires who { marked cursor ≡ TheAuthority }
         requires plan { authority_plan authority ≡ L.plan }
@@ -50,12 +50,10 @@ impl<L: Site> AuthorityActor<L> {
     /// Performs an action and enters the step. The caller holds the authority's lock and the journal's.
     ///
     /// # Errors
-    /// The authority is unchanged. [`StaleCursor`](Halt::StaleCursor) if the cursor isn't the authority's last entry.
-    /// Else, and noted: the authority's own refusal, as [`AuthorityAction::admitted_by`] gives it (`EpochsSpent` if no
-    /// volume epoch is left; `NoGroup` if the group hasn't joined; `NotInPlan` if its configuration has no such
-    /// child; `Superseded` if the volume epoch isn't the last one assigned; `AllGrown` if every group has joined);
-    /// `NoSlot` if an assignment would pass the last slot; `JournalFull` if no cell is left. `NoMemory`, which isn't
-    /// noted. Never `NoMessage`.
+    /// The authority is unchanged. [`StaleCursor`](Halt::StaleCursor) if the cursor isn't at the authority's last
+    /// entry; `NoMemory` if memory runs out. All others are noted: those of [`AuthorityAction::admitted_by`]
+    /// (`EpochsSpent`, `NoGroup`, `NotInPlan`, `Superseded`, `AllGrown`); `NoSlot` if an assignment would pass the last
+    /// slot; `JournalFull` if no cell is left.
     pub fn act<'a, R: Wait>(
         &mut self,
         rt: &R,

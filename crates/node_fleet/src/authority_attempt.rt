@@ -1,4 +1,4 @@
-//! The attempt of an authority's action, before it is entered.
+//! Attempts of the authority's actions. They aren't entered into the journal yet.
 
 ghost use Rattle.std.specs.Prelude.{false, ◌≡◌, IfErr, IfOk, MatchBool, OnErr, OnOk};
 ghost use Rattle.volume_model.specs.declared.fault.Fault.TheVariants.{JournalFull};
@@ -31,7 +31,8 @@ fn is_spent(authority: &Authority, action: AuthorityAction, slots: u32) -> bool
 /// Attempts an action of the authority.
 ///
 /// # Errors
-/// The authority is unchanged. The model's refusal; then `NoSlot`; then `JournalFull` if `full`; then `NoMemory`.
+/// The authority is unchanged. The first of: the model's refusal; `NoSlot` for an assignment beyond the last slot;
+/// `JournalFull` if `full`; `NoMemory` if memory runs out.
 pub(crate) fn try_step(
     alloc: Global,
     authority: &mut Authority,

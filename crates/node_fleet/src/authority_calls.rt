@@ -1,4 +1,4 @@
-//! The authority's calls of a fleet.
+//! Calls of a fleet for its authority.
 
 ghost use Rattle.std.specs.Prelude.{◌≡◌, IfErr};
 ghost use Rattle.journal.specs.Passes.{seat_of};
@@ -21,7 +21,7 @@ impl<'a, L: FleetSite> Fleet<'a, L> {
     ghost use Rattle.volume_model.specs.declared.fault.Fault.TheVariants.{NoMessage};
     ghost use Rattle.node_fleet.specs.declared.halt.Halt.TheVariants.{Refused};
 
-    // Tries once what the authority is asked to do.
+    // Takes the locks and attempts an action of the authority.
     fn try_authority<R: Wait>(
         &self,
         rt: &R,
@@ -37,7 +37,7 @@ impl<'a, L: FleetSite> Fleet<'a, L> {
         actor.act(rt, self.alloc, &mut log, pass, action, self.slots)
     }
 
-    // Enters what the authority does, by the journal's pass.
+    // Performs an action of the authority and records it in the pass.
     pub(crate) fn enter_authority<R: Wait>(
         &self,
         rt: &R,

@@ -1,4 +1,4 @@
-//! What a fleet stands on, before its site has a name.
+//! The parts of a fleet that exist before its site has a name.
 
 ghost use Rattle.std.specs.Prelude.{length, vec_len, ◌<◌, ◌≡◌, All};
 ghost use Rattle.std.proofs.Props.{props};
@@ -12,8 +12,8 @@ use plan::CheckedPlan;
 use std::alloc::{AllocError, Global};
 use std::sync::ledger::Blank;
 
-/// The board, the mailboxes, the empty history and the ledger of a fleet that is still to be made, with a part and
-/// seats for each pass.
+/// The board, the mailboxes, the empty history and the ledger of a new fleet, with seats and a share of the ledger for
+/// each pass.
 #[derive(Drop)]
 pub struct Base {
     pub(crate) board: Board,
@@ -36,7 +36,7 @@ impl Base {
     /// Makes the base of a fleet over a plan, with `passes` passes.
     ///
     /// # Errors
-    /// `AllocError` if there is no memory for it.
+    /// `AllocError` if memory runs out.
     pub fn new(alloc: Global, plan: &CheckedPlan, passes: usize) -> Result<Base, AllocError>
         requires { 0 < passes }
         ensures count { IfOk result (λ base. passes_of base ≡ passes) }

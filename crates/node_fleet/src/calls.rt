@@ -29,12 +29,13 @@ impl<'a, L: FleetSite> Fleet<'a, L> {
     ghost use Rattle.node_fleet.specs.Mail.{AddsCollected, AddsPosted};
     ghost use Rattle.node_fleet.specs.Mails.{ChangesAt};
 
-    /// Makes a step of the authority: assigns a volume epoch, advances a group to a child of its configuration, makes
-    /// a View for a client, or lets the next group join.
+    /// Makes a step of the authority: assigns a volume epoch, advances a group to a child of its configuration, makes a
+    /// View for a client, or lets the next group join.
     ///
     /// # Errors
-    /// The authority's refusal, as [`AuthorityActor::act`](crate::authority::AuthorityActor::act) gives it; `NoSlot` of
-    /// an assignment beyond the last slot; `JournalFull` if no cell is left; `NoMemory`, which isn't noted.
+    /// The authority's refusal, as from [`AuthorityActor::act`](crate::authority::AuthorityActor::act); `NoSlot` for an
+    /// assignment beyond the last slot; `JournalFull` if no cell is left; `NoMemory` if memory runs out, which isn't
+    /// noted.
     pub fn advance<R: Wait>(
         &self,
         rt: &R,
@@ -49,13 +50,13 @@ impl<'a, L: FleetSite> Fleet<'a, L> {
         self.enter_authority(rt, &mut pass.entered, action)
     }
 
-    /// Makes a step of a client. After a Take or an Open the board is raised to the client's durable point under the
-    /// client's lock. The journal gets a copy of the changes that are issued; [`Fleet::issue`] makes none.
+    /// Makes a step of a client. After a Take or an Open it raises the board to the client's durable point, still under
+    /// the client's lock. The journal gets a copy of the changes of an Issue; [`Fleet::issue`] avoids the copy.
     ///
     /// # Errors
-    /// `NoMessage` if no step has made the message to take; it isn't noted. The client's refusal, as
-    /// [`ClientActor::act`](crate::client::ClientActor::act) gives it; a client without a slot is one that no View has
-    /// reached. `JournalFull` if no cell is left. `NoMemory`, which isn't noted.
+    /// `NoMessage` if no step has made the message to take, which isn't noted. The client's refusal, as from
+    /// [`ClientActor::act`](crate::client::ClientActor::act); a client without a slot counts as unborn. `JournalFull`
+    /// if no cell is left. `NoMemory` if memory runs out, which isn't noted.
     pub fn client_step<R: Wait>(
         &self,
         rt: &R,
@@ -75,11 +76,11 @@ impl<'a, L: FleetSite> Fleet<'a, L> {
         self.enter_client(rt, &mut pass.entered, volume, event)
     }
 
-    /// Issues a transaction of a client: as [`Fleet::client_step`] does, but the changes move into the journal's entry
-    /// or into the note of a refusal, without a copy.
+    /// Issues a transaction of a client, as [`Fleet::client_step`] does. The changes move into the journal's entry or
+    /// into the note of a refusal, without a copy.
     ///
     /// # Errors
-    /// Those of [`Fleet::client_step`] of an issue. The changes are gone after `NoMemory`.
+    /// Those of [`Fleet::client_step`] for an Issue. After `NoMemory` the changes are lost.
     pub fn issue<R: Wait>(
         &self,
         rt: &R,
@@ -100,13 +101,13 @@ impl<'a, L: FleetSite> Fleet<'a, L> {
         )
     }
 
-    /// Delivers a message to a node: looks it up, prepares the reaction under the node's lock alone, lends the
-    /// answers to the gate while the journal is free, then makes and enters the step.
+    /// Delivers a message to a node: looks it up, prepares the reaction under the node's lock, shows the answers to the
+    /// gate while the journal isn't locked, then makes and enters the step.
     ///
     /// # Errors
-    /// `NoActor` if the plan names no such node or its group hasn't joined. `NoMessage` if no step has made the
-    /// message; it isn't noted. The node's refusal, as [`NodeActor::react`](crate::node::NodeActor::react) gives it.
-    /// `JournalFull` if no cell is left. `NoMemory`, which isn't noted.
+    /// `NoActor` if the plan doesn't name such a node or its group hasn't joined. `NoMessage` if no step has made the
+    /// message, which isn't noted. The node's refusal, as from [`NodeActor::react`](crate::node::NodeActor::react).
+    /// `JournalFull` if no cell is left. `NoMemory` if memory runs out, which isn't noted.
     pub fn deliver<R: Wait, G: StepGate>(
         &self,
         rt: &R,
@@ -124,12 +125,12 @@ impl<'a, L: FleetSite> Fleet<'a, L> {
         self.enter_delivery(rt, &mut pass.entered, group, member, message, gate)
     }
 
-    /// Makes a step of a node without a message: hydrates, restarts or offers a record.
+    /// Makes a step of a node that takes no message: hydrates, restarts or offers a record.
     ///
     /// # Errors
-    /// `NoActor` if the plan names no such node or its group hasn't joined. The node's refusal, as
-    /// [`NodeActor::act`](crate::node::NodeActor::act) gives it. `JournalFull` if no cell is left. `NoMemory`, which
-    /// isn't noted.
+    /// `NoActor` if the plan doesn't name such a node or its group hasn't joined. The node's refusal, as from
+    /// [`NodeActor::act`](crate::node::NodeActor::act). `JournalFull` if no cell is left. `NoMemory` if memory runs
+    /// out, which isn't noted.
     pub fn node_step<R: Wait>(
         &self,
         rt: &R,
@@ -146,8 +147,8 @@ impl<'a, L: FleetSite> Fleet<'a, L> {
         self.enter_node(rt, &mut pass.entered, group, member, action)
     }
 
-    /// Returns the board's number: the greatest that any pass has raised so far (0 if none), at least all that this
-    /// pass raised or read. Takes no lock and no memory.
+    /// Returns the board's number: the greatest that any pass has raised (0 if none), and at least all that this pass
+    /// raised or read. Takes no lock and allocates nothing.
     pub fn durable(&self, pass: &mut Pass<'a, L>) -> u64
         ensures same { (steps_of pass.new ≡ steps_of pass.old) × (notes_of pass.new ≡ notes_of pass.old) }
         ensures read { seat_of pass.new ≡ seat_of pass.old ++ BoardStep.Read result ∷ [] }
@@ -165,7 +166,7 @@ impl<'a, L: FleetSite> Fleet<'a, L> {
         self.plan.names(group, member)
     }
 
-    /// Posts a message's number to a node; waits while its mailbox of 1,024 letters is full. Takes no memory.
+    /// Posts a message's number to a node. Blocks while the mailbox has 1,024 letters. Allocates nothing.
     pub fn post<R: Wait>(&self, rt: &R, pass: &mut Pass<'a, L>, group: u8, member: u8, message: u64)
         requires { is_named L.plan group member ≡ true }
         ensures same { IsEntrySame pass.old pass.new }
@@ -175,8 +176,8 @@ impl<'a, L: FleetSite> Fleet<'a, L> {
         self.mail.post(rt, &mut pass.mail, group, member, message);
     }
 
-    /// Takes a node's oldest letter; waits while there is none. Its place is above all that the pass has collected
-    /// there. `None` is the closing letter. Takes no memory.
+    /// Takes a node's oldest letter. Blocks while there is none. The letter's place is above all that this pass has
+    /// collected there. `None` is the closing letter. Allocates nothing.
     pub fn collect<R: Wait>(&self, rt: &R, pass: &mut Pass<'a, L>, group: u8, member: u8) -> Letter
         requires { is_named L.plan group member ≡ true }
         ensures same { IsEntrySame pass.old pass.new }
@@ -186,7 +187,7 @@ impl<'a, L: FleetSite> Fleet<'a, L> {
         self.mail.collect(rt, &mut pass.mail, group, member)
     }
 
-    /// Posts the closing letter to a node; waits while its mailbox is full. Takes no memory.
+    /// Posts the closing letter to a node. Blocks while the mailbox is full. Allocates nothing.
     pub fn close_mailbox<R: Wait>(&self, rt: &R, pass: &mut Pass<'a, L>, group: u8, member: u8)
         requires { is_named L.plan group member ≡ true }
         ensures same { IsEntrySame pass.old pass.new }

@@ -42,7 +42,7 @@ impl<L: Site> ClientActor<L> {
     ghost use Rattle.node_fleet.specs.Ready.{IsStale};
     ghost use Rattle.node_fleet.specs.Volumes.{actor_client, actor_volume, IsUnmade};
 
-    /// Makes the actor of a client at its cursor.
+    /// Makes the actor of a client with its cursor.
     pub fn new(cursor: ActorCursor<L>, client: Client) -> ClientActor<L>
         requires who { marked cursor ≡ Actor.Client (client_volume client) }
         requires plan { client_plan client ≡ L.plan }
@@ -59,7 +59,7 @@ impl<L: Site> ClientActor<L> {
         self.client.volume()
     }
 
-    /// Performs the action of an event, with the message that was found if it takes one, and enters the step.
+    /// Performs the action of an event, and enters the step. `found` is the message that was looked up for a Take.
     #[inline(always)]
     fn step<'a, R: Wait>(
         &mut self,
@@ -96,17 +96,16 @@ impl<L: Site> ClientActor<L> {
         commit_or_note(rt, log, cursor, pass, event, done, durable)
     }
 
-    /// Performs the action of an event, which is one of this client, and enters the step. The caller holds the client's
-    /// lock and the journal's.
+    /// Performs the action of an event of this client, and enters the step. The caller holds the client's lock and the
+    /// journal's.
     ///
     /// # Errors
-    /// The client is unchanged. `NoMessage` if no step has made the message to take; it isn't noted.
-    /// [`StaleCursor`](Halt::StaleCursor) if the cursor isn't the client's last entry. Else, and noted: the client's
-    /// own refusal, as [`Client::admits`] gives it (`NoActor` before its birth; `NotAddressed` or `NotInPlan` of a
-    /// message; `AlreadyDone`, `NotReady` or `LsnSpent` of a cut; `AlreadyDone` or `NotReady` of an opening; `NotOpen`
-    /// of an action of open writers; `BadTransaction`, `NotJoined`, `LsnSpent` or `LimitReached` of an issue;
-    /// `NoLogRecord` of a resend; `NoGroup` of a read); `JournalFull` if no cell is left. `NoMemory`, which isn't
-    /// noted.
+    /// The client is unchanged. [`StaleCursor`](Halt::StaleCursor) if the cursor isn't at the client's last entry;
+    /// `NoMessage` if no step has made the message to take; `NoMemory` if memory runs out. All others are noted: those
+    /// of [`Client::admits`] (`NoActor` before the birth; `NotAddressed` or `NotInPlan` for a Take; `AlreadyDone`,
+    /// `NotReady` or `LsnSpent` for a Cut; `AlreadyDone` or `NotReady` for an Open; `NotOpen` for actions of writers;
+    /// `BadTransaction`, `NotJoined`, `LsnSpent` or `LimitReached` for an Issue; `NoLogRecord` for a Resend; `NoGroup`
+    /// for a Read); `JournalFull` if no cell is left.
     #[inline(always)]
     pub fn act<'a, R: Wait>(
         &mut self,

@@ -1,4 +1,4 @@
-//! The attempt of a client's action, before it is entered.
+//! Attempts of clients' actions. They aren't entered into the journal yet.
 
 ghost use Rattle.std.specs.Prelude.{false, ◌≡◌, IfErr, IfOk, Ok, OnErr, OnOk};
 ghost use Rattle.writer_core.specs.Writers.{answered};
@@ -16,7 +16,7 @@ use world::{Client, ClientAction, ClientState};
 /// Attempts an action of a client.
 ///
 /// # Errors
-/// The client is unchanged. The model's refusal; then `JournalFull` if `full`; `NoMemory` if there is no memory.
+/// The client is unchanged. The first of: the model's refusal; `JournalFull` if `full`; `NoMemory` if memory runs out.
 #[inline(always)]
 pub fn try_step(
     alloc: Global,
@@ -45,7 +45,7 @@ pub fn try_step(
     client.act(alloc, action, found)
 }
 
-/// Returns a client's durable point, 0 before its opening.
+/// Returns a client's durable point, 0 before it opens.
 #[inline(always)]
 fn durable_point(client: &Client) -> u64
     ensures { result ≡ durable_of (seen_client client.now) }
@@ -57,7 +57,7 @@ fn durable_point(client: &Client) -> u64
     }
 }
 
-/// Returns the durable point that a step's entry shows: the client's if the action may move it, else 0.
+/// Returns the durable point for a step's entry: the client's if the action may move it, else 0.
 #[inline(always)]
 pub(crate) fn shown(client: &Client, action: ClientAction<'_>) -> u64
     ensures { result ≡ action_durable action.entry (seen_client client.now) }

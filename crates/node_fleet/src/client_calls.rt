@@ -1,4 +1,4 @@
-//! The clients' calls of a fleet.
+//! Calls of a fleet for its clients.
 
 ghost use Rattle.std.specs.Prelude.{◌≡◌, IfErr, IfOk, OnErr};
 ghost use Rattle.volume_model.specs.Actor.{actor_of, Actor};
@@ -43,8 +43,8 @@ impl<'a, L: FleetSite> Fleet<'a, L> {
         self.clients.get(volume as usize)
     }
 
-    // Refuses the event of a client that no View can have reached, with the message that was found if it is to take
-    // one. `StaleCursor` where it would be born, which nothing brings about.
+    // Refuses the event of an unborn client that has no slot; `found` is the message that was looked up for a Take.
+    // Returns `StaleCursor` if the message would be its birth, which can't happen.
     fn refuse_unborn(
         &self,
         log: &Log<'a, L>,
@@ -75,7 +75,7 @@ impl<'a, L: FleetSite> Fleet<'a, L> {
         }
     }
 
-    // Refuses the event of the client of a volume epoch that has no slot.
+    // Refuses the event of a client that has no slot.
     fn refuse_slotless<R: Wait>(
         &self,
         rt: &R,
@@ -108,7 +108,8 @@ impl<'a, L: FleetSite> Fleet<'a, L> {
         }
     }
 
-    // Attempts the event of a client. Its durable point is raised on the board if the event may move it.
+    // Takes the locks and attempts an event of a client. Raises the board to its durable point if the event may move
+    // that.
     #[inline(always)]
     fn try_client<R: Wait>(
         &self,
@@ -141,7 +142,7 @@ impl<'a, L: FleetSite> Fleet<'a, L> {
         Ok(receipt)
     }
 
-    // Enters the event of a client, by the journal's pass.
+    // Performs an event of a client and records it in the pass.
     pub(crate) fn enter_client<R: Wait>(
         &self,
         rt: &R,

@@ -19,7 +19,7 @@ impl<'a, L: Site> Journal<'a, L> {
     ghost use Rattle.journal.specs.Passes.{journal_of};
     ghost use Rattle.node_fleet.specs.Journals.{entries_in};
 
-    // Returns the journal of a fleet that is closed.
+    // Makes the journal of a closed fleet.
     pub(crate) fn of(log: Log<'a, L>) -> Journal<'a, L>
         ensures { entries_in result ≡ journal_of log.entry }
     {
@@ -36,7 +36,7 @@ impl<'a, L: Site> Journal<'a, L> {
     /// Returns a copy of the events, in order.
     ///
     /// # Errors
-    /// `NoMemory` if there is no memory for the copy.
+    /// `NoMemory` if memory runs out.
     pub fn events(&self, alloc: Global) -> Result<Vec<Event>, Fault>
         ensures events { IfOk result (λ made. events_of made.items ≡ events (entries_in self.now)) }
         ensures memory { IfErr result (λ fault. fault ≡ NoMemory) }

@@ -1,4 +1,4 @@
-//! Taking back the passes of a fleet.
+//! Takes back the passes of a fleet.
 
 ghost use Rattle.std.specs.Prelude.{length, map, sum_by, vec_len, ◌<◌, ◌≡◌, All};
 ghost use Rattle.volume_model.specs.Judging.{IsRefused};
@@ -16,7 +16,7 @@ use board::{Board, ReturnedSeats};
 use journal::Log;
 use std::sync::ledger::Share;
 
-/// What passes leave when they are taken back: their parts of the ledger, and their seats on the board and at the
+/// What remains of passes that were taken back: their shares of the ledger, and their seats at the board and the
 /// mailboxes.
 #[derive(Drop)]
 pub(crate) struct TakenBack<L: FleetSite> {
@@ -25,7 +25,7 @@ pub(crate) struct TakenBack<L: FleetSite> {
     pub(crate) mail: MailSeats,
 }
 
-/// Takes passes back: each of their steps stands in the journal, and each of their notes is true of it.
+/// Takes passes back: each of their steps is in the journal, and each of their notes is true of it.
 pub(crate) fn take_back<'a, L: FleetSite>(
     log: &mut Log<'a, L>,
     board: &Board,

@@ -1,4 +1,4 @@
-//! The actors of a volume, shared by threads, with their journal.
+//! The actors of a volume that threads share, and their journal.
 
 ghost use Rattle.std.specs.Prelude.{vec_len, ◌+◌, ◌≡◌};
 ghost use Rattle.std.specs.Arc.{arc_value};
@@ -27,8 +27,8 @@ use std::alloc::Global;
 use std::sync::{Arc, Mutex};
 use world::promised;
 
-/// The authority, clients and nodes of a volume, each under its own lock, and their journal under another. A step
-/// takes the actor's lock and then the journal's.
+/// The authority, clients and nodes of a volume, each with a lock, and their journal with another. A step takes the
+/// actor's lock and then the journal's.
 #[derive(Drop)]
 pub struct Fleet<'a, L: FleetSite> {
     pub(crate) alloc: Global,
@@ -36,9 +36,9 @@ pub struct Fleet<'a, L: FleetSite> {
     pub(crate) board: Board,
     pub(crate) mail: Mailboxes,
     pub(crate) authority: Mutex<AuthorityActor<L>>,
-    /// The clients by volume epoch, from 0 on; no client has epoch 0.
+    /// The clients by volume epoch, from 0 on. No client has epoch 0.
     pub(crate) clients: Vec<Mutex<ClientActor<L>>>,
-    /// 64 a group, one for each member that the plan names.
+    /// 64 slots for each group: one for each member, used if the plan names the member.
     pub(crate) nodes: Vec<Option<Mutex<NodeActor<L>>>>,
     pub(crate) journal: Mutex<Log<'a, L>>,
     pub(crate) slots: u32,
@@ -64,10 +64,10 @@ impl<'a, L: FleetSite> Fleet<'a, L> {
     ghost use Rattle.node_fleet.specs.Passes.{notes_of, seat_of, steps_of};
     ghost use Rattle.node_fleet.specs.Returned.{MailIsKept};
 
-    /// Closes the fleet and returns its journal: it has all steps of all passes and no others, each of their notes is
-    /// true of it, and every promise of the volume holds of its run. The board's number, and each number read, is as
-    /// the board's rule says of exactly these passes. At each node's mailbox, of what exactly these passes posted and
-    /// collected, one place has one letter and is collected at most once, in the order of places. Takes no memory.
+    /// Closes the fleet and returns its journal. It has all steps of all passes and no others; each of their notes is
+    /// true of it; and every promise of the volume holds for its run. What these passes raised and read on the board
+    /// follows the board's rule. What they posted and collected at each mailbox follows its rule: each place has one
+    /// letter, which is collected at most once, and each pass collects in the order of places. Allocates nothing.
     pub fn close(self, passes: Vec<Pass<'a, L>>) -> Journal<'a, L>
         requires { (vec_len passes ≡ L.parts) × (0 < vec_len passes) }
         ensures run { IsRun L.plan (entries_in result) }

@@ -1,10 +1,10 @@
-//! A view of a node's answers before they are entered.
+//! A hook that sees a node's answers before they are entered.
 
 use wire::Messages;
 
-/// Sees a node's answers before the step is entered, with the node's lock held and the journal's free. The step may
-/// still not be entered, if the journal has no cell left.
+/// Sees a node's answers before the step is entered. The node's lock is held, the journal's isn't. The step may still
+/// be refused if the journal has no cell left.
 pub trait StepGate {
-    /// Looks at the messages that the step will make, which it is lent.
+    /// Sees the messages that the step will make.
     fn prepared(&self, answers: &Messages);
 }

@@ -10,7 +10,7 @@ use volume_model::Fault;
 /// Why a step under both locks wasn't made.
 #[derive(Clone, Copy, PartialEq, Eq, Debug)]
 pub enum Halt {
-    /// The cursor isn't the actor's last entry, which no step brings about.
+    /// The cursor isn't at the actor's last entry, which can't happen.
     StaleCursor,
     /// The step was refused.
     Refused(Fault),

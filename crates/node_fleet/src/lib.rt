@@ -1,5 +1,4 @@
-//! A fleet: the actors of a volume under locks of their own, the journal of their steps, and the mailboxes of its
-//! nodes.
+//! A fleet: the actors of a volume, each with a lock, the journal of their steps, and the mailboxes of its nodes.
 #![tactic(auto)]
 
 mod action;

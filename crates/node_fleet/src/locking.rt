@@ -1,4 +1,4 @@
-//! Locks that are polled before a thread sleeps on them.
+//! Locks that are polled before a thread blocks on them.
 
 use std::hint::spin_loop;
 use std::sync::{Mutex, MutexGuard, Wait};
@@ -7,7 +7,7 @@ use std::thread::yield_now;
 /// The number of polls of a lock before the thread yields.
 const POLLS: u32 = 20;
 
-/// The number of yields before the thread sleeps.
+/// The number of yields before the thread blocks.
 const YIELDS: u32 = 20;
 
 /// Waits for a lock that another thread holds, and takes it.
@@ -25,7 +25,7 @@ fn waited<'m, T, R: Wait>(rt: &R, lock: &'m Mutex<T>) -> MutexGuard<'m, T> {
     lock.lock(rt)
 }
 
-/// Takes a lock: polls it, yields in between, then sleeps on it.
+/// Takes a lock: polls it, yields in between, then blocks.
 #[inline(always)]
 pub fn lock_spinning<'m, T, R: Wait>(rt: &R, lock: &'m Mutex<T>) -> MutexGuard<'m, T> {
     match lock.try_lock() {

@@ -1,4 +1,4 @@
-//! A mailbox whose letters have places in one order. Any thread posts, and any thread collects.
+//! Mailboxes. Their letters have places in one order; any thread may post or collect.
 
 ghost use Rattle.std.specs.Prelude.{◌≡◌, ◌<◌, length};
 ghost use Rattle.crossbeam_channel.specs.Claims.{view, IsKeyed};
@@ -11,7 +11,7 @@ use std::collections::LinkedList;
 use std::sync::Wait;
 use std::thread::yield_now;
 
-/// The number of polls for a letter, with a yield between two, before the thread sleeps.
+/// The number of polls for a letter, with a yield after each, before the thread blocks.
 const POLLS: u32 = 20;
 
 /// A message's number, or `None`, the closing letter.
@@ -26,8 +26,8 @@ pub enum MailStep {
     Collected(u64, Letter),
 }
 
-// How many seats there are, how many of them aren't dealt yet, and the steps of each seat that is here. In a clause these are
-// two numbers and a list, and no value of it is made.
+// The number of all seats, the number of seats that aren't dealt yet, and the steps of each seat that is here. Exists
+// only in contracts: no value is made.
 type Seats = (u64, (u64, LinkedList<LinkedList<MailStep>>));
 
 /// The rule of the queued letters and the steps of all seats.
@@ -42,8 +42,8 @@ impl Protocol<Letter, Seats> for Places {
     ghost first = { (1, (0, [] ∷ [])) };
 }
 
-/// One more seat is to be dealt. Before any is dealt, one pass stands for all seats and knows how many there are; the
-/// one split off by the count stands for none.
+/// One more seat can be dealt. Before the first is dealt, one pass has all seats and knows their number; the pass that
+/// is split off here has none.
 pub struct OneMore;
 
 impl Split<Seats> for OneMore {
@@ -54,7 +54,7 @@ impl Split<Seats> for OneMore {
     ghost right = { λ _. (0, (0, [])) };
 }
 
-/// One more seat is dealt, which has made no step.
+/// Deals one more seat, which has made no step.
 pub struct NewSeat;
 
 impl Split<Seats> for NewSeat {
@@ -65,7 +65,7 @@ impl Split<Seats> for NewSeat {
     ghost right = { λ v. (v.0, (0, [] ∷ [])) };
 }
 
-/// A seat is taken back.
+/// Takes a seat back.
 pub struct Return;
 
 impl Join<Seats> for Return {
@@ -102,7 +102,7 @@ impl Lesson<Letter, Seats> for Collects {
     ghost fact = { λ _ _. Unit {0} };
 }
 
-/// What the rule says of the steps of all seats, once they are taken back.
+/// What the rule says about the steps of all seats, once they are taken back.
 pub struct Record;
 
 impl Lesson<Letter, Seats> for Record {
@@ -122,7 +122,7 @@ pub struct Mailbox {
     ghost keyed: { IsKeyed (sends_on to) },
 }
 
-/// One holder's seat at a mailbox, or several that were taken back. Contracts see all their steps.
+/// A holder's seat at a mailbox, or several seats that were taken back. Contracts can name all their steps.
 #[derive(Drop)]
 pub struct MailSeat {
     pass: Pass<Letter, Seats>,
@@ -135,10 +135,10 @@ impl Mailbox {
     ghost use Rattle.node_fleet.specs.Mail.{AddsPosted, AddsCollected, AreKept};
     ghost use Rattle.node_fleet.specs.Seats.{capacity_of, id_of, returned, seats_of, steps_of, AreSeatsOf, IsSeatOf};
 
-    /// Makes an empty mailbox for `capacity` letters and its `seats` seats, which have made no step.
+    /// Makes an empty mailbox for `capacity` letters, and its `seats` seats, which have made no step.
     ///
     /// # Errors
-    /// `AllocError` if there is no memory for them.
+    /// `AllocError` if memory runs out.
     pub fn new(
         alloc: Global,
         capacity: usize,
@@ -162,7 +162,7 @@ impl Mailbox {
         Ok((Mailbox { to, from, seats }, made))
     }
 
-    // Puts a letter at the next place, and waits while the mailbox is full.
+    // Puts a letter at the next place. Blocks while the mailbox is full.
     fn put<R: Wait>(&self, rt: &R, seat: &mut MailSeat, letter: Letter)
         requires { IsSeatOf self.now seat.old }
         ensures same { IsSeatOf self.now seat.new }
@@ -180,7 +180,7 @@ impl Mailbox {
         unreachable!()
     }
 
-    /// Posts a message's number; waits while the mailbox is full. Takes no memory.
+    /// Posts a message's number. Blocks while the mailbox is full. Allocates nothing.
     pub fn post<R: Wait>(&self, rt: &R, seat: &mut MailSeat, message: u64)
         requires { IsSeatOf self.now seat.old }
         ensures same { IsSeatOf self.now seat.new }
@@ -189,7 +189,7 @@ impl Mailbox {
         self.put(rt, seat, Some(message));
     }
 
-    /// Posts the closing letter; waits while the mailbox is full. Takes no memory.
+    /// Posts the closing letter. Blocks while the mailbox is full. Allocates nothing.
     pub fn close<R: Wait>(&self, rt: &R, seat: &mut MailSeat)
         requires { IsSeatOf self.now seat.old }
         ensures same { IsSeatOf self.now seat.new }
@@ -198,8 +198,8 @@ impl Mailbox {
         self.put(rt, seat, None);
     }
 
-    /// Takes the oldest letter; waits while there is none. Its place is above all that this seat has collected.
-    /// `None` is the closing letter. Takes no memory.
+    /// Takes the oldest letter. Blocks while there is none. The letter's place is above all that this seat has
+    /// collected. `None` is the closing letter. Allocates nothing.
     pub fn collect<R: Wait>(&self, rt: &R, seat: &mut MailSeat) -> Letter
         requires { IsSeatOf self.now seat.old }
         ensures same { IsSeatOf self.now seat.new }
@@ -219,7 +219,7 @@ impl Mailbox {
         unreachable!()
     }
 
-    /// Takes a seat back, beside others. Takes no memory.
+    /// Adds a seat to those that were taken back. Allocates nothing.
     pub fn take_back(&self, all: &mut MailSeat, seat: MailSeat)
         requires { AreSeatsOf self.now all.old × IsSeatOf self.now seat }
         ensures same { AreSeatsOf self.now all.new }
@@ -229,8 +229,8 @@ impl Mailbox {
         self.to.absorb::<Return>(&mut all.pass, pass);
     }
 
-    /// Shows of exactly these seats, once all were taken back, that each collected letter was posted at its place,
-    /// which has one letter and is collected at most once, in the order of places. Takes no memory.
+    /// Shows the mailbox's rule for exactly these seats, once all were taken back: each place has one letter, a letter
+    /// is collected at most once, and each seat collects in the order of places. Allocates nothing.
     pub fn recall(&self, all: &mut MailSeat)
         requires of { AreSeatsOf self.now all.old }
         requires all { length (returned all.old) ≡ seats_of self.now }

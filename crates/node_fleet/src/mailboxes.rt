@@ -20,25 +20,26 @@ const CAPACITY: usize = 1024;
 /// A mailbox for each node that a plan names.
 #[derive(Drop)]
 pub struct Mailboxes {
-    /// 64 a group, one for each member that the plan names.
+    /// 64 slots for each group: one for each member, used if the plan names the member.
     boxes: Vec<Option<Mailbox>>,
 }
 
-/// One caller's seats, or those of several that were taken back: one at each mailbox. Contracts see all their steps.
+/// A caller's seats, one at each mailbox, or those of several callers that were taken back. Contracts can name all
+/// their steps.
 #[derive(Drop)]
 pub struct MailSeats {
     /// The seats, each at the place of its mailbox.
     seats: Vec<Option<MailSeat>>,
 }
 
-// Returns where the mailbox of a node stands.
+// Returns the slot of a node's mailbox.
 fn slot(group: u8, member: u8) -> usize
     ensures { result ≡ slot_of group member }
 {
     usize::from(group) * MEMBERS + usize::from(member)
 }
 
-// Returns the mailbox of a node and a seat for each caller, or neither where the plan doesn't name the node.
+// Makes the mailbox of a node and a seat for each caller, or neither if the plan doesn't name the node.
 fn node_mailbox(
     alloc: Global,
     plan: &CheckedPlan,
@@ -58,7 +59,7 @@ fn node_mailbox(
     Ok((Some(mailbox), seats))
 }
 
-// Returns so many callers that have no seat.
+// Makes the empty lists of seats of `callers` callers.
 fn without_seats(alloc: Global, callers: usize) -> Result<Vec<MailSeats>, AllocError>
     ensures count { IfOk result (λ made. vec_len made ≡ callers) }
     ensures none { IfOk result (λ made. All (λ s. s.seats.items ≡ []) made.items) }
@@ -72,7 +73,7 @@ fn without_seats(alloc: Global, callers: usize) -> Result<Vec<MailSeats>, AllocE
 }
 
 impl Mailboxes {
-    // Adds a mailbox, or none, and gives each caller one of its seats.
+    // Adds a mailbox, if there is one, and gives each caller one of its seats.
     fn add(
         &mut self,
         alloc: Global,
@@ -95,11 +96,11 @@ impl Mailboxes {
         Ok(given)
     }
 
-    /// Makes a mailbox of 1,024 letters for each node that the plan names, and the seats of `callers` callers, which
+    /// Makes a mailbox for 1,024 letters for each node that the plan names, and the seats of `callers` callers, which
     /// have made no step.
     ///
     /// # Errors
-    /// `AllocError` if there is no memory for them.
+    /// `AllocError` if memory runs out.
     pub fn new(
         alloc: Global,
         plan: &CheckedPlan,
@@ -122,7 +123,7 @@ impl Mailboxes {
         Ok((mailboxes, seats))
     }
 
-    /// Posts a message's number to a node; waits while its mailbox is full. Takes no memory.
+    /// Posts a message's number to a node. Blocks while the mailbox is full. Allocates nothing.
     pub fn post<R: Wait>(&self, rt: &R, seats: &mut MailSeats, group: u8, member: u8, message: u64)
         requires node { has_mailbox self.now group member ≡ true }
         requires seats { AreSeatsOf self.now seats.old }
@@ -140,7 +141,7 @@ impl Mailboxes {
         mailbox.post(rt, seat, message);
     }
 
-    /// Posts the closing letter to a node; waits while its mailbox is full. Takes no memory.
+    /// Posts the closing letter to a node. Blocks while the mailbox is full. Allocates nothing.
     pub fn close_mailbox<R: Wait>(&self, rt: &R, seats: &mut MailSeats, group: u8, member: u8)
         requires node { has_mailbox self.now group member ≡ true }
         requires seats { AreSeatsOf self.now seats.old }
@@ -158,8 +159,8 @@ impl Mailboxes {
         mailbox.close(rt, seat);
     }
 
-    /// Takes a node's oldest letter; waits while there is none. Its place is above all that this caller has collected
-    /// there. `None` is the closing letter. Takes no memory.
+    /// Takes a node's oldest letter. Blocks while there is none. The letter's place is above all that this caller has
+    /// collected there. `None` is the closing letter. Allocates nothing.
     pub fn collect<R: Wait>(&self, rt: &R, seats: &mut MailSeats, group: u8, member: u8) -> Letter
         requires node { has_mailbox self.now group member ≡ true }
         requires seats { AreSeatsOf self.now seats.old }
@@ -196,7 +197,7 @@ impl Mailboxes {
         mailbox.take_back(back, seat);
     }
 
-    /// Takes a caller's seats back, beside those of others. Takes no memory.
+    /// Adds a caller's seats to those that were taken back. Allocates nothing.
     pub fn take_back(&self, all: &mut MailSeats, seats: MailSeats)
         requires seats { AreSeatsOf self.now seats }
         requires back { AreBack self.now all.old }
@@ -209,7 +210,7 @@ impl Mailboxes {
         }
     }
 
-    // Shows that the steps at the mailbox in a slot keep its rule, if there is one.
+    // Shows that the steps at the mailbox in a slot follow its rule, if there is one.
     fn recall_one(&self, slot: usize, all: &mut MailSeats)
         requires slot { (m : Option Mailbox) × (slice_get self.now.boxes.items slot ≡ Some m) }
         requires back { AreBack self.now all.old }
@@ -227,8 +228,8 @@ impl Mailboxes {
         mailbox.recall(back);
     }
 
-    /// Closes mailboxes whose seats were all taken back: at each, the steps of exactly these seats keep the rule of
-    /// its places. Takes no memory.
+    /// Closes mailboxes whose seats were all taken back. At each, the steps of exactly these seats follow its rule.
+    /// Allocates nothing.
     pub fn end(self, mut all: MailSeats)
         requires back { AreBack self all }
         requires whole { AreWhole self all }

@@ -38,7 +38,7 @@ impl<L: Site> NodeActor<L> {
     ghost use Rattle.journal.specs.Fronts.{log_of};
     ghost use Rattle.node_fleet.specs.Nodes.{actor_group, actor_member, actor_node};
 
-    /// Makes the actor of a member's node at its cursor.
+    /// Makes the actor of a member's node with its cursor.
     pub fn new(cursor: ActorCursor<L>, segment: Segment, group: u8, member: u8) -> NodeActor<L>
         requires who { marked cursor ≡ Node group member }
         requires of { IsSegmentOf L.plan group member segment }
@@ -58,7 +58,7 @@ impl<L: Site> NodeActor<L> {
     /// Makes the actor of a member's node of a new volume.
     ///
     /// # Errors
-    /// `NoActor` if the plan names no such member; `NoMemory`.
+    /// `NoActor` if the plan doesn't name such a member; `NoMemory` if memory runs out.
     pub fn born(
         alloc: Global,
         plan: Arc<CheckedPlan>,
@@ -88,7 +88,7 @@ impl<L: Site> NodeActor<L> {
         self.group
     }
 
-    /// Returns the node's member number.
+    /// Returns the node's member.
     pub fn member(&self) -> u8
         ensures { result ≡ actor_member self.now }
     {

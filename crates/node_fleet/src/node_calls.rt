@@ -1,4 +1,4 @@
-//! The nodes' calls of a fleet.
+//! Calls of a fleet for its nodes.
 
 ghost use Rattle.std.specs.Prelude.{◌≡◌, IfErr};
 ghost use Rattle.volume_model.specs.StepResults.{refusal};
@@ -29,7 +29,7 @@ impl<'a, L: FleetSite> Fleet<'a, L> {
     ghost use Rattle.volume_model.specs.declared.fault.Fault.TheVariants.{NoMessage};
     ghost use Rattle.node_fleet.specs.declared.halt.Halt.TheVariants.{Refused};
 
-    // Returns the node of a member of a group, and none where the plan doesn't name it.
+    // Returns the node of a member of a group, or `None` if the plan doesn't name the member.
     fn node(&self, group: u8, member: u8) -> Option<&Mutex<NodeActor<L>>>
         ensures { IfNone result (is_named L.plan group member ≡ false) }
     {
@@ -37,8 +37,8 @@ impl<'a, L: FleetSite> Fleet<'a, L> {
         self.nodes[slot].as_ref()
     }
 
-    /// Refuses the event of a node that isn't there: the plan doesn't name it, or its group hasn't joined. Returns
-    /// `NoMemory` if there is no room for the note, and then notes nothing.
+    /// Refuses the event of a node that the plan doesn't name or whose group hasn't joined, and notes it. If there is
+    /// no room for the note, returns `NoMemory` instead.
     fn refuse_missing(&self, log: &mut Log<'a, L>, pass: &mut Pass<'a, L>, event: Event) -> Fault
         requires missing { refusal (step L.plan (world_of log.old) (event_of event)) ≡ 82 }
         ensures log { journal_of log.new ≡ journal_of log.old }
@@ -55,7 +55,7 @@ impl<'a, L: FleetSite> Fleet<'a, L> {
         Fault::NoActor
     }
 
-    // Refuses what is asked of a node that the plan doesn't name.
+    // Refuses the event of a node that the plan doesn't name.
     fn refuse_absent<R: Wait>(&self, rt: &R, pass: &mut Pass<'a, L>, event: Event) -> Fault
         requires of { IsOfNone L.plan (event_of event) }
         ensures steps { steps_of pass.new ≡ steps_of pass.old }
@@ -67,8 +67,8 @@ impl<'a, L: FleetSite> Fleet<'a, L> {
         self.refuse_missing(&mut log, pass, event)
     }
 
-    // Looks a message up for a node, and lets the journal go. `NoActor`, which is noted, where the node's group hasn't joined;
-    // `NoMessage` where no step has made the message: then no step of the pass did.
+    // Looks a message up for a node. Notes `NoActor` if the node's group hasn't joined. Returns `NoMessage` if no step
+    // has made the message.
     fn find<R: Wait>(
         &self,
         rt: &R,
@@ -99,7 +99,7 @@ impl<'a, L: FleetSite> Fleet<'a, L> {
         }
     }
 
-    // Tries a delivery once.
+    // Takes the node's lock and attempts a delivery.
     fn try_deliver<R: Wait, G: StepGate>(
         &self,
         rt: &R,
@@ -122,7 +122,7 @@ impl<'a, L: FleetSite> Fleet<'a, L> {
         actor.react(rt, self.alloc, &self.journal, pass, message_ref, gate)
     }
 
-    // Enters a delivery, by the journal's pass.
+    // Delivers a message and records it in the pass.
     pub(crate) fn enter_delivery<R: Wait, G: StepGate>(
         &self,
         rt: &R,
@@ -154,7 +154,7 @@ impl<'a, L: FleetSite> Fleet<'a, L> {
         }
     }
 
-    // Tries once what a node does without a message.
+    // Takes the locks and attempts a node's action.
     fn try_node<R: Wait>(
         &self,
         rt: &R,
@@ -176,7 +176,7 @@ impl<'a, L: FleetSite> Fleet<'a, L> {
         actor.act(rt, self.alloc, &mut log, pass, action)
     }
 
-    // Enters what a node does without a message, by the journal's pass.
+    // Performs a node's action and records it in the pass.
     pub(crate) fn enter_node<R: Wait>(
         &self,
         rt: &R,

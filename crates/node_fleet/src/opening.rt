@@ -1,4 +1,4 @@
-//! A new fleet, with its passes.
+//! Makes a new fleet, with its passes.
 
 ghost use Rattle.std.specs.Prelude.{[], is_some, length, vec_len, ◌+◌, ◌≡◌, ◌≤◌, All, IfErr, IfOk};
 ghost use Rattle.std.specs.Arc.{arc_value};
@@ -31,7 +31,7 @@ use std::sync::{Arc, Mutex};
 use volume_model::Fault;
 use world::{Client, MEMBERS};
 
-// Returns a pass that has done nothing.
+// Makes an unused pass.
 fn pass<'a, L: FleetSite>(
     alloc: Global,
     share: Share<L>,
@@ -50,7 +50,7 @@ fn pass<'a, L: FleetSite>(
     Pass { entered, mail }
 }
 
-// Passes that have done nothing, one for each seat of the board, with a part of the ledger each.
+// Makes unused passes: one for each seat of the board, each with a share of the ledger.
 fn passes<'a, L: FleetSite>(
     alloc: Global,
     mut rest: Share<L>,
@@ -78,7 +78,7 @@ fn passes<'a, L: FleetSite>(
     Ok(made)
 }
 
-// Returns the client of a volume epoch: the first is born a writer, and no View has reached the others.
+// Makes the client of a volume epoch: the first is a writer, the others are unborn.
 fn client<L: Site>(
     alloc: Global,
     plan: &Arc<CheckedPlan>,
@@ -99,8 +99,7 @@ fn client<L: Site>(
     Ok(ClientActor::new(cursor, client))
 }
 
-// Returns the clients of the volume epochs up to that of the last slot, and of volume epoch 0, which nobody is born
-// with.
+// Makes the clients of volume epochs 0 to the last slot's. Epoch 0 has a client that is never born.
 fn clients<L: Site>(
     alloc: Global,
     plan: &Arc<CheckedPlan>,
@@ -121,7 +120,7 @@ fn clients<L: Site>(
     Ok(made)
 }
 
-// Returns the node of a member of a group, where the plan names it.
+// Makes the node of a member of a group, if the plan names the member.
 fn node<L: Site>(
     alloc: Global,
     plan: &Arc<CheckedPlan>,
@@ -142,7 +141,7 @@ fn node<L: Site>(
     Ok(Some(Mutex::new(actor)))
 }
 
-// Returns the nodes that the plan names, each in its slot, of which there are 64 a group.
+// Makes the nodes that the plan names, each in its slot; there are 64 slots for each group.
 fn nodes<L: Site>(
     alloc: Global,
     plan: &Arc<CheckedPlan>,
@@ -165,12 +164,12 @@ fn nodes<L: Site>(
 impl<'a, L: FleetSite> Fleet<'a, L> {
     ghost use Rattle.node_fleet.specs.Bases.{passes_of, IsBaseOf};
 
-    /// Makes a fleet of a new volume, with an empty journal over a row of unwritten cells and clients of volume
-    /// epochs up to `slots`, and the passes of its callers. There is at least one slot: with none a call for the
-    /// first client would wait for good.
+    /// Makes a fleet of a new volume, with an empty journal over a row of cells and clients of volume epochs up to
+    /// `slots`, and the passes of its callers. `slots` is at least 1: without a slot for it, a call for the first
+    /// client would block forever.
     ///
     /// # Errors
-    /// `NoMemory` if there is no memory for it.
+    /// `NoMemory` if memory runs out.
     pub fn new(
         alloc: Global,
         row: &'a mut Row,

@@ -7,7 +7,7 @@ ghost use Rattle.node_fleet.specs.MailProps.{seats_prop};
 use crate::mailboxes::MailSeats;
 use crate::site::FleetSite;
 
-/// What one caller did: its steps and notes in the journal, its seat on the board, and its seats at the mailboxes.
+/// What one caller did: its steps and notes in the journal, its seat at the board, and its seats at the mailboxes.
 #[derive(Drop)]
 pub struct Pass<'a, L: FleetSite> {
     pub(crate) entered: journal::Pass<'a, L>,

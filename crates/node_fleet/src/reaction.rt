@@ -1,4 +1,4 @@
-//! How a node of a fleet takes a message.
+//! Reactions of a fleet's nodes to messages.
 
 ghost use Rattle.std.specs.Prelude.{◌≡◌};
 
@@ -28,8 +28,8 @@ impl<L: Site> NodeActor<L> {
     ghost use Rattle.node_fleet.specs.RecordsAttempt.{Enters, IsExact, PassRecords};
     ghost use Rattle.node_fleet.specs.Nodes.{actor_group, actor_member, actor_node, delivery_of};
 
-    /// Prepares the reaction to a message under the node's lock alone: finds every refusal, makes every growth and
-    /// works out the answers. The node is unchanged.
+    /// Prepares the reaction to a message under the node's lock: finds every refusal, allocates, and computes the
+    /// answers. The node is unchanged.
     #[inline(always)]
     fn prepare(&mut self, alloc: Global, message: &Message) -> Result<Prepared, Fault>
         ensures ready { IfOk result (λ prepared. IsReady self.new.segment prepared) }
@@ -42,7 +42,7 @@ impl<L: Site> NodeActor<L> {
         self.segment.prepare(alloc, message)
     }
 
-    /// Prepares the reaction to a Write, as [`prepare`](NodeActor::prepare) does for its message.
+    /// Prepares the reaction to a Write, as [`prepare`](NodeActor::prepare) does.
     #[inline(always)]
     fn prepare_write(&mut self, alloc: Global, write: &Write) -> Result<Prepared, Fault>
         ensures ready { IfOk result (λ prepared. IsReady self.new.segment prepared) }
@@ -136,7 +136,7 @@ impl<L: Site> NodeActor<L> {
         Err(refused(log, pass, event, fault))
     }
 
-    /// Lends the prepared answers to the gate, then takes the journal's lock and applies the reaction.
+    /// Shows the prepared answers to the gate, then takes the journal's lock and applies the reaction.
     #[inline(always)]
     fn accept<'a, R: Wait, G: StepGate>(
         &mut self,
@@ -184,7 +184,7 @@ impl<L: Site> NodeActor<L> {
         self.decline(&mut log, pass, message_ref, fault)
     }
 
-    /// Does what [`react`](NodeActor::react) says, out of line so that the write path keeps a small stack frame.
+    /// The general case of [`react`](NodeActor::react), out of line so that the write path keeps a small stack frame.
     #[inline(never)]
     fn react_any<'a, R: Wait, G: StepGate>(
         &mut self,
@@ -208,19 +208,19 @@ impl<L: Site> NodeActor<L> {
         }
     }
 
-    /// Delivers a message to the node, whose lock the caller holds: prepares the reaction, lends the answers to the
-    /// gate while the journal is free, then applies the reaction and enters the step.
+    /// Delivers a message to the node, whose lock the caller holds: prepares the reaction, shows the answers to the
+    /// gate while the journal isn't locked, then applies the reaction and enters the step.
     ///
     /// # Errors
-    /// The node is unchanged. [`StaleCursor`](Halt::StaleCursor) if the cursor isn't the node's last entry. Else, and
-    /// noted: `NoActor` if the group hasn't joined; the first refusal of the message, as
-    /// [`Segment::prepare`](segment_core::Segment::prepare) gives it (`NotAddressed` if it isn't for this node;
-    /// `AlreadyWhole` of a copy to a whole node; `StaleMember` or `AheadMember` of another membership epoch;
-    /// `NotWhole` of a node that isn't whole; `StaleVolume` below the promised volume epoch; `NotInstalled` if the
-    /// lineage isn't that of the volume epoch; `Full` of too many records or pieces; `BadPiece` if it can't be a
-    /// piece beside those kept; `NotInPlan` of a step to a place that the plan lacks; `SeriesSpent` if no number of a
-    /// copy is left; `TailSegment` if the node keeps no pages; `PointAhead` if it isn't complete up to the point);
-    /// `JournalFull` if no cell is left. `NoMemory`, which isn't noted. Never `NoMessage`.
+    /// The node is unchanged. [`StaleCursor`](Halt::StaleCursor) if the cursor isn't at the node's last entry;
+    /// `NoMemory` if memory runs out. All others are noted: `NoActor` if the group hasn't joined; the message's first
+    /// refusal, as from [`Segment::prepare`](segment_core::Segment::prepare) (`NotAddressed` if it isn't for this node;
+    /// `AlreadyWhole` for a copy if the node is whole; `StaleMember` or `AheadMember` for another membership epoch;
+    /// `NotWhole` if the node isn't whole; `StaleVolume` for a volume epoch below the promised one; `NotInstalled` if
+    /// the lineage isn't that of the volume epoch; `Full` for too many records or pieces; `BadPiece` if the piece can't
+    /// belong to those kept; `NotInPlan` for a step that isn't in the plan; `SeriesSpent` if no number of a copy is
+    /// left; `TailSegment` if the node keeps no pages; `PointAhead` if it isn't complete up to the point);
+    /// `JournalFull` if no cell is left.
     pub fn react<'a, R: Wait, G: StepGate>(
         &mut self,
         rt: &R,

@@ -7,7 +7,7 @@ use crate::halt::Halt;
 use std::sync::Wait;
 use volume_model::Fault;
 
-/// Returns why a step was refused. Waits for good on a stale cursor, which no step brings about.
+/// Returns why a step was refused. Blocks forever on a stale cursor, which can't happen.
 pub(crate) fn refusal_of<R: Wait>(rt: &R, halt: Halt) -> Fault
     ensures { halt ≡ Refused result }
 {

@@ -1,4 +1,4 @@
-//! What every step under both locks shares.
+//! The parts that all steps under both locks have in common.
 
 ghost use Rattle.std.specs.Prelude.{false, is_err, length, ◌<◌, ◌≡◌, Err, IfErr, IfOk, MatchResult, OnOk, Some};
 ghost use Rattle.volume_model.specs.World.{after, step};
@@ -22,8 +22,8 @@ use volume_model::Fault;
 use wire::Messages;
 use world::Event;
 
-/// Compares an actor's cursor with the journal and reserves room for a step and a note. The pass has seen the whole
-/// journal.
+/// Compares an actor's cursor with the journal, and reserves room for a step and a note. The pass must be at the end of
+/// the journal.
 #[inline(always)]
 pub(crate) fn reserve_step<'a, L: Site>(
     log: &mut Log<'a, L>,
@@ -50,7 +50,7 @@ pub(crate) fn reserve_step<'a, L: Site>(
     Ok(())
 }
 
-/// Does the same after bringing the pass up to the journal.
+/// Brings the pass up to the end of the journal, and does the same.
 #[inline(always)]
 pub(crate) fn catch_up_and_reserve<'a, L: Site>(
     log: &mut Log<'a, L>,

@@ -1,4 +1,4 @@
-//! The bytes of a block, made from redo records.
+//! Pages: the bytes of a block, computed from redo records.
 #![tactic(auto)]
 
 ghost use Rattle.std.specs.Prelude.{◌≡◌, ◌+◌, ◌≤◌, ◌++◌, nat_le, if◌then◌else◌, length, map, take, drop, All};
@@ -11,11 +11,10 @@ use redo_record::{Record, SharedRecord};
 /// The bytes of a block.
 pub const BLOCK: usize = 512;
 
-/// The number of records that are loaded before the first is written. Each lies in memory of its own; a loop that
-/// only loads them waits for that memory once, one that also writes waits for each.
+/// The number of records that are loaded before the first is written. Each is at another address; a loop that only
+/// loads them overlaps the cache misses, one that also writes waits for each.
 const AHEAD: usize = 16;
 
-/// Writes bytes into a page.
 fn write_at(page: &mut [u8], offset: usize, bytes: &[u8])
     requires { offset + length bytes.now ≤ length page.old }
     ensures { page.new ≡ take offset page.old ++ bytes.now ++ drop (offset + length bytes.now) page.old }
@@ -24,7 +23,6 @@ fn write_at(page: &mut [u8], offset: usize, bytes: &[u8])
     page[offset..end].copy_from_slice(bytes);
 }
 
-/// Applies a record.
 fn apply(page: &mut [u8], entry: &Record)
     requires { length page.old ≡ 512 }
     ensures { page.new ≡ written (redo_of entry.now) page.old }
@@ -32,14 +30,14 @@ fn apply(page: &mut [u8], entry: &Record)
     write_at(page, usize::from(entry.offset), entry.bytes.as_slice());
 }
 
-/// Applies a record.
+/// Applies a shared record to a page.
 fn write_packet(page: &mut [u8; BLOCK], packet: &SharedRecord)
     ensures { page.new ≡ written (shared_redo packet.now) page.old }
 {
     apply(page, packet.record());
 }
 
-/// Applies a record that isn't past the point.
+/// Applies a record if its LSN is at most `point`.
 fn write_packet_up_to(page: &mut [u8; BLOCK], packet: &SharedRecord, point: u64)
     ensures { page.new ≡ (if nat_le (shared_redo packet.now).lsn point then written (shared_redo packet.now) page.old
         else page.old) }
@@ -49,7 +47,7 @@ fn write_packet_up_to(page: &mut [u8; BLOCK], packet: &SharedRecord, point: u64)
     }
 }
 
-/// Applies the records' records that aren't past the point, testing each.
+/// Applies the records up to `point`; tests each LSN.
 fn write_up_to(page: &mut [u8; BLOCK], packets: &[SharedRecord], block: u32, point: u64)
     requires { All (λ packet. (shared_redo packet).block ≡ block) packets.now }
     ensures { page.new ≡ page_from page.old block point (map shared_redo packets.now) }
@@ -59,7 +57,7 @@ fn write_up_to(page: &mut [u8; BLOCK], packets: &[SharedRecord], block: u32, poi
     }
 }
 
-/// Applies the records' records, none of which is past the point.
+/// Applies records that are all up to `point`.
 fn write_all(page: &mut [u8; BLOCK], packets: &[SharedRecord], block: u32, point: u64)
     requires own { All (λ packet. (shared_redo packet).block ≡ block) packets.now }
     requires up_to { All (λ packet. (shared_redo packet).lsn ≤ point) packets.now }
@@ -70,7 +68,7 @@ fn write_all(page: &mut [u8; BLOCK], packets: &[SharedRecord], block: u32, point
     }
 }
 
-/// Returns a number that none of the records' LSNs is above. Never branches on what is loaded.
+/// Returns a number that is at least each record's LSN. Doesn't branch on what it loads.
 fn greatest_of(packets: &[SharedRecord]) -> u64
     ensures { All (λ packet. (shared_redo packet).lsn ≤ result) packets.now }
 {
@@ -81,7 +79,7 @@ fn greatest_of(packets: &[SharedRecord]) -> u64
     greatest
 }
 
-/// Applies the records' records that aren't past the point, having looked at all of them first.
+/// Applies the records up to `point`; looks at all LSNs first.
 fn write_ahead(page: &mut [u8; BLOCK], packets: &[SharedRecord], block: u32, point: u64)
     requires { All (λ packet. (shared_redo packet).block ≡ block) packets.now }
     ensures { page.new ≡ page_from page.old block point (map shared_redo packets.now) }
@@ -93,8 +91,8 @@ fn write_ahead(page: &mut [u8; BLOCK], packets: &[SharedRecord], block: u32, poi
     }
 }
 
-/// Returns the bytes of a block at a point: the writes of its records up to the point, in the order of the records,
-/// over zeros. The records are those of one group, in order of LSN, and all of the block.
+/// Returns the page of a block at `point`: the writes of the records up to `point`, applied in order to zeros. The
+/// records are all those of the block, of one group, in order of LSN.
 pub fn page_of(packets: &[SharedRecord], block: u32, point: u64) -> [u8; BLOCK]
     requires { All (λ packet. (shared_redo packet).block ≡ block) packets.now }
     ensures { result ≡ page_of (map shared_redo packets.now) block point }

@@ -1,4 +1,4 @@
--- Which plans are certified, whatever finds their faults.
+-- Certified plans, defined without the order in which faults are found.
 use Rattle.std.specs.Prelude.{◌≡◌, ℕ, ◌<◌, true, List, Option, Some, None, length}
 use Rattle.refutation.specs.Rule.{Rule}
 use Rattle.quorum_checker.specs.Refutes.{State, Refutes}
@@ -11,14 +11,13 @@ abbrev pub IsShown : Option Rule → State → Type 0
 IsShown None claim = ⊥
 IsShown (Some rule) claim = Refutes rule claim
 
--- the step from the parent, if there is one, is shown
+-- the step claim, if there is a parent, has a certificate that refutes it
 abbrev pub IsStepShown : Option ℕ → List ConfigurationData → ℕ → Type 0
 IsStepShown None group c = Unit {0}
 IsStepShown (Some p) group c = IsShown (configuration_at group c).step (step_claim group c p)
 
--- Configuration 0 has no parent, and each other one has one that stands before it; no member of the configuration that
--- the parent lacks is one of a configuration above; its certificates refute the claims that its reads meet its writes,
--- and that its step keeps what was read.
+-- Configuration 0 has no parent, and each other one has a parent with a smaller number; no ancestor has a fresh member;
+-- the certificates refute the meets claim and the step claim.
 pub record IsCertifiedAt (group : List ConfigurationData) (c : ℕ) : Type 0 where
   pub parent : is_good_parent c (configuration_at group c).parent ≡ true
   pub unused : (x : ℕ) → IsReused group c x → ⊥

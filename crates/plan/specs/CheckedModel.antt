@@ -1,4 +1,4 @@
--- The plan of the model that a checked plan stands for.
+-- The plan of the model for a checked plan.
 use Rattle.std.specs.Prelude.{◌≡◌, ◌≢◌, ℕ, ◌<◌, Option, Some, None, Result, Ok, Err}
 use Rattle.std.specs.Borrow.{Bor}
 use Rattle.volume_model.specs.Plan as model
@@ -17,7 +17,7 @@ use Rattle.plan.specs.Plan.{plan_data}
 abbrev pub checked_model : CheckedPlan → model.Plan
 checked_model checked = model_of (plan_data checked.plan)
 
--- a program's configuration is this one of the model
+-- a program's configuration corresponds to this one of the model
 pub record Shows (x : Configuration) (y : model.Configuration) : Type 0 where
   pub parent : or_zero x.parent ≡ y.parent
   pub members : listed x.members ≡ y.members
@@ -25,13 +25,13 @@ pub record Shows (x : Configuration) (y : model.Configuration) : Type 0 where
   pub read : formula_of x.read ≡ y.read
   pub write : formula_of x.write ≡ y.write
 
--- the configuration of a group, or none where there is no such group or no such configuration
+-- the configuration of a group, or None if there is no such group or configuration
 abbrev pub ShowsConfiguration : Option (Bor Configuration) → model.Plan → ℕ → ℕ → Type 0
 ShowsConfiguration None plan g c = (g < plan.groups) → (c < plan.configurations g) → ⊥
 ShowsConfiguration (Some x) plan g c = (g < plan.groups) × (c < plan.configurations g) × Shows x.now
     (plan.configuration g c)
 
--- A check gives the checked plan exactly where there is no fault, and else the first one with the plan, unless memory
+-- A check returns the checked plan exactly if there is no fault, and else the first fault with the plan, unless memory
 -- runs out.
 abbrev pub ChecksTo : Result CheckedPlan (PlanFault × Plan) → Plan → Type 0
 ChecksTo (Ok checked) plan = (checked.plan ≡ plan) × (plan_fault (plan_data plan) ≡ None)

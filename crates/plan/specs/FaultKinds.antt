@@ -1,4 +1,4 @@
--- What kind of a fault a plan's is.
+-- The kinds of a plan's faults.
 use Rattle.std.specs.Prelude.{Bool, true, false}
 use Rattle.volume_model.specs.declared.fault.Fault.{Fault}
 use Rattle.volume_model.specs.declared.fault.Fault.TheVariants.{NoMemory, Malformed}
@@ -20,7 +20,7 @@ is_input (MemberReused g c x) = false
 is_input (NoCertificate g c step) = false
 is_input (Certificate g c step at) = false
 
--- what is wrong, without the place
+-- the fault without its place
 abbrev pub kind_of : PlanFault → Fault
 kind_of (Text fault) = fault
 kind_of (Expression fault g c quorum) = fault

@@ -1,4 +1,4 @@
--- The words of a plan's faults.
+-- How a plan's faults are printed.
 use Rattle.std.specs.Prelude.{ℕ, List, ◌++◌, Bool, true, false, codes}
 use Rattle.std.specs.Fmt.{decimal}
 use Rattle.plan.specs.declared.fault.Quorum.{Quorum}
@@ -9,12 +9,12 @@ abbrev pub quorum_text : Quorum → List ℕ
 quorum_text Read = codes "read"
 quorum_text Write = codes "write"
 
--- the name of a claim: that of a step, or that reads meet writes
+-- the name of a claim
 abbrev pub claim_text : Bool → List ℕ
 claim_text true = codes "step"
 claim_text false = codes "meets"
 
--- how a line begins, where the text isn't a plan's and where a plan is refused
+-- the beginning of a line: input if the text isn't a plan's, no if the plan is refused
 abbrev pub verdict_text : Bool → List ℕ
 verdict_text true = codes "input"
 verdict_text false = codes "no"

@@ -1,4 +1,4 @@
--- What the formats of a plan's text are.
+-- The formats of a plan's text.
 use Rattle.std.specs.Prelude.{ℕ, Bool, true, false}
 use Rattle.plan.specs.declared.formats.Format.{Format}
 use Rattle.plan.specs.declared.formats.Format.TheVariants.{Plain, Weighted, Growing}
@@ -9,7 +9,7 @@ is_weighted Plain = false
 is_weighted Weighted = true
 is_weighted Growing = true
 
--- how many keys a plan has: a format whose volumes grow says how many groups are there at birth
+-- the number of keys of a plan; only format 3 has the number of groups at birth
 abbrev pub key_count : Format → ℕ
 key_count Plain = 3
 key_count Weighted = 3

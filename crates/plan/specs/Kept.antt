@@ -1,4 +1,4 @@
--- What the text of a plan says beside its certificates, as JSON values: weights and names of lists as they are spelled.
+-- The values of a plan's text without its certificates. Weights and names of lists are as they are written.
 use Rattle.std.specs.Prelude.{◌≡◌, ℕ, List, [], ◌∷◌, Result, Ok, IsOkAnd}
 use Rattle.serde_json.specs.Data.{Data, null, Items, no_items, item}
 use Rattle.volume_model.specs.declared.fault.Fault.{Fault}
@@ -10,21 +10,21 @@ use Rattle.plan.specs.PlanText.{Fields, fields_of, group_items, header_of, json_
 abbrev pub without_certificates : Fields → Fields
 without_certificates f = record f { meets = null; step = null }
 
--- the values that an object spells, with null for the certificates
+-- the values of an object, with null for its certificates
 abbrev pub own_fields : Data → Result Fields Fault
 own_fields d = fields_of d >>= λ f. Ok (without_certificates f)
 
--- those of each configuration of a group
+-- the same for each configuration of a group
 abbrev pub each_own : Items → Result (List Fields) Fault
 each_own no_items = Ok []
 each_own (item d ds) = own_fields d >>= λ f. each_own ds >>= λ fs. Ok (f ∷ fs)
 
--- those of each group
+-- the same for each group
 abbrev pub groups_own : Items → Result (List (List Fields)) Fault
 groups_own no_items = Ok []
 groups_own (item d ds) = group_items d >>= λ cs. each_own cs >>= λ fs. groups_own ds >>= λ gs. Ok (fs ∷ gs)
 
--- The values of a plan beside its certificates. The expressions are values as they are spelled.
+-- The values of a plan without its certificates. Expressions are JSON values.
 pub record OwnValues : Type 0 where
   pub format : Format
   pub lal : ℕ
@@ -35,6 +35,6 @@ unfoldable pub own_values : Data → Result OwnValues Fault
 own_values d = header_of d >>= λ h. groups_own h.groups >>= λ gs. Ok
     (record { format = h.format; lal = h.lal; born = h.born; groups = gs })
 
--- The bytes spell the same values as the text, except certificates.
+-- The bytes have the same values as the text, except certificates.
 abbrev pub KeepsValues : List ℕ → List ℕ → Type 0
 KeepsValues text bytes = IsOkAnd (value_of text >>= own_values) (λ values. (json_of bytes >>= own_values) ≡ Ok values)

@@ -1,4 +1,4 @@
--- Thresholds of which the first two keys were put.
+-- Thresholds of which the first two keys were written.
 use Rattle.std.specs.Prelude.{◌≡◌, ℕ, Some, codes}
 use Rattle.json.specs.Written.{Written}
 use Rattle.serde_json.specs.Data.{Data, member, no_members}
@@ -6,7 +6,7 @@ use Rattle.serde_json.specs.Find.{get}
 use Rattle.json_node.specs.Nodes.{keys_up_to}
 use Rattle.plan.specs.Puts.{Puts, Opens}
 
--- An object was begun with the values at the keys k and of.
+-- An object was begun with the keys k and of and their values.
 pub record OpensThreshold (d : Data) (start now : Written) : Type 0 where
   pub k : Data
   pub of : Data
@@ -14,7 +14,7 @@ pub record OpensThreshold (d : Data) (start now : Written) : Type 0 where
   pub k_is : Some k ≡ get (codes "k") d
   pub of_is : Some of ≡ get (codes "of") d
 
--- An object of so many keys that was begun so was put to its end.
+-- An object with this many keys, of which k and of were written, was written to its end.
 abbrev pub EndsThreshold : ℕ → Data → Written → Written → Type 0
 EndsThreshold keys d old new = (start : Written) → OpensThreshold d start old → Some keys ≡ keys_up_to 4 d
     → Puts d start new

@@ -1,4 +1,4 @@
--- What the claims that a plan lends stand for.
+-- The states of the claims that a plan lends.
 use Rattle.std.specs.Prelude.{List, Option, Some, None, is_some, map}
 use Rattle.std.specs.Borrow.{Bor}
 use Rattle.std.specs.FinSet.{difference}
@@ -11,7 +11,7 @@ use Rattle.plan.specs.Plan.{configuration_data}
 use Rattle.plan.specs.PlanFaults.{meets_claim}
 use Rattle.plan.specs.PlanClaims.{PlacedClaim}
 
--- the claim of this configuration, or that of its step from a parent
+-- the meets claim of this configuration, or its step claim if there is a parent
 abbrev pub state_from : Configuration → Option (Bor Configuration) → State
 state_from this None = meets_claim (configuration_data this)
 state_from this (Some parent) = claim_state (formula_of this.read) (dual_of (formula_of parent.now.read))

@@ -1,4 +1,4 @@
--- What the claims of the code stand for.
+-- Views of the code's claims.
 use Rattle.std.specs.Prelude.{List, map}
 use Rattle.quorum_checker.specs.Claim.{first_state}
 use Rattle.plan.specs.declared.placed.NamedClaim.{NamedClaim}

@@ -6,14 +6,14 @@ use Rattle.plan.specs.PlanData.{ConfigurationData, PlanData, configuration_at, b
 use Rattle.plan.specs.PlanFaults.{shape_fault, meets_claim, step_claim}
 use Rattle.plan.specs.PlanText.{◌>=>◌}
 
--- A claim and where it stands.
+-- A claim and its place.
 pub record PlacedClaim : Type 0 where
   pub group : ℕ
   pub configuration : ℕ
   pub step : Bool
   pub claim : State
 
--- the claims of a configuration: that read sets meet write sets, and that of its step
+-- the claims of a configuration: meets, and step if it has a parent
 abbrev pub claims_at : ℕ → List ConfigurationData → ℕ → List PlacedClaim
 claims_at g group c =
     record { group = g; configuration = c; step = false; claim = meets_claim (configuration_at group c) }
@@ -25,7 +25,7 @@ claims_at g group c =
           step_claim group c p;
     } ∷ [])
 
--- these, where nothing keeps them from being claims
+-- the value if there is no fault, else the fault
 abbrev pub unless : {A : Type 0} → Option PlanFault → A → Result A PlanFault
 unless None x = Ok x
 unless (Some fault) x = Err fault

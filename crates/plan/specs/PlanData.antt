@@ -1,4 +1,4 @@
--- What a plan is, wherever its memory lies, and the plan of the model that it stands for.
+-- The data of a plan, independent of how a program stores it, and the plan of the model for it.
 use Rattle.std.specs.Prelude.{ℕ, zero, suc, ◌&&◌, nat_lt, if◌then◌else◌, Bool, true, List, [], length, Option, Some, None, slice_index_or}
 use Rattle.std.specs.Ordering.{nat_cmp}
 use Rattle.std.specs.FinSet.{FinSet, empty, contains}
@@ -19,15 +19,15 @@ pub record ConfigurationData : Type 0 where
   pub meets : Option Rule
   pub step : Option Rule
 
--- The format, how far numbers may run ahead, how many groups are there when the volume is born, and the configurations
--- of each group.
+-- The format, how far LSNs may run ahead of the durable point, the number of groups at birth, and the configurations of
+-- each group.
 pub record PlanData : Type 0 where
   pub format : Format
   pub lal : ℕ
   pub born : ℕ
   pub groups : List (List ConfigurationData)
 
--- what stands where there is no configuration
+-- the value for a configuration that doesn't exist
 abbrev pub no_configuration : ConfigurationData
 no_configuration = record {
   parent = None;
@@ -48,21 +48,22 @@ group_at plan g = slice_index_or plan.groups g []
 abbrev pub configuration_at : List ConfigurationData → ℕ → ConfigurationData
 configuration_at group c = slice_index_or group c no_configuration
 
--- the number of a parent that stands before the configuration
+-- the number of the parent, if it is smaller than the configuration's
 abbrev pub earlier : ℕ → Option ℕ → Option ℕ
 earlier c None = None
 earlier c (Some p) = if nat_lt p c then Some p else None
 
--- the number of the parent, where it stands before the configuration
+-- the same for a configuration of a group
 abbrev pub parent_at : List ConfigurationData → ℕ → Option ℕ
 parent_at group c = earlier c (configuration_at group c).parent
 
--- one value where there is no parent, and another where there is one
+-- one value if there is no parent, another if there is one
 abbrev pub by_parent : {A : Type 0} → Option ℕ → A → (ℕ → A) → A
 by_parent None root under = root
 by_parent (Some p) root under = under p
 
--- the membership epoch, in at most so many steps up: 1 for a root, and one more than its parent's for a child
+-- the membership epoch, found by climbing at most this many parents: 1 for a root, one more than its parent's for a
+-- child
 abbrev pub epoch_within : ℕ → List ConfigurationData → ℕ → ℕ
 epoch_within zero group c = 1
 epoch_within (suc steps) group c = by_parent (parent_at group c) 1 (λ p. suc (epoch_within steps group p))
@@ -71,12 +72,12 @@ epoch_within (suc steps) group c = by_parent (parent_at group c) 1 (λ p. suc (e
 abbrev pub epoch_at : List ConfigurationData → ℕ → ℕ
 epoch_at group c = epoch_within c group c
 
--- a number, or 0
+-- a number, 0 if there is none
 abbrev pub or_zero : Option ℕ → ℕ
 or_zero None = 0
 or_zero (Some n) = n
 
--- a configuration as the model has it
+-- a configuration as one of the model
 abbrev pub shown : ℕ → ConfigurationData → model.Configuration
 shown epoch x = record {
   parent = or_zero x.parent;
@@ -87,7 +88,7 @@ shown epoch x = record {
   write = x.write;
 }
 
--- the plan of the model
+-- the plan as one of the model
 abbrev pub model_of : PlanData → model.Plan
 model_of plan = record {
   lal = plan.lal;
@@ -97,13 +98,13 @@ model_of plan = record {
   configuration = λ g c. shown (epoch_at (group_at plan g) c) (configuration_at (group_at plan g) c);
 }
 
--- the formula names none but members of the set
+-- the formula names only members of the set
 abbrev mutual
   pub names_only : Formula → FinSet nat_cmp → Bool
   names_only (member x) s = contains s x
   names_only (at_least k of) s = each_names_only of s
 
-  -- each child does
+  -- each child names only members of the set
   pub each_names_only : Children → FinSet nat_cmp → Bool
   each_names_only no_child s = true
   each_names_only (child w f fs) s = names_only f s && each_names_only fs s

@@ -1,4 +1,4 @@
--- How a plan's fault is written.
+-- How a plan's fault is printed.
 use Rattle.std.specs.Prelude.{ℕ, List, ◌++◌, codes}
 use Rattle.std.specs.Fmt.{decimal}
 use Rattle.volume_model.specs.Names.{fault_text}
@@ -10,7 +10,7 @@ use Rattle.plan.specs.declared.fault.PlanFault.TheVariants.{Text, Expression, Ba
 use Rattle.plan.specs.FaultKinds.{is_input_fault}
 use Rattle.plan.specs.FaultText.{quorum_text, claim_text, verdict_text, place_text}
 
--- The line of a fault: its number and name, and where it stands.
+-- The line of a fault: its number and name, and its place.
 abbrev pub plan_fault_text : PlanFault → List ℕ
 plan_fault_text (Text fault) = verdict_text (is_input_fault fault) ++ codes ": " ++ fault_text fault
 plan_fault_text (Expression fault g c quorum) = codes "no: " ++ fault_text fault ++ codes " " ++ place_text g c

@@ -13,19 +13,19 @@ use Rattle.plan.specs.declared.fault.PlanFault.{PlanFault}
 use Rattle.plan.specs.declared.fault.PlanFault.TheVariants.{Text, BadParent, MemberReused, NoCertificate, Certificate}
 use Rattle.plan.specs.PlanData.{ConfigurationData, PlanData, configuration_at, parent_at, by_parent}
 
--- the first fault, and else the next
+-- the first fault if there is one, else the next
 abbrev pub or_then : Option PlanFault → Option PlanFault → Option PlanFault
 or_then None next = next
 or_then (Some fault) next = Some fault
 
--- the first fault that numbers below a bound have, in growing order
+-- the first fault for the numbers below a bound, in growing order
 abbrev pub first_below : ℕ → (ℕ → Option PlanFault) → Option PlanFault
 first_below zero fault_of = None
 first_below (suc n) fault_of = or_then (first_below n fault_of) (fault_of n)
 
 -- ---- parents
 
--- configuration 0 has no parent, and each other one has one that stands before it
+-- configuration 0 has no parent, and each other one has a parent with a smaller number
 abbrev pub is_good_parent : ℕ → Option ℕ → Bool
 is_good_parent c None = c == 0
 is_good_parent c (Some p) = nat_lt p c
@@ -33,14 +33,14 @@ is_good_parent c (Some p) = nat_lt p c
 abbrev pub parent_fault : ℕ → List ConfigurationData → ℕ → Option PlanFault
 parent_fault g group c = if is_good_parent c (configuration_at group c).parent then None else Some (BadParent g c)
 
--- ---- members that are used again
+-- ---- members that are reused
 
--- the fresh members of a configuration: those that its parent lacks
+-- the fresh members of a configuration: those that its parent doesn't have
 abbrev pub fresh_at : List ConfigurationData → ℕ → FinSet nat_cmp
 fresh_at group c = by_parent (configuration_at group c).parent empty (λ p. difference (configuration_at group c).members
     (configuration_at group p).members)
 
--- what is left of a set without the members of the configurations above, in at most so many steps up
+-- the members of a set that no ancestor has, of the ancestors at most this many steps above
 abbrev pub unused_within : ℕ → List ConfigurationData → ℕ → FinSet nat_cmp → FinSet nat_cmp
 unused_within zero group c s = s
 unused_within (suc steps) group c s = by_parent (parent_at group c) s
@@ -60,21 +60,22 @@ reuse_fault g group c = reused_member g c (slice_get (listed (reused_at group c)
 
 -- ---- claims
 
--- what is wrong with a certificate
+-- the fault of a certificate
 abbrev pub certificate_fault : ℕ → ℕ → Bool → Option FaultAt → Option PlanFault
 certificate_fault g c step None = None
 certificate_fault g c step (Some at) = Some (Certificate g c step at)
 
--- what is wrong with a claim and its certificate, if it has one
+-- the fault of a claim and its certificate, if it has one
 abbrev pub claim_fault : ℕ → ℕ → Bool → Option Rule → State → Option PlanFault
 claim_fault g c step None claim = Some (NoCertificate g c step)
 claim_fault g c step (Some rule) claim = certificate_fault g c step (first_fault rule claim)
 
--- read sets meet write sets
+-- the meets claim: each read set shares a member with each write set
 abbrev pub meets_claim : ConfigurationData → State
 meets_claim x = claim_state x.read x.write empty
 
--- read sets without a fresh member meet what satisfies the dual of the parent's read expression
+-- the step claim: each read set without fresh members shares a member with each set that satisfies the dual of the
+-- parent's read expression
 abbrev pub step_claim : List ConfigurationData → ℕ → ℕ → State
 step_claim group c p = claim_state (configuration_at group c).read (dual_of (configuration_at group p).read)
     (fresh_at group c)
@@ -86,9 +87,9 @@ abbrev pub step_fault : ℕ → List ConfigurationData → ℕ → Option PlanFa
 step_fault g group c = by_parent (configuration_at group c).parent None
     (λ p. claim_fault g c true (configuration_at group c).step (step_claim group c p))
 
--- ---- the whole
+-- ---- a whole plan
 
--- what keeps a configuration from having claims at all
+-- the first fault of a configuration's parent and fresh members; one with a fault has no claims
 abbrev pub shape_fault : ℕ → List ConfigurationData → ℕ → Option PlanFault
 shape_fault g group c = or_then (parent_fault g group c) (reuse_fault g group c)
 
@@ -102,12 +103,12 @@ group_fault g group = first_below (length group) (configuration_fault g group)
 abbrev pub groups_fault : List (List ConfigurationData) → Option PlanFault
 groups_fault groups = first_below (length groups) (λ g. group_fault g (slice_index_or groups g []))
 
--- The first fault of a plan: configuration by configuration its parent, its fresh members, its claim that reads meet
--- writes, and that of its step.
+-- The first fault of a plan. For each configuration in order: its parent, its fresh members, its meets claim, its step
+-- claim.
 unfoldable pub plan_fault : PlanData → Option PlanFault
 plan_fault plan = groups_fault plan.groups
 
--- A check answers the first fault, if there is one, unless memory runs out.
+-- A check returns the first fault, if there is one, unless memory runs out.
 abbrev pub Finds : Result (Unit {0}) PlanFault → Option PlanFault → Type 0
 Finds (Ok u) found = found ≡ None
 Finds (Err fault) found = fault ≢ Text NoMemory → found ≡ Some fault

@@ -1,4 +1,4 @@
--- The plan that a text spells, or its first fault in reading order.
+-- Reading a plan from a text: the plan, or its first fault in reading order.
 use Rattle.std.specs.Prelude.{◌≡◌, ◌≢◌, ℕ, ◌≤◌, ◌+◌, ◌&&◌, ◌==◌, Bool, true, false, List, [], ◌∷◌, length, Option, Some, None, Result, Ok, Err, nat_le, codes, if◌then◌else◌}
 use Rattle.std.specs.Str.{is_utf8}
 use Rattle.std.specs.Ordering.{nat_cmp}
@@ -53,7 +53,7 @@ pub record Fields : Type 0 where
   pub meets : Data
   pub step : Data
 
--- an object of these keys and no others
+-- the values of an object that has these keys and no others
 unfoldable pub fields_of : Data → Result Fields Fault
 fields_of d =
     has_keys 7 d >>= λ u. at_key (codes "parent") d >>= λ parent. at_key (codes "members") d >>= λ members. at_key
@@ -78,7 +78,7 @@ parent_of (string s) = Err Malformed
 parent_of (array ds) = Err Malformed
 parent_of (object ms) = Err Malformed
 
--- more members, each below 64 and at least the least
+-- the set with more members, in growing order: each is below 64 and at least the least
 abbrev pub members_from : ℕ → FinSet nat_cmp → Items → Result (FinSet nat_cmp) Fault
 members_from least s no_items = Ok s
 members_from least s (item d ds) = number_to 63 d >>= λ n. if nat_le least n then members_from (n + 1) (insert s n) ds
@@ -88,16 +88,16 @@ members_from least s (item d ds) = number_to 63 d >>= λ n. if nat_le least n th
 unfoldable pub members_of : Data → Result (FinSet nat_cmp) Fault
 members_of d = array_of d >>= members_from 0 empty
 
--- the same, where there is one at least
+-- the same, with at least one member
 unfoldable pub some_members_of : Data → Result (FinSet nat_cmp) Fault
 some_members_of d = array_of d >>= λ ds. if nat_le 1 (items_len ds) then members_from 0 empty ds else Err Malformed
 
--- the members and those that are full, which are members, and whether expressions may have weights
+-- the members, those of them that are full, and whether expressions may have weights
 unfoldable pub lists_of : Bool → Fields → Result Lists Fault
 lists_of w f = some_members_of f.members >>= λ members. members_of f.full >>= λ full. if is_subset full members then Ok
     (record { members = members; full = full; is_weighted = w }) else Err Malformed
 
--- a fault of an expression stands at its place, where it isn't one of the text
+-- the error for a fault of an expression: with its place if it is one of the plan, else as a fault of the text
 abbrev pub expression_error : ℕ → ℕ → Quorum → Fault → PlanFault
 expression_error g c quorum BadCount = Expression BadCount g c quorum
 expression_error g c quorum TooDeep = Expression TooDeep g c quorum
@@ -129,7 +129,7 @@ is_null (object ms) = false
 unfoldable pub step_of : ℕ → Data → Result (Option Rule) Fault
 step_of c d = if c == 0 then (if is_null d then Ok None else Err Malformed) else certificate_or_null d
 
--- the configuration that a value spells, with weights or without, its keys first and then each field in order
+-- the configuration of a value, with weights or without; its keys are tested first, then each field in order
 unfoldable pub configuration_in : Bool → ℕ → ℕ → Data → Result ConfigurationData PlanFault
 configuration_in w g c d =
     in_text (fields_of d) >=> λ f. in_text (parent_of f.parent) >=> λ parent. in_text (lists_of w f) >=> λ lists.
@@ -149,7 +149,7 @@ configuration_in w g c d =
 
 -- ---- groups
 
--- the configurations that values spell, numbered from c, up to the first fault
+-- the configurations of values, of which the first has number c, up to the first fault
 abbrev pub configurations_in : Bool → ℕ → ℕ → Items → Result (List ConfigurationData) PlanFault
 configurations_in w g c no_items = Ok []
 configurations_in w g c (item d ds) = configuration_in w g c d >=> λ x. configurations_in w g (c + 1) ds >=> λ xs. Ok
@@ -159,7 +159,7 @@ configurations_in w g c (item d ds) = configuration_in w g c d >=> λ x. configu
 abbrev pub is_from_1 : ℕ → ℕ → Bool
 is_from_1 most n = nat_le 1 n && nat_le n most
 
--- an object of the key configurations alone, with a list of 1 to 64 values
+-- an object with the only key configurations, which has an array of 1 to 64 values
 unfoldable pub group_items : Data → Result Items Fault
 group_items d = has_keys 1 d >>= λ u. at_key (codes "configurations") d >>= λ cs. array_of cs >>= λ ds. if is_from_1 64
     (items_len ds) then Ok ds else Err OverLimit
@@ -167,21 +167,21 @@ group_items d = has_keys 1 d >>= λ u. at_key (codes "configurations") d >>= λ 
 unfoldable pub group_in : Bool → ℕ → Data → Result (List ConfigurationData) PlanFault
 group_in w g d = in_text (group_items d) >=> configurations_in w g 0
 
--- the groups that values spell, numbered from g, up to the first fault
+-- the groups of values, of which the first has number g, up to the first fault
 abbrev pub groups_in : Bool → ℕ → Items → Result (List (List ConfigurationData)) PlanFault
 groups_in w g no_items = Ok []
 groups_in w g (item d ds) = group_in w g d >=> λ x. groups_in w (g + 1) ds >=> λ xs. Ok (x ∷ xs)
 
--- ---- the whole
+-- ---- a whole plan
 
--- the format, and the values at the other keys of a plan; how many groups are there at birth stands in format 3 alone
+-- the format, and the values at the other keys of a plan; only format 3 has the number of groups at birth
 pub record TopFields : Type 0 where
   pub format : Format
   pub lal : Data
   pub born : Option Data
   pub groups : Data
 
--- the format, how far numbers may run ahead, how many groups are there at birth, and the values of the groups
+-- the format, the LAL, the number of groups at birth, and the values of the groups
 pub record Header : Type 0 where
   pub format : Format
   pub lal : ℕ
@@ -207,32 +207,32 @@ born_field Plain d = Ok None
 born_field Weighted d = Ok None
 born_field Growing d = at_key (codes "born") d >>= λ b. Ok (Some b)
 
--- an object of the keys format, lal and groups alone, and in format 3 of these and born alone
+-- an object with the keys format, lal and groups only, and in format 3 also born
 unfoldable pub top_fields_of : Data → Result TopFields Fault
 top_fields_of d =
     at_key (codes "format") d >>= λ f. format_of f >>= λ format. has_keys (key_count format) d >>= λ u. at_key
     (codes "lal") d >>= λ lal. born_field format d >>= λ born. at_key (codes "groups") d >>= λ groups.
     Ok (record { format = format; lal = lal; born = born; groups = groups })
 
--- how many of the groups are there at birth: all where nothing is said of it, or a whole number from 1 to that of all
+-- the number of groups at birth: all if the format doesn't have it, else a whole number from 1 to their number
 abbrev pub born_of : ℕ → Option Data → Result ℕ Fault
 born_of groups None = Ok groups
 born_of groups (Some d) = whole_of d >>= λ n. if is_from_1 groups n then Ok n else Err OverLimit
 
--- the head of a plan: its keys first, and then each field in order
+-- the head of a plan; its keys are tested first, then each field in order
 unfoldable pub header_of : Data → Result Header Fault
 header_of d =
     top_fields_of d >>= λ top. lal_of top.lal >>= λ lal. group_list top.groups >>= λ groups. born_of (items_len groups)
     top.born >>= λ born.
     Ok (record { format = top.format; lal = lal; born = born; groups = groups })
 
--- the plan that a value spells
+-- the plan of a value
 unfoldable pub plan_in : Data → Result PlanData PlanFault
 plan_in d =
     in_text (header_of d) >=> λ header. groups_in (is_weighted header.format) 0 header.groups >=> λ groups.
     Ok (record { format = header.format; lal = header.lal; born = header.born; groups = groups })
 
--- what a text spells as JSON
+-- the JSON value of a text
 unfoldable pub json_of : List ℕ → Result Data Fault
 json_of text = if is_utf8 text then found_or_malformed (read text) else Err Malformed
 
@@ -240,10 +240,10 @@ json_of text = if is_utf8 text then found_or_malformed (read text) else Err Malf
 abbrev pub IsWithinSize : List ℕ → Type 0
 IsWithinSize text = length text ≤ 16777216
 
--- the value that a text of at most 16,777,216 bytes spells
+-- the JSON value of a text of at most 16,777,216 bytes
 unfoldable pub value_of : List ℕ → Result Data Fault
 value_of text = if nat_le (length text) 16777216 then json_of text else Err OverLimit
 
--- the plan that a text spells
+-- the plan of a text
 unfoldable pub plan_of : List ℕ → Result PlanData PlanFault
 plan_of text = in_text (value_of text) >=> plan_in

@@ -1,4 +1,4 @@
--- What was put of a plan with certificates for its claims.
+-- What was written of a plan with other certificates.
 use Rattle.std.specs.Prelude.{◌≡◌, ℕ, ◌≤◌, false, List, map, Option, Some, Result, Ok, option_map, codes}
 use Rattle.std.specs.declared.alloc.Global.{Global}
 use Rattle.std.specs.Str.{IsUtf8}
@@ -22,7 +22,7 @@ use Rattle.plan.specs.Puts.{Puts, Opens}
 abbrev pub rules_in : List (Option (Certificate Global)) → List (Option Rule)
 rules_in = map (option_map certificate_rule)
 
--- The value that is defined was put.
+-- The value that is defined was written.
 pub record PutsMade (made : Result Data Fault) (old new : Written) : Type 0 where
   pub value : Data
   pub is : made ≡ Ok value
@@ -34,18 +34,18 @@ configurations_array ds certificates = configurations_written 0 ds certificates 
 abbrev pub groups_array : Items → List Data → Result Data Fault
 groups_array ds certificates = groups_written ds certificates >>= λ xs. Ok (array (items_of xs))
 
--- how many groups there are at birth, where the format says so
+-- the number of groups at birth, if the format has it
 abbrev pub born_members : Format → ℕ → Members
 born_members Plain born = no_members
 born_members Weighted born = no_members
 born_members Growing born = member (codes "born") (number_data born) no_members
 
--- This was put into an object that was begun.
+-- The number of groups at birth was written, if the format has it, into an object that was begun.
 abbrev pub PutsBorn : Format → ℕ → Written → Written → Type 0
 PutsBorn format born old new = (start : Written) → Opens no_members start old → Opens (born_members format born) start
     new
 
--- The bytes are the text of a value: it is read back, and they are its text without spaces where it has no float.
+-- The bytes are the text of a value: the value is read back from them, and they have no spaces if it has no float.
 pub record IsTextOf (d : Data) (bytes : List ℕ) : Type 0 where
   pub utf8 : IsUtf8 bytes
   pub back : depth d ≤ max_depth → read bytes ≡ Some d

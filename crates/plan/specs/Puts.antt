@@ -1,4 +1,4 @@
--- What was put behind the tokens of a writer: a token, a value, or an object or a list that is still open.
+-- What was appended to a writer's tokens: a token, a value, or an object or a list that isn't closed yet.
 use Rattle.std.specs.Prelude.{◌≡◌, ℕ, ◌≤◌, List, [], ◌∷◌, ◌++◌, Some}
 use Rattle.json.specs.Token.{Token, begin_object, begin_array}
 use Rattle.json.specs.Json as json
@@ -9,12 +9,12 @@ use Rattle.serde_json.specs.Data.{Data, depth, Members, no_members, members_dept
 use Rattle.serde_json.specs.Read.{of_json, of_members}
 use Rattle.serde_json.specs.Written.{WritesValue, outline, blank, members_outline, blank_members}
 
--- One token was put.
+-- One token was written.
 pub record PutsToken (t : Token) (old new : Written) : Type 0 where
   pub tokens : new.tokens ≡ old.tokens ++ t ∷ []
   pub before : new.before ≡ old.before
 
--- A value was put.
+-- A value was written.
 pub record Puts (d : Data) (old new : Written) : Type 0 where
   pub value : WritesValue d old.tokens new.tokens
   pub before : new.before ≡ old.before
@@ -24,13 +24,13 @@ abbrev pub open_tokens : json.Members → List Token
 open_tokens json.no_members = []
 open_tokens (json.member k j ms) = Token.key k ∷ (json_tokens j ++ open_tokens ms)
 
--- A key was put, and its value.
+-- A key was written, and its value.
 pub record PutsMember (k : List ℕ) (d : Data) (old new : Written) : Type 0 where
   pub between : Written
   pub key : PutsToken (Token.key k) old between
   pub value : Puts d between new
 
--- An object was begun, and has these members so far.
+-- An object was begun and has these keys and values so far.
 pub record Opens (found : Members) (old new : Written) : Type 0 where
   pub members : json.Members
   pub tokens : new.tokens ≡ old.tokens ++ begin_object ∷ open_tokens members
@@ -50,7 +50,7 @@ pub record IsOf (j : json.Json) (d : Data) : Type 0 where
   pub same : blank j ≡ outline d
   pub nests : tree.depth j ≤ depth d
 
--- as many values, each of its JSON
+-- there are as many JSON values, each with its data
 abbrev pub AreOf : List json.Json → List Data → Type 0
 AreOf [] [] = Unit {0}
 AreOf [] (d ∷ ds) = ⊥

@@ -1,4 +1,4 @@
--- The JSON of a plan with other certificates, where all other values are kept.
+-- The JSON of a plan with other certificates; all other values are kept.
 use Rattle.std.specs.Prelude.{ℕ, ◌+◌, ◌-◌, ◌*◌, ◌==◌, List, [], ◌∷◌, drop, Result, Ok, codes, slice_index_or, if◌then◌else◌}
 use Rattle.serde_json.specs.Data as json
 use Rattle.serde_json.specs.Data.{Data, null, unsigned, Items, no_items, item, no_members}
@@ -23,7 +23,7 @@ fields_object f meets step =
     (json.member (codes "read") f.read (json.member (codes "step") step (json.member (codes "write") f.write
     no_members)))))))
 
--- A group's certificates stand in order of its claims: one for configuration 0, and two for each other.
+-- The certificates of a group are in order of its claims: one for configuration 0, and two for each other.
 abbrev pub meets_value : ℕ → List Data → Data
 meets_value c certificates = value_or_null certificates (2 * c - 1)
 
@@ -34,7 +34,7 @@ unfoldable pub configuration_written : ℕ → Data → List Data → Result Dat
 configuration_written c d certificates = fields_of d >>= λ f. Ok (fields_object f (meets_value c certificates)
     (step_value c certificates))
 
--- the configurations, numbered from c
+-- the configurations, of which the first has number c
 abbrev pub configurations_written : ℕ → Items → List Data → Result (List Data) Fault
 configurations_written c no_items certificates = Ok []
 configurations_written c (item d ds) certificates =
@@ -46,7 +46,7 @@ group_object xs = json.object (json.member (codes "configurations") (json.array 
 unfoldable pub group_written : Items → List Data → Result Data Fault
 group_written ds certificates = configurations_written 0 ds certificates >>= λ xs. Ok (group_object xs)
 
--- the groups, each with the certificates that those before it leave
+-- the groups, each with the certificates that remain after those before it
 abbrev pub groups_written : Items → List Data → Result (List Data) Fault
 groups_written no_items certificates = Ok []
 groups_written (item d ds) certificates =
@@ -60,14 +60,14 @@ plan_members format lal xs =
     (json.member (codes "groups") (json.array (items_of xs)) (json.member (codes "lal") (json.number (unsigned lal))
     no_members))
 
--- A plan, of which format 3 alone says how many groups are there at birth.
+-- A plan; only format 3 has the number of groups at birth.
 abbrev pub plan_object : Format → ℕ → ℕ → List Data → Data
 plan_object Plain lal born xs = json.object (plan_members Plain lal xs)
 plan_object Weighted lal born xs = json.object (plan_members Weighted lal xs)
 plan_object Growing lal born xs = json.object (json.member (codes "born") (json.number (unsigned born))
     (plan_members Growing lal xs))
 
--- the whole
+-- the plan with these certificates
 unfoldable pub plan_written : Data → List Data → Result Data Fault
 plan_written d certificates = header_of d >>= λ h. groups_written h.groups certificates >>= λ xs. Ok
     (plan_object h.format h.lal h.born xs)

@@ -1,7 +1,7 @@
 -- Sums over numbers.
 use Rattle.std.specs.Prelude.{ℕ, zero, suc, ◌+◌}
 
--- the sum of what f gives for the numbers below a bound
+-- the sum of the values of f for the numbers below a bound
 abbrev pub sum_below : (ℕ → ℕ) → ℕ → ℕ
 sum_below f zero = 0
 sum_below f (suc n) = sum_below f n + f n

@@ -10,14 +10,14 @@ use Rattle.plan.specs.PlanData.{PlanData}
 use Rattle.plan.specs.PlanClaims.{PlacedClaim, claims_in}
 use Rattle.plan.specs.Written.{spelt}
 
--- The tape holds the tokens of a text, which is JSON of at most 16,777,216 bytes.
+-- The tape has the tokens of a text, which is JSON of at most 16,777,216 bytes.
 pub record IsTapeOf (text : List ℕ) (tape : List Token) : Type 0 where
   pub is : tape ≡ tokens text
   pub json : IsSome (document text)
   pub utf8 : IsUtf8 text
   pub within : IsWithinSize text
 
--- The text spells a plan that has claims, and this is their number.
+-- The text is that of a plan that has claims, and this is their number.
 pub record HasClaims (text : List ℕ) (count : ℕ) : Type 0 where
   pub plan : PlanData
   pub is : plan_of text ≡ Ok plan
@@ -25,6 +25,6 @@ pub record HasClaims (text : List ℕ) (count : ℕ) : Type 0 where
   pub listed : claims_in plan ≡ Ok claims
   pub places : count ≡ length claims
 
--- The bytes spell the plan that is defined.
+-- The bytes are a text of the plan that is defined.
 abbrev pub Spells : Result PlanData PlanFault → List ℕ → Type 0
 Spells defined bytes = IsOkAnd defined (λ plan. spelt bytes ≡ Ok plan)

@@ -1,4 +1,4 @@
--- What the parts of a plan that the code holds stand for.
+-- Views of the code's parts of a plan.
 use Rattle.std.specs.Prelude.{option_map}
 use Rattle.serde_json.specs.Data.{Data}
 use Rattle.json_node.specs.Nodes.{items_in}

@@ -1,4 +1,4 @@
-//! Certificates, put into a text.
+//! Writes certificates as JSON text.
 
 ghost use Rattle.std.specs.Prelude.{◌<◌, OnSome, codes};
 ghost use Rattle.serde_json.specs.Data.{string, no_members};
@@ -17,7 +17,6 @@ use json::Writer;
 use refutation::{Certificate, Refutation, Side};
 use std::alloc::{Allocator, Global};
 
-/// Writes the side of an item.
 fn put_side(writer: &mut Writer, side: Side) -> Option<()>
     ensures { OnSome result (PutsMember (codes "side") (string (side_text side)) writer.old writer.new) }
 {
@@ -27,7 +26,6 @@ fn put_side(writer: &mut Writer, side: Side) -> Option<()>
     }
 }
 
-/// Writes a rule that an item is dead.
 fn put_dead(writer: &mut Writer, side: Side, item: u16) -> Option<()>
     ensures { OnSome result (Puts (dead_data side item) writer.old writer.new) }
 {
@@ -38,7 +36,6 @@ fn put_dead(writer: &mut Writer, side: Side, item: u16) -> Option<()>
     close_object(writer)
 }
 
-/// Writes a rule that two items clash.
 fn put_clash(writer: &mut Writer, left: u16, right: u16) -> Option<()>
     ensures { OnSome result (Puts (clash_data left right) writer.old writer.new) }
 {
@@ -49,7 +46,7 @@ fn put_clash(writer: &mut Writer, left: u16, right: u16) -> Option<()>
     close_object(writer)
 }
 
-/// Writes a rule that opens an item, up to its branch.
+/// Writes an `open` rule up to its branch.
 fn begin_open(writer: &mut Writer, side: Side, item: u16) -> Option<()>
     ensures { OnSome result (OpensTo (side_members (codes "open") side item) (codes "then") writer.old writer.new) }
 {
@@ -60,7 +57,7 @@ fn begin_open(writer: &mut Writer, side: Side, item: u16) -> Option<()>
     put_key(writer, "then")
 }
 
-/// Writes a rule that picks children of an item, up to its branches.
+/// Writes a `pick` rule up to its branches.
 fn begin_pick(writer: &mut Writer, side: Side, item: u16, children: &[u8]) -> Option<()>
     ensures { OnSome result (OpensTo (pick_members side item children.now) (codes "then") writer.old writer.new) }
 {
@@ -73,7 +70,7 @@ fn begin_pick(writer: &mut Writer, side: Side, item: u16, children: &[u8]) -> Op
     put_key(writer, "then")
 }
 
-/// Writes a rule that matches children of two items, up to its branches.
+/// Writes a `match` rule up to its branches.
 fn begin_match(writer: &mut Writer, left: u16, right: u16, pairs: &[(u8, u8)]) -> Option<()>
     ensures { OnSome result (OpensTo (match_members left right pairs.now) (codes "then") writer.old writer.new) }
 {
@@ -86,7 +83,7 @@ fn begin_match(writer: &mut Writer, left: u16, right: u16, pairs: &[(u8, u8)]) -
     put_key(writer, "then")
 }
 
-/// Writes a rule that splits on a member, up to its left branch.
+/// Writes a `split` rule up to its left branch.
 fn begin_split(writer: &mut Writer) -> Option<()>
     ensures { OnSome result (OpensTo no_members (codes "left") writer.old writer.new) }
 {
@@ -94,7 +91,7 @@ fn begin_split(writer: &mut Writer) -> Option<()>
     put_key(writer, "left")
 }
 
-/// Writes what stands between the branches of a split.
+/// Writes the text between the branches of a `split` rule.
 fn put_split_member(writer: &mut Writer, member: u8) -> Option<()>
     ensures { OnSome result (PutsBetween (codes "member") (number_data member) (codes "right") writer.old writer.new) }
 {
@@ -102,7 +99,7 @@ fn put_split_member(writer: &mut Writer, member: u8) -> Option<()>
     put_key(writer, "right")
 }
 
-/// Writes what stands behind the branches of a split.
+/// Writes the text after the branches of a `split` rule.
 fn end_split(writer: &mut Writer) -> Option<()>
     ensures { OnSome result (PutsLast (codes "rule") (string (codes "split")) writer.old writer.new) }
 {
@@ -157,7 +154,6 @@ fn put_rule<A: Allocator>(writer: &mut Writer, rule: &Refutation<A>) -> Option<(
     }
 }
 
-/// Writes a list of rules.
 #[cycle(put)]
 fn put_branches<A: Allocator>(writer: &mut Writer, then: &[Refutation<A>]) -> Option<()>
     ensures { OnSome result (Puts (rules_data then.now) writer.old writer.new) }
@@ -169,7 +165,7 @@ fn put_branches<A: Allocator>(writer: &mut Writer, then: &[Refutation<A>]) -> Op
     close_array(writer)
 }
 
-/// Writes the certificate at a place, or null.
+/// Writes the certificate at a place of a list, or null.
 pub(crate) fn put_certificate_at(
     writer: &mut Writer,
     certificates: &[Option<Certificate<Global>>],

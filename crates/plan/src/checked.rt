@@ -8,7 +8,7 @@ use crate::configurations::{Configuration, Group, Plan};
 use quorum_checker::{no_fault_refutes, refuted_claim_meets};
 use volume_model::claims_certify;
 
-/// A plan without a fault.
+/// A plan that [`check_plan`](crate::check_plan) accepted. It has no other constructor.
 #[derive(Drop)]
 pub struct CheckedPlan {
     plan: Plan,
@@ -22,7 +22,7 @@ impl CheckedPlan {
     ghost use Rattle.volume_model.specs.Plan.{IsCertified, has_member, is_full, is_named};
     ghost use Rattle.plan.specs.CheckedModel.{checked_model, ShowsConfiguration};
 
-    /// Returns a plan without a fault, as a checked one.
+    /// Wraps a plan that was found to have no fault.
     pub(crate) fn trusted(plan: Plan) -> CheckedPlan
         requires { plan_fault (plan_data plan) ≡ None }
         ensures { result.plan ≡ plan }
@@ -45,7 +45,7 @@ impl CheckedPlan {
         self.plan.lal
     }
 
-    /// Returns how many groups there are.
+    /// Returns the number of groups.
     pub fn groups(&self) -> u8
         ensures groups { result ≡ (checked_model self.now).groups }
         ensures few { result ≤ 16 }
@@ -53,8 +53,7 @@ impl CheckedPlan {
         self.plan.groups.len() as u8
     }
 
-    /// Returns how many groups, the first ones, are there when the volume is born. The others join it later, in
-    /// order.
+    /// Returns the number of groups at birth: the first ones. The others join the volume later, in order.
     pub fn born(&self) -> u8
         ensures born { result ≡ (checked_model self.now).born }
         ensures some { 1 ≤ result }
@@ -63,7 +62,7 @@ impl CheckedPlan {
         self.plan.born
     }
 
-    /// Returns how many configurations a group has, and 0 where there is no such group.
+    /// Returns the number of configurations of a group, 0 if there is no such group.
     pub fn configurations(&self, group: u8) -> u8
         ensures { result ≡ (checked_model self.now).configurations group }
     {
@@ -122,8 +121,8 @@ impl CheckedPlan {
         }
     }
 
-    /// Proves that a checked plan is certified: in each configuration the read sets meet the write sets, and each step
-    /// is one.
+    /// Proves that a checked plan is certified: in each configuration each read set shares a member with each write
+    /// set, and each step is safe.
     pub fn certified(&self)
         ensures { IsCertified (checked_model self.now) }
     {

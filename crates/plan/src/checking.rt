@@ -1,4 +1,4 @@
-//! The check of a plan.
+//! Checks plans.
 
 ghost use Rattle.std.specs.Prelude.{◌≡◌, ◌<◌, ◌≤◌, true, false, is_some, length, map, option_map};
 ghost use Rattle.std.specs.FinSet.{difference};
@@ -22,7 +22,7 @@ use refutation::Certificate;
 use std::alloc::Global;
 use volume_model::Fault;
 
-/// Returns whether a certificate refutes a claim.
+/// Checks that a certificate refutes a claim.
 fn check_certificate(
     alloc: Global,
     claim: &ClaimRef<'_>,
@@ -46,7 +46,7 @@ fn check_certificate(
     }
 }
 
-/// Returns whether the configuration has a certificate that its read sets meet its write sets.
+/// Checks that the configuration has a certificate that its read sets meet its write sets.
 fn check_meets(
     alloc: Global,
     group: u8,
@@ -74,7 +74,7 @@ fn check_meets(
     }
 }
 
-/// Returns whether the child has a certificate that its read sets without a fresh member are read sets of its parent.
+/// Checks that the child has a certificate that its read sets without fresh members are read sets of its parent.
 fn check_step(
     alloc: Global,
     group: u8,
@@ -103,7 +103,8 @@ fn check_step(
     }
 }
 
-/// Returns the first fault of a configuration: its parent, its fresh members, its claim and that of its step.
+/// Returns the first fault of a configuration: of its parent, its fresh members, its `meets` claim and its `step`
+/// claim.
 fn check_configuration(
     alloc: Global,
     group: u8,
@@ -150,12 +151,12 @@ fn check_groups(alloc: Global, groups: &[Group]) -> Result<(), PlanFault>
     Ok(())
 }
 
-/// Returns the plan, checked.
+/// Checks a plan, and returns it as a checked one.
 ///
 /// # Errors
-/// The first fault with the plan: configuration by configuration [`PlanFault::BadParent`], then
-/// [`PlanFault::MemberReused`], then [`PlanFault::NoCertificate`] or [`PlanFault::Certificate`] of its claim that
-/// read sets meet write sets, then those of its step.
+/// The plan's first fault, with the plan. For each configuration in order: [`PlanFault::BadParent`], then
+/// [`PlanFault::MemberReused`], then [`PlanFault::NoCertificate`] or [`PlanFault::Certificate`] of its `meets` claim,
+/// then those of its `step` claim.
 #[tactic(auto, unfolding(crate::specs::PlanFaults::plan_fault))]
 pub fn check_plan(alloc: Global, plan: Plan) -> Result<CheckedPlan, (PlanFault, Plan)>
     ensures { ChecksTo result plan }

@@ -1,4 +1,4 @@
-//! What a plan is made of.
+//! Plans, their groups and configurations.
 
 ghost use Rattle.std.specs.Prelude.{◌≡◌, ◌≤◌, true, None, length};
 ghost use Rattle.volume_model.specs.Formula.{Formula};
@@ -11,22 +11,22 @@ use quorum_expr::{Expr, MemberSet};
 use refutation::Certificate;
 use std::alloc::Global;
 
-/// A configuration of a group. Both expressions are valid and name none but its members.
+/// A configuration of a group. Both expressions are valid and name only its members.
 #[derive(Drop)]
 pub struct Configuration {
-    /// The number of the configuration that it comes from.
+    /// The number of the parent, if it has one.
     pub parent: Option<u64>,
     /// Its members.
     pub members: MemberSet,
     /// The members that keep whole pages.
     pub full: MemberSet,
-    /// Which sets of members may read.
+    /// The read quorums.
     pub read: Expr<Global>,
-    /// Which sets of members may write.
+    /// The write quorums.
     pub write: Expr<Global>,
-    /// Shows that each read set meets each write set.
+    /// The certificate that each read set shares a member with each write set.
     pub meets: Option<Certificate<Global>>,
-    /// Shows that a read set without a fresh member is one of the parent's.
+    /// The certificate that each read set without fresh members is a read set of the parent.
     pub step: Option<Certificate<Global>>,
     ghost read_valid: { expression_fault (formula_of read) ≡ None },
     ghost write_valid: { expression_fault (formula_of write) ≡ None },
@@ -34,24 +34,24 @@ pub struct Configuration {
     ghost write_own: { names_only (formula_of write) members ≡ true },
 }
 
-/// The 1 to 64 configurations of a group. Number 0 is the root.
+/// A group's 1 to 64 configurations. Number 0 is the root.
 #[derive(Drop)]
 pub struct Group {
-    /// The configurations by number, each after the one that it comes from.
+    /// The configurations by number, each after its parent.
     pub configurations: Vec<Configuration>,
     ghost some: { 1 ≤ length configurations.items },
     ghost few: { length configurations.items ≤ 64 },
 }
 
-/// How far LSNs may run ahead of the durable point, from 1 to 10,000,000, and the 1 to 16 groups. The first of these,
-/// 1 at least, are there when the volume is born; the others join it one by one, in order.
+/// A plan. LSNs may run 1 to 10,000,000 ahead of the durable point. There are 1 to 16 groups; the first `born` of them
+/// (1 at least) exist when the volume is born, the others join it one by one, in order.
 #[derive(Drop)]
 pub struct Plan {
-    /// The format of its text.
+    /// The format of the plan's text.
     pub format: Format,
     /// How far LSNs may run ahead of the durable point.
     pub lal: u64,
-    /// How many groups are there when the volume is born.
+    /// The number of groups at birth.
     pub born: u8,
     /// The groups by number.
     pub groups: Vec<Group>,
@@ -70,7 +70,7 @@ impl Group {
     ghost use Rattle.plan.specs.PlanData.{configuration_at};
     ghost use Rattle.plan.specs.Plan.{group_data};
 
-    /// Returns whether one of its configurations has the member.
+    /// Returns whether one of the group's configurations has the member.
     pub fn names(&self, member: u8) -> bool
         ensures { result ≡ some_below (length (group_data self.now))
             (λ c. nat_lt member 64 && contains (configuration_at (group_data self.now) c).members member) }

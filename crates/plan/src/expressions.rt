@@ -1,4 +1,4 @@
-//! Expressions of a tape, written as they were read.
+//! Writes the expressions of a tape as they were read.
 
 ghost use Rattle.std.specs.Prelude.{OnSome};
 ghost use Rattle.json_node.specs.Tapes.{data_of};
@@ -49,7 +49,7 @@ fn put_name(writer: &mut Writer, node: &TapeNode<'_, '_>) -> Option<()>
     }
 }
 
-/// Writes the weights and the end of a threshold of three keys.
+/// Writes the weights and the end of a threshold with three keys.
 fn close_weighted(writer: &mut Writer, node: &TapeNode<'_, '_>) -> Option<()>
     ensures { OnSome result (EndsThreshold 3 (data_of node.now) writer.old writer.new) }
 {
@@ -59,7 +59,7 @@ fn close_weighted(writer: &mut Writer, node: &TapeNode<'_, '_>) -> Option<()>
     close_object(writer)
 }
 
-/// Writes what follows the children of a threshold of `keys` keys.
+/// Writes the rest of a threshold with `keys` keys, after its children.
 fn close_threshold(writer: &mut Writer, node: &TapeNode<'_, '_>, keys: usize) -> Option<()>
     ensures { OnSome result (EndsThreshold keys (data_of node.now) writer.old writer.new) }
 {
@@ -72,7 +72,6 @@ fn close_threshold(writer: &mut Writer, node: &TapeNode<'_, '_>, keys: usize) ->
     close_object(writer)
 }
 
-/// Writes the children of a threshold.
 #[cycle(put)]
 fn put_children(writer: &mut Writer, node: &TapeNode<'_, '_>, left: u8) -> Option<()>
     ensures { OnSome result (Puts (data_of node.now) writer.old writer.new) }

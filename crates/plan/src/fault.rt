@@ -12,42 +12,42 @@ use volume_model::Fault;
 /// One of a configuration's two expressions.
 #[derive(Clone, Copy, Debug, PartialEq, Eq)]
 pub enum Quorum {
-    /// Which sets may read.
+    /// The read quorums.
     Read,
-    /// Which sets may write.
+    /// The write quorums.
     Write,
 }
 
-/// The first fault of a plan or of its text, and where it stands.
+/// The first fault of a plan or of its text, and its place.
 #[derive(Debug, Drop)]
 pub enum PlanFault {
-    /// No memory, another text than a plan's, or more than a limit.
+    /// Memory ran out, the text isn't a plan's, or it passes a limit.
     Text(Fault),
-    /// An expression has a bad count, too many levels or a member that isn't one of the configuration.
+    /// An expression has a bad count, too many levels, or names a number that isn't a member of the configuration.
     Expression {
         fault: Fault,
         group: u8,
         configuration: u8,
         quorum: Quorum,
     },
-    /// The parent doesn't stand before the configuration, or configuration 0 has one.
+    /// The parent's number isn't smaller than the configuration's, or configuration 0 has a parent.
     BadParent {
         group: u8,
         configuration: u8,
     },
-    /// A fresh member that an ancestor has.
+    /// An ancestor has a fresh member.
     MemberReused {
         group: u8,
         configuration: u8,
         member: u8,
     },
-    /// A claim without a certificate.
+    /// A claim has no certificate.
     NoCertificate {
         group: u8,
         configuration: u8,
         step: bool,
     },
-    /// A certificate that doesn't refute its claim.
+    /// A certificate doesn't refute its claim.
     Certificate {
         group: u8,
         configuration: u8,
@@ -60,7 +60,7 @@ impl PlanFault {
     ghost use Rattle.std.specs.Prelude.{◌≡◌};
     ghost use Rattle.plan.specs.FaultKinds.{is_input, kind_of};
 
-    /// Returns what is wrong, without the place.
+    /// Returns the fault without its place.
     pub fn kind(&self) -> Fault
         ensures { result ≡ kind_of self.now }
     {
@@ -116,21 +116,21 @@ impl fmt::Display for Place {
     }
 }
 
-/// Returns the name of a claim: that of a step, or that read sets meet write sets.
+/// Returns the name of a claim: `step` or `meets`.
 pub fn claim_name(step: bool) -> &'static str
     ensures { result.now ≡ claim_text step }
 {
     if step { "step" } else { "meets" }
 }
 
-/// Returns how the line of a fault of the text begins.
+/// Returns the beginning of a fault's line: `input` or `no`.
 fn verdict_name(input: bool) -> &'static str
     ensures { result.now ≡ verdict_text input }
 {
     if input { "input" } else { "no" }
 }
 
-/// The line that a check of the plan prints.
+/// Writes the line that `check` prints.
 impl fmt::Display for PlanFault {
     ghost use Rattle.std.specs.Prelude.{Some};
     ghost use Rattle.plan.specs.PlanFaultText.{plan_fault_text};

@@ -19,7 +19,7 @@ pub struct Fields<N> {
 pub struct TopFields<N> {
     pub format: Format,
     pub lal: N,
-    /// How many groups there are at birth, if the format says so.
+    /// The number of groups at birth, if the format has it.
     pub born: Option<N>,
     pub groups: N,
 }
@@ -28,9 +28,9 @@ pub struct TopFields<N> {
 #[derive(Drop)]
 pub struct Header<N> {
     pub format: Format,
-    /// How far numbers may run ahead.
+    /// How far LSNs may run ahead of the durable point.
     pub lal: u64,
-    /// How many groups there are at birth.
+    /// The number of groups at birth.
     pub born: u8,
     pub groups: N,
 }

@@ -2,14 +2,14 @@
 
 ghost use Rattle.std.specs.Prelude.{◌≡◌};
 
-/// The format of a plan's text, by which it says more or less of the plan.
+/// The format of a plan's text. Formats 2 and 3 can say more than the one before.
 #[derive(Clone, Copy, Debug, PartialEq, Eq)]
 pub enum Format {
-    /// Format 1: expressions without weights, and all groups are there when the volume is born.
+    /// Format 1: expressions have no weights, and all groups exist when the volume is born.
     Plain,
     /// Format 2: expressions may have weights.
     Weighted,
-    /// Format 3: expressions may have weights, and the volume may grow by groups that join later.
+    /// Format 3: expressions may have weights, and groups may join the volume after its birth.
     Growing,
 }
 
@@ -23,7 +23,7 @@ impl Format {
         self != Format::Plain
     }
 
-    /// Returns how many keys a plan has.
+    /// Returns the number of keys of a plan.
     pub(crate) fn key_count(self) -> usize
         ensures { result ≡ key_count self }
     {
@@ -33,7 +33,7 @@ impl Format {
         }
     }
 
-    /// Returns the number that stands for it in the text.
+    /// Returns the number of the format.
     pub fn number(self) -> u64
         ensures { result ≡ number_of self }
     {

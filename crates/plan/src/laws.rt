@@ -1,4 +1,4 @@
-//! What it means that a plan has no fault.
+//! Laws about the faults of plans.
 
 ghost use Rattle.std.specs.Prelude.{◌≡◌, None, Ok, Option, List};
 ghost use Rattle.refutation.specs.Rule.{Rule};
@@ -12,8 +12,8 @@ ghost use Rattle.plan.specs.Reused.{ReuseIsFound};
 
 use quorum_checker::no_fault_refutes;
 
-/// Proves that a plan has no fault exactly where it is certified: its parents stand before their children, no member of
-/// a configuration that the parent lacks is one of a configuration above, and its certificates refute its claims.
+/// Proves that a plan has no fault exactly if it is certified: parents come before their children, no fresh member is
+/// one of a configuration above, and the certificates refute their claims.
 pub fn no_fault_is_certified()
     ensures certified { (plan : PlanData) → plan_fault plan ≡ None → IsCertifiedPlan plan }
     ensures fault_free { (plan : PlanData) → IsCertifiedPlan plan → plan_fault plan ≡ None }
@@ -21,8 +21,8 @@ pub fn no_fault_is_certified()
     no_fault_refutes();
 }
 
-/// Proves that where each claim of a plan has a rule that refutes it, the plan is certified and has no fault, once it
-/// is written with these rules.
+/// Proves that a plan for whose claims there are rules that refute them is certified, and has no fault once it is
+/// written with these rules.
 pub fn shown_claims_certify()
     ensures certified { (plan : PlanData) (claims : List PlacedClaim) (rules : List (Option Rule)) → claims_in plan
         ≡ Ok claims → AreShown claims rules → IsCertifiedPlan (with_certificates plan rules) }
@@ -32,8 +32,8 @@ pub fn shown_claims_certify()
     no_fault_is_certified();
 }
 
-/// Proves that a member is said to be used again exactly where one of the configuration that the parent lacks is one of
-/// a configuration above, and the least such member is named.
+/// Proves that a member is reported as reused exactly if a fresh member is one of a configuration above, and that the
+/// least such member is reported.
 pub fn reuse_is_found()
     ensures { ReuseIsFound }
 {}

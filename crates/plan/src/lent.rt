@@ -1,4 +1,4 @@
-//! Claims by what their plan lends.
+//! Claims that borrow their plan's expressions.
 
 ghost use Rattle.std.specs.Prelude.{Ok};
 ghost use Rattle.std.specs.FinSet.{difference};
@@ -17,7 +17,7 @@ use refutation::Certificate;
 use std::alloc::{Allocator, Global};
 use volume_model::Fault;
 
-/// Returns the claim that read sets meet write sets.
+/// Returns the `meets` claim of a configuration.
 fn meets_claim<B: Allocator + Clone>(
     alloc: B,
     configuration: &Configuration,
@@ -33,8 +33,8 @@ fn meets_claim<B: Allocator + Clone>(
     })
 }
 
-/// Returns the claim that read sets of the child without a fresh member meet what satisfies the dual of the parent's
-/// read expression.
+/// Returns the claim that each read set of the child without fresh members shares a member with each set that satisfies
+/// the dual of the parent's read expression.
 fn step_claim<B: Allocator + Clone>(
     alloc: B,
     child: &Configuration,
@@ -53,8 +53,7 @@ fn step_claim<B: Allocator + Clone>(
     })
 }
 
-/// A claim of a configuration, by what its plan lends: that its read sets meet its write sets or, where a parent stands beside it, that
-/// of its step from there.
+/// A claim of a configuration, which borrows from the plan: the `step` claim if it has a parent here, else `meets`.
 #[derive(Clone, Copy)]
 pub struct ClaimRef<'p> {
     /// The number of the configuration's group, from 0.
@@ -63,7 +62,7 @@ pub struct ClaimRef<'p> {
     pub configuration: u8,
     /// The configuration.
     pub this: &'p Configuration,
-    /// Its parent, for the claim of the step.
+    /// The parent, if this is the `step` claim.
     pub parent: Option<&'p Configuration>,
 }
 
@@ -75,10 +74,10 @@ impl ClaimRef<'_> {
     ghost use Rattle.quorum_checker.specs.FirstFault.{first_fault};
     ghost use Rattle.plan.specs.LentClaims.{lent_state};
 
-    /// Returns what a certificate has to refute, in memory of its own.
+    /// Returns the claim, with copies of its expressions.
     ///
     /// # Errors
-    /// `NoMemory` if there is no memory.
+    /// `NoMemory` if memory runs out.
     pub fn claim_in<B: Allocator + Clone>(&self, alloc: B) -> Result<Claim<B>, Fault>
         ensures { Gives first_state result (Ok (lent_state self.now)) }
     {
@@ -88,10 +87,10 @@ impl ClaimRef<'_> {
         }
     }
 
-    /// Returns whether a certificate refutes it. Nothing that the plan lends is copied.
+    /// Checks that a certificate refutes the claim. Doesn't copy the expressions.
     ///
     /// # Errors
-    /// The certificate's first fault, with its path; or `NoMemory` if there is no memory.
+    /// The certificate's first fault, with its path; or `NoMemory` if memory runs out.
     pub fn check<B: Allocator>(
         &self,
         alloc: Global,

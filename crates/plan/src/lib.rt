@@ -1,4 +1,4 @@
-//! Plans: groups of members, how their quorums change, and what it takes to trust them.
+//! Plans: groups of members and their quorums, how these change, and the certificates that make a plan safe.
 #![tactic(auto)]
 
 mod certificates;

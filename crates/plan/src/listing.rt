@@ -1,4 +1,4 @@
-//! The list of a plan's claims.
+//! Lists a plan's claims.
 
 ghost use Rattle.std.specs.Prelude.{◌≡◌, ◌<◌, ◌≤◌, IfErr, IsOk, Ok, length, map};
 ghost use Rattle.volume_model.specs.declared.fault.Fault.TheVariants.{NoMemory};
@@ -80,11 +80,11 @@ fn of_groups<'p>(alloc: Global, groups: &'p [Group]) -> Result<Vec<ClaimRef<'p>>
     Ok(list)
 }
 
-/// Returns the claims of a plan by what it lends, in order of group and configuration and that of a step last.
+/// Returns the claims of a plan, which borrow from it, in order of group and configuration; `meets` before `step`.
 ///
 /// # Errors
-/// The first [`PlanFault::BadParent`] or [`PlanFault::MemberReused`], which is found before any memory is taken; or
-/// else that memory ran out.
+/// The first [`PlanFault::BadParent`] or [`PlanFault::MemberReused`], which is found before anything is allocated; else
+/// `NoMemory` if memory runs out.
 #[tactic(auto, unfolding(crate::specs::PlanClaims::claims_in))]
 pub fn lent_claims<'p>(alloc: Global, plan: &'p Plan) -> Result<Vec<ClaimRef<'p>>, PlanFault>
     ensures claims { Reads (λ v. all_lent v.items) result (claims_in (plan_data plan.entry.now)) }
@@ -94,7 +94,7 @@ pub fn lent_claims<'p>(alloc: Global, plan: &'p Plan) -> Result<Vec<ClaimRef<'p>
     of_groups(alloc, &plan.groups)
 }
 
-/// Returns the same claims in memory of their own.
+/// Returns the claims with copies of their expressions.
 fn named(alloc: Global, lent: &[ClaimRef<'_>]) -> Result<Vec<NamedClaim>, PlanFault>
     ensures { Reads (λ v. all_placed v.items) result (Ok (all_lent lent.now)) }
 {
@@ -110,7 +110,7 @@ fn named(alloc: Global, lent: &[ClaimRef<'_>]) -> Result<Vec<NamedClaim>, PlanFa
     Ok(list)
 }
 
-/// Returns the claims of a plan, in order of group and configuration and that of a step last.
+/// Returns the claims of a plan with copies of their expressions, in the order of [`lent_claims`].
 ///
 /// # Errors
 /// Those of [`lent_claims`].

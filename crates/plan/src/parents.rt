@@ -1,4 +1,4 @@
-//! The parents of configurations, and the members that are new to them.
+//! The parents of configurations, and the fresh members, which the parent doesn't have.
 
 ghost use Rattle.std.specs.Prelude.{◌≡◌, ◌≢◌, ◌<◌, IfSome, length, map};
 ghost use Rattle.volume_model.specs.declared.fault.Fault.TheVariants.{NoMemory};
@@ -11,8 +11,8 @@ use crate::configurations::Configuration;
 use crate::fault::PlanFault;
 use quorum_expr::MemberSet;
 
-/// Returns whether a configuration may have this parent: configuration 0 none, and each other one that stands before
-/// it.
+/// Returns whether a configuration may have this parent: configuration 0 none, each other one a parent with a smaller
+/// number.
 fn is_good_parent(configuration: u8, parent: Option<u64>) -> bool
     ensures { result ≡ is_good_parent configuration parent }
 {
@@ -42,7 +42,7 @@ fn fault_of_parent(
     None
 }
 
-/// Returns the members of the configuration with a number, and none where there is no such configuration.
+/// Returns the members of the configuration with a number. No members if there is no such configuration.
 fn members_at(configurations: &[Configuration], number: u64) -> MemberSet
     ensures { result ≡ (configuration_at (map configuration_data configurations.now) number).members }
 {
@@ -52,7 +52,7 @@ fn members_at(configurations: &[Configuration], number: u64) -> MemberSet
     }
 }
 
-/// Returns the parent of the configuration with a number, where it stands before it.
+/// Returns the parent of a configuration, if its number is smaller.
 pub fn parent_of(configurations: &[Configuration], number: u64) -> Option<u64>
     ensures { result ≡ parent_at (map configuration_data configurations.now) number }
 {
@@ -60,7 +60,7 @@ pub fn parent_of(configurations: &[Configuration], number: u64) -> Option<u64>
     if parent < number { Some(parent) } else { None }
 }
 
-/// Returns the members that the parent lacks.
+/// Returns the members that the parent doesn't have.
 fn fresh_members(configurations: &[Configuration], configuration: u8) -> MemberSet
     requires { configuration < length configurations.now }
     ensures { result ≡ fresh_at (map configuration_data configurations.now) configuration }
@@ -72,7 +72,7 @@ fn fresh_members(configurations: &[Configuration], configuration: u8) -> MemberS
     }
 }
 
-/// Returns what is left of a set without the members of the configurations above, in at most this many steps up.
+/// Returns the members of `set` that no ancestor has, of the ancestors at most `steps` above.
 fn unused(configurations: &[Configuration], steps: u8, number: u64, set: MemberSet) -> MemberSet
     ensures { result ≡ unused_within steps (map configuration_data configurations.now) number set }
 {
@@ -90,7 +90,7 @@ fn unused(configurations: &[Configuration], steps: u8, number: u64, set: MemberS
     }
 }
 
-/// Returns the fault of a configuration's fresh members: the least of them that an ancestor has.
+/// Returns the fault of a configuration's fresh members: the least one that an ancestor has.
 fn fault_of_fresh(
     group: u8,
     configurations: &[Configuration],
@@ -117,7 +117,7 @@ fn fault_of_fresh(
     }
 }
 
-/// Returns the first fault of a configuration's parent and fresh members. Takes no memory.
+/// Returns the first fault of a configuration's parent and fresh members. Allocates nothing.
 pub fn fault_of_shape(
     group: u8,
     configurations: &[Configuration],
@@ -133,7 +133,7 @@ pub fn fault_of_shape(
     }
 }
 
-/// Returns the first fault of a configuration's parent and fresh members.
+/// Checks a configuration's parent and fresh members.
 pub fn check_shape(
     group: u8,
     configurations: &[Configuration],

@@ -1,4 +1,4 @@
-//! Plans from and to their text.
+//! Reads plans from text, and writes them.
 
 ghost use Rattle.std.specs.Prelude.{◌≡◌, IfErr, IfOk, length, map, option_map};
 ghost use Rattle.volume_model.specs.declared.fault.Fault.TheVariants.{NoMemory};
@@ -17,14 +17,13 @@ use json::Scratch;
 use refutation::Certificate;
 use std::alloc::Global;
 
-/// Returns the plan that a text spells.
+/// Reads the plan of a text.
 ///
 /// # Errors
-/// The first fault in reading order: the text's size, its JSON, the keys and the format, how far numbers may run ahead, the
-/// number of groups, how many of them are there at birth, then group by group the number of its configurations, and for
-/// each of these its keys, parent, members, full members, read and write expression, and the certificates of its claims.
-/// `Malformed` is a value of another shape than a plan's, and `OverLimit` more than a limit. `NoMemory` is no answer to a
-/// text that is too long.
+/// The first fault in reading order: the text's size, its JSON, the keys and the format, `lal`, the number of groups,
+/// `born`; then for each group the number of its configurations, and for each configuration its keys, parent, members,
+/// full members, read and write expression, and the certificates of its claims. `Malformed` is a value of another shape
+/// than a plan's, `OverLimit` more than a limit. A text that is too long never gives `NoMemory`.
 pub fn read_plan(alloc: Global, text: &[u8]) -> Result<Plan, PlanFault>
     ensures read { Reads plan_data result (plan_of text.now) }
     ensures memory { IfErr result (λ e. kind_of e ≡ NoMemory → IsWithinSize text.now) }
@@ -34,12 +33,11 @@ pub fn read_plan(alloc: Global, text: &[u8]) -> Result<Plan, PlanFault>
     taped.plan(alloc)
 }
 
-/// Returns the text of a plan, as compact JSON, with these certificates for its claims in their order, and null for a
-/// claim without one. Its own certificates are dropped, and all else is as it was read. There is one place for each
-/// claim.
+/// Returns a plan's text as compact JSON with other certificates: `certificates` has one place for each claim, in the
+/// claims' order, and a claim without one gets null. All other values are as they were read.
 ///
 /// # Errors
-/// The fault of the text, as [`read_plan`] gives it, then that of its claims, as [`claims`](crate::claims()) does.
+/// The fault of the text, as from [`read_plan`], then that of its claims, as from [`claims`](crate::claims()).
 #[tactic(auto, unfolding(crate::specs::Written::rewritten))]
 pub fn write_plan(
     alloc: Global,
@@ -49,7 +47,7 @@ pub fn write_plan(
     requires { HasPlaces text.now (length certificates.now) }
     ensures written { Writes result (rewritten text.now (map (option_map certificate_rule) certificates.now)) }
     ensures compact { IfOk result (λ bytes. IsCompact bytes.items) }
-    // Weights and names of lists stay as they are spelled.
+    // Weights and names of lists are kept as they are written.
     ensures kept { IfOk result (λ bytes. KeepsValues text.now bytes.items) }
     ensures memory { IfErr result (λ e. kind_of e ≡ NoMemory → IsWithinSize text.now) }
 {

@@ -1,4 +1,4 @@
-//! Tokens one by one, put into a text: keys, ends, whole numbers and lists of them.
+//! Writes JSON tokens: keys, ends, whole numbers and lists of them.
 
 ghost use Rattle.std.specs.Prelude.{◌≡◌, IfSome, OnSome, decimal};
 ghost use Rattle.json.specs.Token as token;
@@ -58,7 +58,7 @@ pub(crate) fn put_text(writer: &mut Writer, text: &str) -> Option<()>
     writer.string(text).ok()
 }
 
-/// Returns how a number of one digit is written.
+/// Returns the text of a number, if it has one digit.
 fn digit_text(number: u64) -> Option<&'static str>
     ensures { IfSome result (λ s. s.now ≡ decimal number) }
 {

@@ -28,7 +28,7 @@ use refutation::{Certificate, array, has_keys, listed, number_to, read_certifica
 use std::alloc::Global;
 use volume_model::Fault;
 
-/// How far log sequence numbers may run ahead at most.
+/// The most that LSNs may run ahead of the durable point.
 const MAX_LAL: u64 = 10_000_000;
 
 /// Returns the nodes of a configuration. `Malformed` for any other node.
@@ -123,7 +123,8 @@ fn lists<N: Node>(is_weighted: bool, fields: &Fields<N>) -> Result<Lists, Fault>
     })
 }
 
-/// Returns a fault of an expression with its place, or one of the text as it is.
+/// Returns the error for a fault of an expression: with its place if it is one of the plan, else as a fault of the
+/// text.
 fn expression_error(group: u8, configuration: u8, quorum: Quorum, fault: Fault) -> PlanFault
     ensures { result ≡ expression_error group configuration quorum fault }
 {
@@ -187,7 +188,6 @@ fn step<N: Node>(
     certificate(alloc, value)
 }
 
-/// Reads a configuration.
 #[tactic(auto, unfolding(crate::specs::PlanText::configuration_in))]
 fn configuration<N: Node>(
     alloc: Global,
@@ -216,7 +216,6 @@ fn configuration<N: Node>(
     })
 }
 
-/// Reads configurations in order.
 fn configurations<N: Node>(
     alloc: Global,
     is_weighted: bool,
@@ -256,7 +255,6 @@ pub fn group_array<N: Node>(value: &N) -> Result<N, Fault>
     Ok(list)
 }
 
-/// Reads a group.
 #[tactic(auto, unfolding(crate::specs::PlanText::group_in))]
 fn group<N: Node>(
     alloc: Global,
@@ -271,7 +269,6 @@ fn group<N: Node>(
     Ok(Group { configurations })
 }
 
-/// Reads groups in order.
 fn groups<N: Node>(alloc: Global, is_weighted: bool, list: &N) -> Result<Vec<Group>, PlanFault>
     requires { items_len (items_in (N.means list.now)) ≤ 16 }
     ensures read { Reads (λ v. map group_data v.items) result (groups_in is_weighted 0 (items_in (N.means list.now))) }
@@ -301,7 +298,7 @@ fn format<N: Node>(value: &N) -> Result<Format, Fault>
     }
 }
 
-/// Returns the node of how many groups there are at birth, if the format says so.
+/// Returns the node of the number of groups at birth, if the format has it.
 fn born_field<N: Node>(value: &N, format: Format) -> Result<Option<N>, Fault>
     ensures { Gives (λ b. option_map N.means b) result (born_field format (N.means value.now)) }
 {
@@ -330,7 +327,7 @@ fn top_fields<N: Node>(value: &N) -> Result<TopFields<N>, Fault>
     })
 }
 
-/// Reads how far numbers may run ahead: from 1 to 10,000,000.
+/// Reads `lal`, from 1 to 10,000,000: how far LSNs may run ahead of the durable point.
 #[tactic(auto, unfolding(crate::specs::PlanText::lal_of))]
 fn lal<N: Node>(value: &N) -> Result<u64, Fault>
     ensures read { Gives (λ n. n) result (lal_of (N.means value.now)) }
@@ -363,7 +360,7 @@ fn group_count<N: Node>(value: &N) -> Result<u8, Fault>
     Ok(count as u8)
 }
 
-/// Reads how many of `groups` groups there are at birth: all if nothing is said of it, or else from 1 to that many.
+/// Reads the number of groups at birth: from 1 to `groups`, or `groups` if the format doesn't have it.
 fn born<N: Node>(value: &Option<N>, groups: u8) -> Result<u8, Fault>
     requires { 1 ≤ groups }
     ensures read { Gives (λ n. n) result (born_of groups (option_map N.means value.now)) }

@@ -1,4 +1,4 @@
-//! Whether the configurations of a plan may have claims: their parents, and the members that are new to them. Takes no memory.
+//! Checks whether configurations may have claims: their parents and their fresh members. Allocates nothing.
 
 ghost use Rattle.std.specs.Prelude.{◌<◌, ◌≤◌, length, map};
 ghost use Rattle.plan.specs.Plan.{configuration_data, group_data};

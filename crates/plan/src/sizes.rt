@@ -1,4 +1,4 @@
-//! How long the texts of certificates are.
+//! Bounds on the length of certificates' texts.
 
 ghost use Rattle.std.specs.Prelude.{◌≤◌, All, option_map};
 ghost use Rattle.refutation.specs.Refutation.{rule_of};
@@ -10,19 +10,18 @@ ghost use Rattle.plan.specs.Rules.{EachInRange};
 use refutation::{Certificate, Refutation};
 use std::alloc::{Allocator, Global};
 
-/// The bytes of a null.
+/// The bytes of `null`.
 const NULL_BYTES: usize = 4;
 
-/// The bytes of a rule beside its numbers and branches, with a comma: those of a pick, which are the most.
+/// The bytes of a rule without its numbers and branches, with a comma: those of a `pick`, which has the most.
 const RULE_BYTES: usize = 63;
 
-/// The bytes of a child's number with a comma, at most.
+/// The most bytes of a child's number with a comma.
 const CHILD_BYTES: usize = 4;
 
-/// The bytes of a pair of children's numbers beside these, with a comma.
+/// The bytes of a pair without its two numbers, with a comma.
 const PAIR_BYTES: usize = 4;
 
-/// Returns how many digits a number has.
 fn digits(number: u16) -> usize
     ensures { result ≤ 5 }
 {
@@ -35,21 +34,21 @@ fn digits(number: u16) -> usize
     }
 }
 
-/// Returns the room for an item's number too.
+/// Adds the bytes of an item's number to `room`.
 fn with_item(room: usize, item: u16) -> usize
     ensures { item ≤ 65535 }
 {
     room.saturating_add(digits(item))
 }
 
-/// Returns the room for children's numbers too.
+/// Adds the bytes of children's numbers to `room`.
 fn with_children(room: usize, children: &[u8]) -> usize
     ensures { All (λ n. n ≤ 255) children.now }
 {
     room.saturating_add(children.len().saturating_mul(CHILD_BYTES))
 }
 
-/// Returns the room for a pair of children's numbers too.
+/// Adds the bytes of a pair of children's numbers to `room`.
 fn with_pair(room: usize, pair: (u8, u8)) -> usize
     ensures { IsPairInRange pair }
 {
@@ -57,7 +56,7 @@ fn with_pair(room: usize, pair: (u8, u8)) -> usize
     room.saturating_add(PAIR_BYTES + both)
 }
 
-/// Returns the room for pairs of children's numbers too.
+/// Adds the bytes of pairs of children's numbers to `room`.
 fn with_pairs(room: usize, pairs: &[(u8, u8)]) -> usize
     ensures { All IsPairInRange pairs.now }
 {
@@ -68,7 +67,7 @@ fn with_pairs(room: usize, pairs: &[(u8, u8)]) -> usize
     room
 }
 
-/// Returns the room for a rule and its branches too.
+/// Adds the bytes of a rule and its branches to `room`.
 #[cycle(size)]
 fn with_rule<A: Allocator>(room: usize, rule: &Refutation<A>) -> usize
     ensures { HasRanges (rule_of rule.now) }
@@ -97,7 +96,7 @@ fn with_rule<A: Allocator>(room: usize, rule: &Refutation<A>) -> usize
     }
 }
 
-/// Returns the room for branches too.
+/// Adds the bytes of branches to `room`.
 #[cycle(size)]
 fn with_branches<A: Allocator>(room: usize, then: &[Refutation<A>]) -> usize
     ensures { EachInRange then.now }
@@ -109,7 +108,7 @@ fn with_branches<A: Allocator>(room: usize, then: &[Refutation<A>]) -> usize
     room
 }
 
-/// Returns the room for a certificate too, or for a null.
+/// Adds the bytes of a certificate or of a null to `room`.
 fn with_certificate(room: usize, certificate: &Option<Certificate<Global>>) -> usize
     ensures { IsReadBack (option_map certificate_rule certificate.now) }
 {
@@ -119,8 +118,8 @@ fn with_certificate(room: usize, certificate: &Option<Certificate<Global>>) -> u
     }
 }
 
-/// Returns the bytes that the texts of certificates take, at most. Each of these is read back, as all of its numbers
-/// are in their ranges.
+/// Returns an upper bound of the bytes of certificates' texts. Its contract says that all their numbers are in range,
+/// so that each certificate can be read back.
 pub(crate) fn room_for(certificates: &[Option<Certificate<Global>>]) -> usize
     ensures { All (λ c. IsReadBack (option_map certificate_rule c)) certificates.now }
 {

@@ -27,7 +27,7 @@ use volume_model::Fault;
 /// The most bytes of a plan's text.
 pub const PLAN_BYTES: u32 = 16_777_216;
 
-/// The text of a plan as a tape, from which the plan is read, and written with other certificates.
+/// The text of a plan as a tape. The plan is read from it, and written with other certificates.
 #[derive(Drop)]
 pub struct TapedPlan<'a> {
     text: &'a str,
@@ -76,7 +76,7 @@ impl<'a> TapedPlan<'a> {
     ) -> Result<TapedPlan<'a>, PlanFault>
         ensures text { IfOk result (λ taped. taped ≡ text.entry.now) }
         ensures fault { IfErr result (λ fault. fault ≢ Text NoMemory → plan_of text.entry.now ≡ Err fault) }
-        // `NoMemory` is no answer to a text that is too long, here and below.
+        // A text that is too long never gives `NoMemory`, here and below.
         ensures memory { IfErr result (λ fault. kind_of fault ≡ NoMemory → IsWithinSize text.entry.now) }
         ensures within { OnOk result (IsWithinSize text.entry.now) }
     {
@@ -92,7 +92,7 @@ impl<'a> TapedPlan<'a> {
     /// Reads the plan.
     ///
     /// # Errors
-    /// The first fault in reading order, as [`read_plan`](crate::read_plan) gives it.
+    /// The first fault in reading order, as from [`read_plan`](crate::read_plan).
     pub fn plan(&self, alloc: Global) -> Result<Plan, PlanFault>
         ensures { Reads plan_data result (plan_of self.now) }
     {
@@ -102,11 +102,12 @@ impl<'a> TapedPlan<'a> {
         }
     }
 
-    /// Returns the text as compact JSON with these certificates for the plan's claims in their order, and null for a
-    /// claim without one. All other values are the text's, with the keys of each object in alphabetical order.
+    /// Returns the text as compact JSON with these certificates for the plan's claims, in the claims' order; a claim
+    /// without one gets null. All other values are those of the text, with the keys of each object in alphabetical
+    /// order.
     ///
     /// # Errors
-    /// Memory ran out.
+    /// Fails only if memory runs out.
     pub fn write(
         &self,
         alloc: Global,
@@ -115,7 +116,7 @@ impl<'a> TapedPlan<'a> {
         requires { HasClaims self.now (length certificates.now) }
         ensures written { IfOk result (λ bytes. Spells (rewritten self.now (rules_in certificates.now)) bytes.items) }
         ensures compact { IfOk result (λ bytes. IsCompact bytes.items) }
-        // Expressions stay as the text spells them.
+        // Expressions are kept as they are written in the text.
         ensures kept { IfOk result (λ bytes. KeepsValues self.now bytes.items) }
     {
         let Some(root) = tape_root(&self.tape) else {

@@ -1,4 +1,4 @@
-//! Where a checked plan's configurations stand in their trees.
+//! The configurations of a checked plan as trees.
 
 ghost use Rattle.std.specs.Prelude.{◌≡◌, ◌+◌, ◌≤◌, map};
 ghost use Rattle.plan.specs.PlanData.{epoch_within};
@@ -8,8 +8,8 @@ use crate::checked::CheckedPlan;
 use crate::configurations::Configuration;
 use crate::parents::parent_of;
 
-/// Returns the membership epoch of the configuration with a number, in at most this many steps up: 1 for a root, and
-/// one more than its parent's for a child.
+/// Returns the membership epoch of the configuration with a number: 1 for a root, one more than its parent's for a
+/// child. Climbs at most `steps` parents.
 fn epoch_within(configurations: &[Configuration], steps: u8, number: u64) -> u32
     ensures epoch { result ≡ epoch_within steps (map configuration_data configurations.now) number }
     ensures small { result ≤ steps + 1 }
@@ -28,7 +28,7 @@ impl CheckedPlan {
     ghost use Rattle.volume_model.specs.Plan.{epoch_of, parent_of, is_configuration};
     ghost use Rattle.plan.specs.CheckedModel.{checked_model};
 
-    /// Returns the membership epoch of a configuration: 1 for a root, and one more than its parent's for a child.
+    /// Returns the membership epoch of a configuration: 1 for a root, one more than its parent's for a child.
     pub fn epoch(&self, group: u8, configuration: u8) -> u32
         ensures { result ≡ epoch_of (checked_model self.now) group configuration }
     {

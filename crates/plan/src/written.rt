@@ -1,4 +1,4 @@
-//! Plans of a tape, written with other certificates.
+//! Writes the plan of a tape with other certificates.
 
 ghost use Rattle.std.specs.Prelude.{◌≡◌, ◌<◌, OnSome, drop};
 ghost use Rattle.json_node.specs.Nodes.{items_in};
@@ -118,7 +118,7 @@ fn put_configurations(
     close_array(writer)
 }
 
-/// Writes a group of these configurations.
+/// Writes a group with these configurations.
 fn put_group(
     writer: &mut Writer,
     list: &TapeNode<'_, '_>,
@@ -148,7 +148,7 @@ fn after(
     }
 }
 
-/// Writes the groups of an array, each with the certificates that those before it leave.
+/// Writes the groups of an array. Each takes its certificates from the front of the list.
 fn put_groups(
     writer: &mut Writer,
     list: &TapeNode<'_, '_>,
@@ -170,7 +170,7 @@ fn put_groups(
     close_array(writer)
 }
 
-/// Writes how many groups there are at birth, which format 3 alone says.
+/// Writes the number of groups at birth, which only format 3 has.
 fn put_born(writer: &mut Writer, format: Format, born: u8) -> Option<()>
     ensures { OnSome result (PutsBorn format born writer.old writer.new) }
 {

@@ -14,7 +14,7 @@ use std::sync::Wait;
 use std::thread::Threads;
 use std::{env, io};
 
-/// The words of the command line, or the line of why there are none.
+/// Returns the words of the command line, or the line to print if they can't be read.
 fn words(rt: &HostRuntime, alloc: Global) -> Result<Vec<String>, &'static str> {
     let words = match env::args(rt) {
         Ok(words) => words,
@@ -26,13 +26,13 @@ fn words(rt: &HostRuntime, alloc: Global) -> Result<Vec<String>, &'static str> {
     words.collect(alloc).map_err(|_| NO_MEMORY)
 }
 
-/// The texts of words.
+/// Returns the words as string slices.
 fn texts<'a>(alloc: Global, words: &'a [String]) -> Result<Vec<&'a str>, AllocError> {
     words.iter().map(|word| word.as_str()).collect(alloc)
 }
 
-/// Reads the words of the command line, and does what they ask for; a search and a fleet start their threads by
-/// the second handle.
+/// Reads the words of the command line and performs the job. A search and a fleet start their threads with the second
+/// handle.
 fn run<H: Threads + Wait + Sync>(rt: &HostRuntime, threads: &H) -> u8
     ensures { result ≤ 2 }
 {
@@ -49,7 +49,20 @@ fn run<H: Threads + Wait + Sync>(rt: &HostRuntime, threads: &H) -> u8
     match job(alloc, words.as_slice()) {
         Ok(job) if job.reads_stdin() => {
             let mut plan = Source::new(Ok(rt.stdin()));
-            let mut script = opened(rt, None);
+            let mut script = opened(rt, job.script);
+            perform(
+                threads,
+                alloc,
+                &job,
+                &mut plan,
+                &mut script,
+                &mut out,
+                &mut err,
+            )
+        }
+        Ok(job) if job.reads_script_from_stdin() => {
+            let mut plan = opened(rt, Some(job.plan));
+            let mut script = Source::new(Ok(rt.stdin()));
             perform(
                 threads,
                 alloc,

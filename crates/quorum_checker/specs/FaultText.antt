@@ -1,4 +1,4 @@
--- How a fault of a certificate is written.
+-- How a fault of a certificate is printed.
 use Rattle.std.specs.Prelude.{ℕ, List, ◌++◌, codes}
 use Rattle.volume_model.specs.Names.{fault_text}
 use Rattle.quorum_checker.specs.declared.fault.FaultAt.{FaultAt}

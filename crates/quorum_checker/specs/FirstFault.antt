@@ -13,34 +13,34 @@ use Rattle.volume_model.specs.declared.fault.Fault.TheVariants.{NoSuchItem, NotD
 use Rattle.quorum_checker.specs.declared.fault.FaultAt.{FaultAt}
 use Rattle.quorum_checker.specs.Refutes.{State, items_of, absent_of, replaced, paired, without, picked_weight, paired_weight}
 
--- distinct numbers below n
+-- the numbers are distinct and below n
 abbrev pub good_places : ℕ → List ℕ → Bool
 good_places n [] = true
 good_places n (c ∷ cs) = nat_lt c n && (not (list_any (λ d. d == c) cs) && good_places n cs)
 
--- the children of an item, in order, and none of a member
+-- the children of an item, in order; a member has none
 abbrev pub children_of : Formula → List Formula
 children_of (member x) = []
 children_of (at_least k of) = formulas of
 
--- ---- the fault at a rule with its items
+-- ---- the fault of a rule itself, given its items
 
--- what is wrong where an item is said to be dead
+-- the fault of a `dead` rule with this item
 abbrev pub dead_fault : Formula → FinSet nat_cmp → Option Fault
 dead_fault f absent = (if sat f (contains (difference all_members absent)) then Some NotDead else None)
 
--- what is wrong where two items are said to be one member
+-- the fault of a `clash` rule with these items
 abbrev pub clash_fault : Formula → Formula → Option Fault
 clash_fault (member x) (member y) = (if x == y then None else Some NoClash)
 clash_fault (member x) (at_least l others) = Some NoClash
 clash_fault (at_least k of) g = Some NoClash
 
--- what is wrong where an item is said to need all its children
+-- the fault of an `open` rule with this item
 abbrev pub open_fault : Formula → Option Fault
 open_fault (member x) = Some NotAll
 open_fault (at_least k of) = (if k == total_weight of && each_weighs of then None else Some NotAll)
 
--- what is wrong with the numbers of the picked children
+-- the fault of a `pick` rule with this item, these children and this many branches
 abbrev pub pick_fault : Formula → List ℕ → ℕ → Option Fault
 pick_fault (member x) children branches = Some TooFewPicked
 pick_fault (at_least k of) children branches =
@@ -50,7 +50,7 @@ pick_fault (at_least k of) children branches =
     else Some TooFewPicked)
     else Some BadPair)
 
--- what is wrong with the numbers of the pairs
+-- the fault of a `match` rule with these items, these pairs and this many branches
 abbrev pub pair_fault : Formula → Formula → List (ℕ × ℕ) → ℕ → Option Fault
 pair_fault (member x) g pairs branches = Some BadPair
 pair_fault (at_least k of) (member y) pairs branches = Some BadPair
@@ -62,38 +62,38 @@ pair_fault (at_least k of) (at_least l others) pairs branches =
     else Some CountTooSmall)
     else Some BadPair)
 
--- ---- and where it stands
+-- ---- the fault of a rule with its branches, and its path
 
--- a fault at the node itself
+-- a fault at the rule itself
 abbrev pub here : Fault → FaultAt
 here fault = record { fault = fault; path = [] }
 
--- the fault at the rule, or else what its branches have
+-- the fault of the rule itself, or else that of its branches
 abbrev pub or_else : Option Fault → Option FaultAt → Option FaultAt
 or_else None found = found
 or_else (Some fault) found = Some (here fault)
 
--- the first of two
+-- the first of two faults
 abbrev pub first_of : Option FaultAt → Option FaultAt → Option FaultAt
 first_of None found = found
 first_of (Some e) found = Some e
 
--- in the branch with a number
+-- a fault in the branch with a number
 abbrev pub under : ℕ → Option FaultAt → Option FaultAt
 under n None = None
 under n (Some e) = Some (record e { path = n ∷ e.path })
 
--- what is wrong with an item, or that there is none
+-- the fault that found gives for an item, or NoSuchItem if there is no item
 abbrev pub at_item : Option Formula → (Formula → Option FaultAt) → Option FaultAt
 at_item None found = Some (here NoSuchItem)
 at_item (Some f) found = found f
 
--- a child by its number
+-- the child with a number
 abbrev pub place : List Formula → ℕ → Formula
 place fs c = slice_index_or fs c (member 0)
 
 abbrev mutual
-  -- the first fault of a rule, and where it stands
+  -- the first fault of a rule, with its path
   pub first_fault : Rule → State → Option FaultAt
   first_fault (dead side i) st =
       at_item (slice_get (items_of side st) i) (λ f. or_else (dead_fault f (absent_of side st)) None)
@@ -113,7 +113,7 @@ abbrev mutual
   first_fault (split x left right) st =
       first_of (under 0 (first_fault left (without Left x st))) (under 1 (first_fault right (without Right x st)))
 
-  -- the first fault of branches that are numbered from n
+  -- the first fault of branches, of which the first has number n
   pub first_picked : ℕ → Branches → Side → ℕ → List Formula → List ℕ → State → Option FaultAt
   first_picked n no_branch side i of cs st = None
   first_picked n (branch rule rest) side i of [] st = None

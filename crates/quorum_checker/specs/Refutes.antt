@@ -1,4 +1,4 @@
--- When a refutation refutes a claim.
+-- When a rule refutes a state.
 use Rattle.std.specs.Prelude.{◌≡◌, ℕ, ◌+◌, ◌<◌, min, false, List, [], ◌∷◌, ◌++◌, Some, slice_get, remove, nat_eq, map}
 use Rattle.std.specs.List.{IsDistinct}
 use Rattle.std.specs.Ordering.{nat_cmp}
@@ -26,12 +26,12 @@ abbrev pub absent_of : Side → State → FinSet nat_cmp
 absent_of Left st = st.absent_left
 absent_of Right st = st.absent_right
 
--- other items on a side
+-- the state with other items on a side
 abbrev pub with_items : Side → List Formula → State → State
 with_items Left fs st = record st { left = fs }
 with_items Right fs st = record st { right = fs }
 
--- an item is taken out, later ones move down by one, and others go to the end
+-- an item is removed, later ones move down by one, and others are added at the end
 abbrev pub replaced : Side → ℕ → List Formula → State → State
 replaced side i fs st = with_items side (remove (items_of side st) i ++ fs) st
 
@@ -39,12 +39,12 @@ replaced side i fs st = with_items side (remove (items_of side st) i ++ fs) st
 abbrev pub paired : ℕ → ℕ → Formula → Formula → State → State
 paired i j f g st = record st { left = remove st.left i ++ f ∷ []; right = remove st.right j ++ g ∷ [] }
 
--- other members are absent from a side
+-- the state with other members absent from a side
 abbrev pub with_absent : Side → FinSet nat_cmp → State → State
 with_absent Left absent st = record st { absent_left = absent }
 with_absent Right absent st = record st { absent_right = absent }
 
--- one more member is absent
+-- the state with one more member absent from a side
 abbrev pub without : Side → ℕ → State → State
 without Left x st = record st { absent_left = insert st.absent_left x }
 without Right x st = record st { absent_right = insert st.absent_right x }
@@ -54,7 +54,7 @@ abbrev pub picked_weight : Children → List ℕ → ℕ
 picked_weight of [] = 0
 picked_weight of (c ∷ cs) = weight_at of c + picked_weight of cs
 
--- for each pair, the smaller of its two weights
+-- the sum of the smaller weight of each pair
 abbrev pub paired_weight : Children → Children → List (ℕ × ℕ) → ℕ
 paired_weight of others [] = 0
 paired_weight of others (p ∷ ps) = min (weight_at of p.0) (weight_at others p.1) + paired_weight of others ps
@@ -62,22 +62,22 @@ paired_weight of others (p ∷ ps) = min (weight_at of p.0) (weight_at others p.
 abbrev mutual
   -- the rule shows that no two disjoint sets satisfy all items of the state
   pub Refutes : Rule → State → Type 0
-  -- The item doesn't hold, even in all members that may be there.
+  -- The item isn't satisfied even by all members that aren't absent.
   Refutes (dead side i) st =
       (f : Formula) × (slice_get (items_of side st) i ≡ Some f)
       × (sat f (contains (difference all_members (absent_of side st))) ≡ false)
-  -- One member can't be in both of two disjoint sets.
+  -- A member can't be in both of two disjoint sets.
   Refutes (clash i j) st = (x : ℕ) × (slice_get st.left i ≡ Some (member x)) × (slice_get st.right j ≡ Some (member x))
-  -- All children have to hold.
+  -- All children must be satisfied.
   Refutes (open_all side i rule) st =
       (of : Children) × (slice_get (items_of side st) i ≡ Some (at_least (total_weight of) of)) × EachWeighs of
       × Refutes rule (replaced side i (formulas of) st)
-  -- One of these children holds, since the others are too few.
+  -- One of these children is satisfied, since the others weigh too little.
   Refutes (pick side i children branches) st =
       (k : ℕ) × (of : Children) × (slice_get (items_of side st) i ≡ Some (at_least k of))
       × IsDistinct nat_eq children × (total_weight of < k + picked_weight of children)
       × RefutesPicked branches side i of children st
-  -- In one of these pairs both children hold, since what is left over is too little.
+  -- Both children of one of these pairs are satisfied, since the rest weighs too little.
   Refutes (pair_up i j pairs branches) st =
       (k : ℕ) × (of : Children) × (slice_get st.left i ≡ Some (at_least k of))
       × (l : ℕ) × (others : Children) × (slice_get st.right j ≡ Some (at_least l others))
@@ -87,7 +87,7 @@ abbrev mutual
   -- A member is absent from one of two disjoint sets.
   Refutes (split x left right) st = Refutes left (without Left x st) × Refutes right (without Right x st)
 
-  -- there is a branch for each child, and it refutes the state with the child in its item's place
+  -- there is a branch for each child, which refutes the state with the child in place of the item
   pub RefutesPicked : Branches → Side → ℕ → Children → List ℕ → State → Type 0
   RefutesPicked no_branch side i of [] st = Unit {0}
   RefutesPicked no_branch side i of (c ∷ cs) st = ⊥
@@ -96,7 +96,7 @@ abbrev mutual
       (f : Formula) × (slice_get (formulas of) c ≡ Some f) × Refutes rule (replaced side i (f ∷ []) st)
       × RefutesPicked rest side i of cs st
 
-  -- there is a branch for each pair, and it refutes the state with both children in their items' places
+  -- there is a branch for each pair, which refutes the state with the pair's children in place of the items
   pub RefutesPaired : Branches → ℕ → ℕ → Children → Children → List (ℕ × ℕ) → State → Type 0
   RefutesPaired no_branch i j of others [] st = Unit {0}
   RefutesPaired no_branch i j of others (p ∷ ps) st = ⊥
@@ -106,7 +106,7 @@ abbrev mutual
       ≡ Some g)
       × Refutes rule (paired i j f g st) × RefutesPaired rest i j of others ps st
 
--- a claim: its two formulas, and the members that the left set is clear of
+-- the state of a claim: its two formulas, and the members that the left set doesn't have
 abbrev pub claim_state : Formula → Formula → FinSet nat_cmp → State
 claim_state left right clear =
     record { left = left ∷ []; right = right ∷ []; absent_left = clear; absent_right = empty }

@@ -1,4 +1,4 @@
-//! What a certificate is to refute.
+//! Claims, which certificates refute or not.
 
 ghost use Rattle.std.specs.Prelude.{◌≡◌, None};
 ghost use Rattle.quorum_expr.specs.Expr.{formula_of};
@@ -7,13 +7,13 @@ ghost use Rattle.quorum_expr.specs.Valid.{expression_fault};
 use quorum_expr::{Expr, MemberSet};
 use std::alloc::Allocator;
 
-/// That each set that satisfies the left expression, and is clear of the given members, meets each set that
-/// satisfies the right expression. Both expressions are valid.
+/// The claim that each set that satisfies the left expression and has none of the `clear` members shares a member with
+/// each set that satisfies the right expression. Both expressions are valid.
 #[derive(Drop)]
 pub struct Claim<A: Allocator> {
-    /// What the first of two sets satisfies.
+    /// The expression that the first set satisfies.
     pub left: Expr<A>,
-    /// What the second of two sets satisfies.
+    /// The expression that the second set satisfies.
     pub right: Expr<A>,
     /// The members that the first set doesn't have.
     pub clear: MemberSet,

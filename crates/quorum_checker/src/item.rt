@@ -11,17 +11,17 @@ use crate::weights::total;
 use quorum_expr::{Expr, MemberSet, holds, holds_dual};
 use std::alloc::Allocator;
 
-/// A threshold over weighted children, of which all are seen as they are, or all as their duals.
+/// A threshold over weighted children, all of them plain or all of them duals.
 #[derive_where(Clone, Copy)]
 pub(crate) struct Threshold<'e, A: Allocator> {
-    /// The weight that has to hold.
+    /// The weight that the satisfied children must reach.
     pub(crate) asked: u128,
     /// The weight of all children.
     pub(crate) total: u128,
     pub(crate) of: &'e [(u8, Expr<A>)],
 }
 
-/// An expression that is lent, as itself or as its dual.
+/// A borrowed expression, or its dual.
 #[derive_where(Clone, Copy)]
 pub struct Item<'e, A: Allocator> {
     pub(crate) expr: &'e Expr<A>,
@@ -49,7 +49,7 @@ impl<'e, A: Allocator> Item<'e, A> {
         }
     }
 
-    /// Returns the expressions that its children lend, and of a member none.
+    /// Returns the child expressions; a member has none.
     pub(crate) fn children(self) -> &'e [(u8, Expr<A>)]
         ensures { map (λ c. shown_as self.entry.is_dual c.1) result.now ≡ children_of (shown self.entry) }
     {
@@ -71,7 +71,7 @@ impl<'e, A: Allocator> Item<'e, A> {
         }
     }
 
-    /// Returns what it asks for of its children, and nothing of a member.
+    /// Returns the threshold, if the item isn't a member.
     pub(crate) fn threshold(self) -> Option<Threshold<'e, A>>
         ensures meaning { MatchOption result (IsMember (shown self.entry))
             (λ t. IsThreshold self.entry.is_dual (shown self.entry) t) }
@@ -97,7 +97,7 @@ impl<'e, A: Allocator> Item<'e, A> {
         }
     }
 
-    /// Returns whether it holds in a set of members.
+    /// Returns whether a set of members satisfies the item.
     pub(crate) fn holds(self, members: MemberSet) -> bool
         ensures { result ≡ sat (shown self.entry) (contains members) }
     {

@@ -1,4 +1,4 @@
-//! The checker: whether a certificate refutes a claim.
+//! The checker of certificates, which decides whether a certificate refutes a claim.
 #![tactic(auto)]
 
 ghost use Rattle.std.specs.Prelude.{◌≡◌, ◌≢◌, None, Some, OnOk, IfErr};
@@ -35,24 +35,23 @@ use rules::check_rule;
 use std::alloc::{Allocator, Global};
 use volume_model::Fault;
 
-/// Returns whether a certificate refutes a claim. The two may lie in different memory. Only the lists of items take
-/// any.
+/// Checks that a certificate refutes a claim. Allocates only the lists of items.
 ///
 /// # Errors
-/// The certificate's first fault, numbered from 20 to 27, with its path; or `NoMemory` if there is no memory.
+/// The certificate's first fault, numbered from 20 to 27, with its path; or `NoMemory` if memory runs out.
 pub fn check<A: Allocator, B: Allocator>(
     alloc: Global,
     claim: &Claim<A>,
     certificate: &Certificate<B>,
 ) -> Result<(), FaultAt>
-    // Ok exactly where the certificate refutes the claim, unless memory runs out.
+    // Ok exactly if the certificate refutes the claim, unless memory runs out.
     ensures refutes { OnOk result (Refutes (certificate_rule certificate.now) (first_state claim.now)) }
     ensures accepted { IfErr result
         (λ e. e.fault ≢ Fault.NoMemory → ¬ (Refutes (certificate_rule certificate.now) (first_state claim.now))) }
     ensures fault { IfErr result (λ e. e.fault ≢ Fault.NoMemory → first_fault (certificate_rule certificate.now)
         (first_state claim.now) ≡ Some e) }
 
-    // What an Ok means, for all sets.
+    // The meaning of Ok, for all sets.
     ensures meets { OnOk result (Meets (formula_of claim.now.left) (formula_of claim.now.right) claim.now.clear) }
 {
     let left = Item::plain(&claim.left);
@@ -60,11 +59,11 @@ pub fn check<A: Allocator, B: Allocator>(
     check_lent(alloc, left, right, claim.clear, certificate)
 }
 
-/// Returns whether a certificate refutes the claim that each set that satisfies the left item, and is clear of the
-/// given members, meets each set that satisfies the right one. Nothing of the two is copied.
+/// Checks that a certificate refutes the claim that each set that satisfies the left item and has none of the `clear`
+/// members shares a member with each set that satisfies the right item.
 ///
 /// # Errors
-/// As [`check`].
+/// Those of [`check`].
 pub fn check_lent<A: Allocator, B: Allocator>(
     alloc: Global,
     left: Item<'_, A>,
@@ -72,7 +71,7 @@ pub fn check_lent<A: Allocator, B: Allocator>(
     clear: MemberSet,
     certificate: &Certificate<B>,
 ) -> Result<(), FaultAt>
-    // Ok exactly where the certificate refutes the claim, unless memory runs out.
+    // Ok exactly if the certificate refutes the claim, unless memory runs out.
     ensures refutes { OnOk result (Refutes (certificate_rule certificate.now)
         (claim_state (shown left.entry) (shown right.entry) clear)) }
     ensures accepted { IfErr result
@@ -81,21 +80,21 @@ pub fn check_lent<A: Allocator, B: Allocator>(
     ensures fault { IfErr result (λ e. e.fault ≢ Fault.NoMemory → first_fault (certificate_rule certificate.now)
         (claim_state (shown left.entry) (shown right.entry) clear) ≡ Some e) }
 
-    // What an Ok means, for all sets.
+    // The meaning of Ok, for all sets.
     ensures meets { OnOk result (Meets (shown left.entry) (shown right.entry) clear) }
 {
     let mut items = Items::of_claim(alloc, left, right, clear)?;
     check_rule(certificate.tree(), &mut items)
 }
 
-/// Proves that where a rule refutes a claim, each set that satisfies its left expression, and is clear of what it has
-/// to be clear of, meets each set that satisfies its right expression.
+/// Proves that a refuted claim is true: each set that satisfies its left expression and has none of the `clear` members
+/// shares a member with each set that satisfies its right expression.
 pub fn refuted_claim_meets()
     ensures { (rule : Rule) (left right : Formula) (clear : FinSet nat_cmp) → Refutes rule
         (claim_state left right clear) → Meets left right clear }
 {}
 
-/// Proves that no fault is found exactly where the rule refutes.
+/// Proves that no fault is found exactly if the rule refutes the state.
 pub fn no_fault_refutes()
     ensures refutes { (rule : Rule) (state : State) → first_fault rule state ≡ None → Refutes rule state }
     ensures accepted { (rule : Rule) (state : State) → Refutes rule state → first_fault rule state ≡ None }

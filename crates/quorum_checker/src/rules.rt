@@ -35,7 +35,7 @@ fn check_clash<A: Allocator>(left: u16, right: u16, items: &Items<'_, A>) -> Res
     }
 }
 
-/// Checks a rule against a state, which is as it was where the rule has no fault.
+/// Checks a rule against a state. The state is unchanged if the rule has no fault.
 #[cycle(rules)]
 pub fn check_rule<A: Allocator, B: Allocator>(
     rule: &Refutation<B>,
@@ -76,7 +76,7 @@ pub fn check_rule<A: Allocator, B: Allocator>(
     }
 }
 
-/// Checks a rule in a branch where one more member is absent from a side.
+/// Checks the branch in which one more member is absent from a side.
 #[cycle(rules)]
 fn check_case<A: Allocator, B: Allocator>(
     branch: u8,

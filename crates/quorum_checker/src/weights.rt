@@ -1,4 +1,4 @@
-//! What the weights of children add up to.
+//! Sums of the weights of children.
 
 ghost use Rattle.std.specs.Prelude.{◌≡◌, ◌≤◌, ◌*◌, length};
 ghost use Rattle.volume_model.specs.Formula.{total_weight, each_weighs, weight_at};
@@ -8,7 +8,7 @@ ghost use Rattle.quorum_checker.specs.Refutes.{picked_weight, paired_weight};
 use quorum_expr::{Expr, wide};
 use std::alloc::Allocator;
 
-/// Returns what all children weigh.
+/// Returns the weight of all children.
 pub fn total<A: Allocator>(of: &[(u8, Expr<A>)]) -> u128
     ensures sum { result ≡ total_weight (bare of.now) }
     ensures small { result ≤ 255 * length of.now }
@@ -20,7 +20,7 @@ pub fn total<A: Allocator>(of: &[(u8, Expr<A>)]) -> u128
     all
 }
 
-/// Returns whether each child weighs something.
+/// Returns whether each child has a weight of at least 1.
 pub fn all_weigh<A: Allocator>(of: &[(u8, Expr<A>)]) -> bool
     ensures { result ≡ each_weighs (bare of.now) }
 {
@@ -32,7 +32,7 @@ pub fn all_weigh<A: Allocator>(of: &[(u8, Expr<A>)]) -> bool
     true
 }
 
-/// Returns what the child with a number weighs, and nothing if there is none.
+/// Returns the weight of the child with a number, 0 if there is none.
 fn weight_of<A: Allocator>(of: &[(u8, Expr<A>)], number: u8) -> u128
     ensures is { result ≡ weight_at (bare of.now) number }
     ensures small { result ≤ 255 }
@@ -43,7 +43,7 @@ fn weight_of<A: Allocator>(of: &[(u8, Expr<A>)], number: u8) -> u128
     }
 }
 
-/// Returns what the children with these numbers weigh.
+/// Returns the weight of the children with these numbers.
 pub fn picked<A: Allocator>(of: &[(u8, Expr<A>)], numbers: &[u8]) -> u128
     ensures sum { result ≡ picked_weight (bare of.now) numbers.now }
     ensures small { result ≤ 255 * length numbers.now }
@@ -55,7 +55,7 @@ pub fn picked<A: Allocator>(of: &[(u8, Expr<A>)], numbers: &[u8]) -> u128
     all
 }
 
-/// Returns for each pair the smaller of its two weights.
+/// Returns the sum, over the pairs, of the smaller of the two weights.
 pub fn paired<A: Allocator>(
     of: &[(u8, Expr<A>)],
     others: &[(u8, Expr<A>)],

@@ -1,4 +1,4 @@
--- What the forms of the code stand for.
+-- Views of the types that the reader uses.
 use Rattle.std.specs.Prelude.{◌≡◌, ℕ, ◌+◌, List, [], ◌∷◌, map, Some, None}
 use Rattle.serde_json.specs.Data.{Data}
 use Rattle.json_node.specs.Nodes.{items_in}
@@ -29,7 +29,7 @@ form_data means (forms.Choice k list ws) = choice k (child_list means list) (wei
 abbrev pub formulas_of : {A : Type 0} → List (ℕ × Expr A) → List Formula
 formulas_of = map (λ c. formula_of c.1)
 
--- they have these weights, which are counted from a number on
+-- the children have these weights, of which the first belongs to child i
 abbrev pub HaveWeights : {A : Type 0} → Weights → ℕ → List (ℕ × Expr A) → Type 0
 HaveWeights ws i [] = Unit {0}
 HaveWeights ws i (c ∷ cs) = (c.0 ≡ weight_of ws i) × HaveWeights ws (i + 1) cs

@@ -1,4 +1,4 @@
--- A set of members is kept by the number whose bits stand for it.
+-- A set of members is stored as a number with a bit for each member.
 use Rattle.std.proofs.Common.{◌≡◌, ℕ, zero, suc, ◌+◌, ◌*◌, ◌%◌, ◌^◌, ◌<◌, ◌≤◌, arith, refl, ap, ◌∙◌, sym}
 use Rattle.std.proofs.Math.Pow.{pow_pos}
 use Rattle.std.proofs.Math.Nat.{mul_comm, pow-suc}

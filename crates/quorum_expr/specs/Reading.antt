@@ -1,4 +1,4 @@
--- The expression that a JSON value spells, or the first fault in reading order.
+-- Reading an expression from a JSON value: the expression, or the first fault in reading order.
 use Rattle.std.specs.Prelude.{◌&&◌, ◌||◌, ◌==◌, ℕ, zero, suc, ◌+◌, Bool, List, [], ◌∷◌, length, map, get_or, Option, Some, None, Result, Ok, Err, nat_lt, nat_le, codes, if◌then◌else◌}
 use Rattle.std.specs.Str.{bytes_eq}
 use Rattle.std.specs.Ordering.{nat_cmp}
@@ -16,27 +16,27 @@ use Rattle.quorum_expr.specs.declared.form.ListName.{ListName}
 use Rattle.quorum_expr.specs.declared.form.ListName.TheVariants.{All, Full, Tail}
 use Rattle.quorum_expr.specs.Valid.{good_choice, nodes}
 
--- the children of a threshold: written out, or a list that is called by name
+-- the children of a threshold: written out, or a named list
 pub data ChildList : Type 0 where
   each : Items → ChildList
   named : ListName → ChildList
 
--- what children weigh: what is spelled of each, or one each where nothing is spelled
+-- the weights of children: as written, or 1 each if none are written
 abbrev pub Weights : Type 0
 Weights = Option (List ℕ)
 
--- what a value spells at its own level: a number, or a threshold over children with their weights
+-- one level of a value: a number, or a threshold over children with their weights
 pub data Form : Type 0 where
   single : ℕ → Form
   choice : ℕ → ChildList → Weights → Form
 
--- the names of lists
+-- the list with this name
 abbrev pub list_name_of : List ℕ → Option ListName
 list_name_of text =
     if bytes_eq text (codes "all") then Some All else (if bytes_eq text (codes "full") then Some Full else
     (if bytes_eq text (codes "tail") then Some Tail else None))
 
--- the members that a name stands for
+-- the members of a named list
 abbrev pub set_of : Lists → ListName → FinSet nat_cmp
 set_of lists All = lists.members
 set_of lists Full = lists.full
@@ -46,7 +46,7 @@ abbrev pub named_or_malformed : Option ListName → Result ChildList Fault
 named_or_malformed None = Err Malformed
 named_or_malformed (Some name) = Ok (named name)
 
--- a list, or the name of one
+-- children as an array or as the name of a list
 abbrev pub child_list_of : Data → Result ChildList Fault
 child_list_of (array ds) = Ok (each ds)
 child_list_of (string s) = named_or_malformed (list_name_of s)
@@ -74,7 +74,7 @@ found_or_malformed (Some d) = Ok d
 abbrev pub at_key : List ℕ → Data → Result Data Fault
 at_key key d = found_or_malformed (get key d)
 
--- how many children there are
+-- the number of children
 abbrev pub child_count : Lists → ChildList → ℕ
 child_count lists (each ds) = items_len ds
 child_count lists (named name) = length (listed (set_of lists name))
@@ -84,7 +84,7 @@ abbrev pub wholes_of : Items → Result (List ℕ) Fault
 wholes_of no_items = Ok []
 wholes_of (item d ds) = whole_of d >>= λ n. wholes_of ds >>= λ ns. Ok (n ∷ ns)
 
--- an array of them
+-- an array of whole numbers
 abbrev pub whole_list_of : Data → Result (List ℕ) Fault
 whole_list_of (array ds) = wholes_of ds
 whole_list_of null = Err Malformed
@@ -93,16 +93,16 @@ whole_list_of (number n) = Err Malformed
 whole_list_of (string s) = Err Malformed
 whole_list_of (object ms) = Err Malformed
 
--- one for each of so many children
+-- the weights, if there are as many as children
 abbrev pub one_each : ℕ → List ℕ → Result Weights Fault
 one_each n ws = if length ws == n then Ok (Some ws) else Err Malformed
 
--- the weights of so many children, at the key weights where there are more keys than k and of
+-- the weights of n children: those at the key "weights" if the object has a third key, else 1 each
 unfoldable pub weights_of : ℕ → ℕ → Data → Result Weights Fault
 weights_of keys n d = if keys == 2 then Ok None else (at_key (codes "weights") d >>= λ ws. whole_list_of ws >>= one_each
     n)
 
--- a threshold at the key k, its children at the key of, and their weights
+-- a threshold: its number at the key "k", its children at the key "of", and their weights
 unfoldable pub choice_of : Lists → ℕ → Data → Result Form Fault
 choice_of lists keys d = do
   k ← at_key (codes "k") d
@@ -112,11 +112,11 @@ choice_of lists keys d = do
   ws ← weights_of keys (child_count lists list) d
   Ok (choice n list ws)
 
--- two keys, or three where weights may be given
+-- the object has two keys, or three if weights are allowed
 abbrev pub good_keys : Bool → ℕ → Bool
 good_keys is_weighted n = n == 2 || (is_weighted && n == 3)
 
--- a whole number, or an object of the keys k and of, and of the key weights where weights may be given
+-- a whole number, or an object with the keys "k" and "of", and the key "weights" if weights are allowed
 unfoldable pub form_of : Lists → Data → Result Form Fault
 form_of lists (number n) = whole_of (number n) >>= λ m. Ok (single m)
 form_of lists (object ms) = if good_keys lists.is_weighted (members_len ms) then choice_of lists (members_len ms)
@@ -130,41 +130,42 @@ form_of lists (array ds) = Err Malformed
 abbrev pub small : ℕ → ℕ
 small w = if nat_le w 255 then w else 0
 
--- what the child with a number weighs
+-- the weight of the child with a number
 abbrev pub weight_of : Weights → ℕ → ℕ
 weight_of None i = 1
 weight_of (Some ws) i = small (get_or ws i 0)
 
--- children with their weights, which are counted from a number on
+-- formulas as children with their weights; the first is child i
 abbrev pub weighing : Weights → ℕ → List Formula → Children
 weighing ws i [] = no_child
 weighing ws i (f ∷ fs) = child (weight_of ws i) f (weighing ws (i + 1) fs)
 
--- so many children of which nothing is known
+-- placeholders for n children that haven't been read
 abbrev pub unread : ℕ → List Formula
 unread zero = []
 unread (suc n) = member 0 ∷ unread n
 
--- a good threshold of so many children with these weights, whatever they are
+-- the threshold is valid for n children with these weights, whatever the children are
 abbrev pub good_row : ℕ → ℕ → Weights → Bool
 good_row k n ws = good_choice k (weighing ws 0 (unread n))
 
--- what read gives for each item, up to the first fault
+-- the formulas that read gives for the items, up to the first fault
 abbrev pub each_of : (Data → Result Formula Fault) → Items → Result (List Formula) Fault
 each_of read no_items = Ok []
 each_of read (item d ds) = read d >>= λ f. each_of read ds >>= λ fs. Ok (f ∷ fs)
 
--- these members, where one more level is allowed
+-- the members as formulas, if one more level is allowed
 abbrev pub members_at : ℕ → List ℕ → Result (List Formula) Fault
 members_at zero members = Err TooDeep
 members_at (suc left) members = Ok (map member members)
 
--- the children, where so many levels are allowed
+-- the children, with this many levels left
 abbrev pub children_at : Lists → ℕ → (Data → Result Formula Fault) → ChildList → Result (List Formula) Fault
 children_at lists left read (each ds) = each_of read ds
 children_at lists left read (named name) = members_at left (listed (set_of lists name))
 
--- A number has to be a member, and a threshold a good one of its children's weights; the children have so many levels.
+-- A number has to be a member, and a threshold valid for its children's weights. left is the number of levels that the
+-- children may have.
 abbrev pub formula_from : Lists → ℕ → (Data → Result Formula Fault) → Form → Result Formula Fault
 formula_from lists left read (single n) = if nat_lt n 64 && contains lists.members n then Ok (member n) else Err
     NotAMember
@@ -172,12 +173,12 @@ formula_from lists left read (choice k list ws) =
     if good_row k (child_count lists list) ws then (children_at lists left read list >>= λ fs. Ok
     (at_least k (weighing ws 0 fs))) else Err BadCount
 
--- the formula that a value spells where so many levels are allowed: its own shape first, then its level, its threshold
--- or number, and its children in order
+-- the formula of a value with this many levels left. Its own shape is tested first, then its level, its threshold or
+-- number, and its children in order
 unfoldable pub formula_at : Lists → ℕ → Data → Result Formula Fault
 formula_at lists zero d = form_of lists d >>= λ form. Err TooDeep
 formula_at lists (suc left) d = form_of lists d >>= formula_from lists left (formula_at lists left)
 
--- at most 4,096 nodes, which are counted when the whole has been read
+-- the expression of a value; its nodes, at most 4,096, are counted last
 unfoldable pub expression_in : Lists → Data → Result Formula Fault
 expression_in lists d = formula_at lists 6 d >>= λ f. if nat_le (nodes f) 4096 then Ok f else Err OverLimit

@@ -13,7 +13,7 @@ use std::alloc::Allocator;
 pub enum Expr<A: Allocator> {
     /// The member with this number.
     Member(u8),
-    /// The weights of the expressions that hold add up to the threshold.
+    /// The weights of the satisfied expressions add up to at least the threshold.
     KOf {
         /// The threshold.
         k: u16,
@@ -22,7 +22,7 @@ pub enum Expr<A: Allocator> {
     },
 }
 
-/// Returns a weight as a number that many of them can be added to.
+/// Returns a weight as a `u128`, so that sums of weights don't overflow.
 pub fn wide(weight: u8) -> u128
     ensures same { result ≡ weight }
     ensures small { result ≤ 255 }
@@ -30,7 +30,7 @@ pub fn wide(weight: u8) -> u128
     u128::from(weight)
 }
 
-/// Returns whether an expression holds in a set of members.
+/// Returns whether a set of members satisfies an expression.
 pub fn holds<A: Allocator>(expr: &Expr<A>, members: MemberSet) -> bool
     ensures { result ≡ sat (formula_of expr.now) (set.contains members) }
 {
@@ -52,7 +52,7 @@ pub fn holds<A: Allocator>(expr: &Expr<A>, members: MemberSet) -> bool
     }
 }
 
-/// Returns whether the dual of an expression holds in a set of members.
+/// Returns whether a set of members satisfies the dual of an expression.
 pub fn holds_dual<A: Allocator>(expr: &Expr<A>, members: MemberSet) -> bool
     ensures { result ≡ sat (dual_of (formula_of expr.now)) (set.contains members) }
 {

@@ -1,19 +1,18 @@
-//! What a JSON node spells at its own level, before its children are read.
+//! One level of a JSON node, before its children are read.
 
 ghost use Rattle.std.specs.Prelude.{◌≡◌};
 ghost use Rattle.quorum_expr.specs.Reading.{set_of, small};
 
 use crate::member_set::MemberSet;
 
-/// What expressions are read by: the members of a configuration, and those of them that are full, which are the lists that a
-/// text can call by name.
+/// The members of a configuration and those of them that are full. A plan's text can name these lists.
 #[derive(Clone, Copy)]
 pub struct Lists {
-    /// All members, which a text calls `all`.
+    /// All members; the text names them `all`.
     pub members: MemberSet,
-    /// The full ones, which a text calls `full`.
+    /// The full members; the text names them `full`.
     pub full: MemberSet,
-    /// Whether a threshold may say what each of its children weighs.
+    /// Whether a threshold may give weights to its children.
     pub is_weighted: bool,
 }
 
@@ -28,7 +27,7 @@ pub enum ListName {
 /// The children of a threshold.
 #[derive(Drop)]
 pub enum Children<N> {
-    /// The array that lists them.
+    /// The array of the children.
     Each(N),
     /// The name of a list.
     Named(ListName),
@@ -37,9 +36,9 @@ pub enum Children<N> {
 /// The weights of a threshold's children.
 #[derive(Drop)]
 pub enum Weights {
-    /// One each.
+    /// 1 for each child.
     Once,
-    /// A number for each of them.
+    /// A number for each child.
     Each(Vec<u64>),
 }
 
@@ -58,7 +57,7 @@ fn small(number: u64) -> u8
 }
 
 impl Lists {
-    /// Returns the members that the name stands for.
+    /// Returns the members of a named list.
     pub fn named(&self, name: ListName) -> MemberSet
         ensures { result ≡ set_of self.now name }
     {
@@ -74,7 +73,7 @@ impl Weights {
     ghost use Rattle.quorum_expr.specs.Reading.{weight_of};
     ghost use Rattle.quorum_expr.specs.Forms.{weights_data};
 
-    /// Returns what the child with a number weighs, and 0 where that isn't from 1 to 255.
+    /// Returns the weight of the child with a number, or 0 if it isn't from 1 to 255.
     pub fn at(&self, number: usize) -> u8
         ensures { result ≡ weight_of (weights_data self.now) number }
     {

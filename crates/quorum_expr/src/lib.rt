@@ -1,4 +1,4 @@
-//! Quorum expressions: what they mean, which are valid, their duals, and how they are read from JSON.
+//! Quorum expressions: their meaning, which are valid, their duals, and how they are read from JSON.
 #![tactic(auto)]
 
 mod expression;

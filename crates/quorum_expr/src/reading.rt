@@ -26,7 +26,7 @@ use volume_model::Fault;
 /// Returns the value at a key of an object.
 ///
 /// # Errors
-/// [`Fault::Malformed`] if there is none, or the node is no object.
+/// [`Fault::Malformed`] if there is none, or the node isn't an object.
 pub fn value_at<N: Node>(value: &N, key: &str) -> Result<N, Fault>
     ensures { Gives N.means result (at_key key.now (N.means value.now)) }
 {
@@ -158,7 +158,7 @@ fn is_good_keys(is_weighted: bool, keys: usize) -> bool
     keys == 2 || (is_weighted && keys == 3)
 }
 
-/// Reads a node's own level.
+/// Reads one level of a node.
 fn form_at<N: Node>(alloc: Global, lists: &Lists, value: &N) -> Result<Form<N>, Fault>
     ensures { Gives (form_data N.means) result (form_of lists.now (N.means value.now)) }
 {
@@ -190,7 +190,8 @@ fn child_count<N: Node>(lists: &Lists, list: &Children<N>) -> usize
     }
 }
 
-/// Returns whether there are at most 64 children, of weights from 1 to 255, and the threshold is from 1 to their sum.
+/// Returns whether there are at most 64 children, their weights are from 1 to 255, and the threshold is from 1 to the
+/// sum of the weights.
 fn is_good_row(k: u64, count: usize, weights: &Weights) -> bool
     ensures good { result ≡ good_row k count (weights_data weights.now) }
     ensures small { result ≡ true → k ≤ 16320 }
@@ -209,7 +210,7 @@ fn is_good_row(k: u64, count: usize, weights: &Weights) -> bool
     1 <= k && u128::from(k) <= all
 }
 
-/// Returns whether a threshold is good for its children and their weights.
+/// Returns whether a threshold is valid for its children and their weights.
 fn is_good_threshold<N: Node>(lists: &Lists, k: u64, list: &Children<N>, weights: &Weights) -> bool
     ensures good { result ≡ good_row k (child_count lists.now (child_list N.means list.now))
         (weights_data weights.now) }
@@ -324,7 +325,7 @@ fn child_trees<N: Node>(
     }
 }
 
-/// Reads the expression of a node, over the members of these lists.
+/// Reads the expression of a node; `lists` has the members that it may name.
 ///
 /// # Errors
 /// Those of [`read_expr`].
@@ -333,7 +334,7 @@ pub fn read_expr_at<N: Node>(alloc: Global, node: &N, lists: &Lists) -> Result<E
     ensures read { Gives formula_of result (expression_in lists.now (N.means node.now)) }
     ensures valid { IfOk result (λ e. expression_fault (formula_of e) ≡ None) }
 {
-    // One more than the limit, so that nothing is left exactly where it is passed.
+    // Starts at one more than the limit: room is left exactly if the limit isn't passed.
     let mut room = NODES + 1;
     let expr = tree(alloc, lists, LEVELS, node, &mut room)?;
     if room == 0 {
@@ -342,14 +343,16 @@ pub fn read_expr_at<N: Node>(alloc: Global, node: &N, lists: &Lists) -> Result<E
     Ok(expr)
 }
 
-/// Returns the expression that a value spells, over the members of these lists.
+/// Returns the expression of a value; `lists` has the members that it may name.
 ///
 /// # Errors
-/// The first fault, outer ones before inner ones and children in order: at each node [`Fault::Malformed`] for another
-/// shape, or another number of weights than of children, [`Fault::TooDeep`] below six levels, [`Fault::BadCount`] for a
-/// threshold that isn't from 1 to what its at most 64 children weigh, from 1 to 255 each, [`Fault::NotAMember`] for a number
-/// that isn't a member; and [`Fault::OverLimit`] for more than 4,096 nodes when the whole has been read. A named list counts
-/// as the list that it stands for.
+/// The first fault, outer ones before inner ones and children in order:
+/// - [`Fault::Malformed`] if a node has another shape, or another number of weights than of children;
+/// - [`Fault::TooDeep`] for a seventh level;
+/// - [`Fault::BadCount`] if a threshold has more than 64 children, a weight that isn't from 1 to 255, or isn't from 1
+///   to the sum of its weights itself;
+/// - [`Fault::NotAMember`] for a number that isn't a member;
+/// - [`Fault::OverLimit`] for more than 4,096 nodes, which are counted last. A named list counts as its members.
 pub fn read_expr(alloc: Global, value: &Value, lists: &Lists) -> Result<Expr<Global>, Fault>
     ensures read { Gives formula_of result (expression_in lists.now (view value.now)) }
     ensures valid { IfOk result (λ e. expression_fault (formula_of e) ≡ None) }

@@ -10,10 +10,10 @@ use crate::expression::{Expr, wide};
 use std::alloc::Allocator;
 use volume_model::Fault;
 
-/// Copies an expression into other memory.
+/// Copies an expression into another allocator.
 ///
 /// # Errors
-/// `NoMemory` where a growth was refused.
+/// `NoMemory` if memory runs out.
 pub fn copy_in<A: Allocator, B: Allocator + Clone>(
     expr: &Expr<A>,
     alloc: B,
@@ -32,7 +32,7 @@ pub fn copy_in<A: Allocator, B: Allocator + Clone>(
     }
 }
 
-/// Returns the dual of an expression with good thresholds.
+/// Returns the dual of an expression with valid thresholds.
 fn dual_formula<A: Allocator, B: Allocator + Clone>(
     expr: &Expr<A>,
     alloc: B,
@@ -57,11 +57,10 @@ fn dual_formula<A: Allocator, B: Allocator + Clone>(
     }
 }
 
-/// Returns the expression that holds in a set exactly where the given one, which is valid, doesn't hold in the
-/// complement.
+/// Returns the dual of a valid expression: a set satisfies it exactly if its complement doesn't satisfy the given one.
 ///
 /// # Errors
-/// `NoMemory` where a growth was refused.
+/// `NoMemory` if memory runs out.
 pub fn dual_in<A: Allocator, B: Allocator + Clone>(
     expr: &Expr<A>,
     alloc: B,

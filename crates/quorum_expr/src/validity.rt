@@ -1,4 +1,4 @@
-//! The test of an expression.
+//! Checks that an expression is valid.
 
 ghost use Rattle.std.specs.Prelude.{◌≡◌, ◌-◌, None, Some, OnOk, IfErr, IfNone};
 ghost use Rattle.quorum_expr.specs.Expr.{formula_of, weighed};
@@ -8,14 +8,14 @@ use crate::expression::{Expr, wide};
 use std::alloc::Allocator;
 use volume_model::Fault;
 
-/// How many levels an expression may have.
+/// The most levels that an expression may have.
 pub const LEVELS: u8 = 6;
 
-/// How many nodes an expression may have.
+/// The most nodes that an expression may have.
 pub const NODES: u32 = 4_096;
 
-/// Returns whether a threshold is from 1 to the weights of all its children, which are at most 64 and weigh at least 1
-/// each.
+/// Returns whether there are at most 64 children of weight 1 or more, and the threshold is from 1 to the sum of the
+/// weights.
 fn is_good_choice<A: Allocator>(k: u16, of: &[(u8, Expr<A>)]) -> bool
     ensures { result ≡ good_choice k (weighed formula_of of.now) }
 {
@@ -32,7 +32,7 @@ fn is_good_choice<A: Allocator>(k: u16, of: &[(u8, Expr<A>)]) -> bool
     1 <= k && u128::from(k) <= all
 }
 
-/// Returns the first fault of an expression that may have so many levels. The room falls by one a node, to 0 at least.
+/// Returns the first fault of an expression that may have `levels` levels. Subtracts its nodes from `room`, down to 0.
 fn fault_within<A: Allocator>(expr: &Expr<A>, levels: u8, room: &mut u32) -> Option<Fault>
     ensures fault { result ≡ shape_fault (formula_of expr.now) levels }
     ensures counted { IfNone result (room.new ≡ room.old - nodes (formula_of expr.now)) }
@@ -63,17 +63,17 @@ fn fault_within<A: Allocator>(expr: &Expr<A>, levels: u8, room: &mut u32) -> Opt
     }
 }
 
-/// Returns whether an expression has at most six levels, each threshold from 1 to the weights of its at most 64
-/// children, which weigh 1 to 255 each, members of 0 to 63 alone and at most 4,096 nodes. Takes no memory.
+/// Returns whether an expression has at most six levels and 4,096 nodes, only members from 0 to 63, and only valid
+/// thresholds: at most 64 children of weights from 1 to 255, and a threshold from 1 to their sum. Allocates nothing.
 ///
 /// # Errors
-/// The first fault, outer ones before inner ones and children in order: `TooDeep`, `BadCount` of a threshold, `NotAMember`; and
-/// `OverLimit` of the nodes, which are counted when the whole has been walked.
+/// The first fault, outer ones before inner ones and children in order: `TooDeep`, `BadCount` for a threshold, or
+/// `NotAMember`. `OverLimit` for more than 4,096 nodes, which are counted last.
 pub fn valid<A: Allocator>(expr: &Expr<A>) -> Result<(), Fault>
     ensures ok { OnOk result (expression_fault (formula_of expr.now) ≡ None) }
     ensures err { IfErr result (λ fault. expression_fault (formula_of expr.now) ≡ Some fault) }
 {
-    // One more than the limit, so that nothing is left exactly where it is passed.
+    // Starts at one more than the limit: room is left exactly if the limit isn't passed.
     let mut room = NODES + 1;
     if let Some(fault) = fault_within(expr, LEVELS, &mut room) {
         return Err(fault);

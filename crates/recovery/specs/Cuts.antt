@@ -1,4 +1,4 @@
--- What a client still reads.
+-- Reports that a recovery may keep.
 use Rattle.std.specs.Prelude.{ℕ, Bool, nat_lt, List}
 use Rattle.volume_model.specs.Lists.{every}
 use Rattle.volume_model.specs.Lineage.{last_epoch}
@@ -8,6 +8,6 @@ use Rattle.volume_model.specs.Client.{ClientGroup}
 abbrev pub is_older : ℕ → ClientGroup → Bool
 is_older volume group = every (λ report. nat_lt (last_epoch report.contents.lineage) volume) group.reports
 
--- the same of all groups
+-- the same for all groups
 abbrev pub are_older : ℕ → List ClientGroup → Bool
 are_older volume groups = every (is_older volume) groups

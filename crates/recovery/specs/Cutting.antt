@@ -1,4 +1,4 @@
--- The cut of a log, record by record.
+-- The cut of a log, computed record by record.
 use Rattle.std.specs.Prelude.{◌≡◌, ℕ, ◌<◌, true, ◌||◌, ◌==◌, List, [], ◌∷◌, map}
 use Rattle.volume_model.specs.Lists.{IsIn, added}
 use Rattle.volume_model.specs.Redo.{Redo, cut_of, last_lsn}
@@ -9,18 +9,18 @@ use Rattle.recovery.specs.Chains.{leads}
 use Rattle.recovery.specs.Led.{is_led}
 use Rattle.recovery.specs.declared.cutting.Cutting.{Cutting}
 
--- the log that a list of records is
+-- the log of the model for a list of records
 abbrev pub log_of_records : List Record → List Redo
 log_of_records records = added (map redo_of records) []
 
--- of a log whose numbers grow, each record coming after the one that it names: the numbers that lead down to 0, and the
--- cut
+-- for a log whose LSNs grow, and whose records link to smaller LSNs: the LSNs from which the chain leads down to 0, and
+-- the cut
 pub record IsCutOf (cutting : Cutting) (log : List Redo) : Type 0 where
   pub growing : is_growing log ≡ true
   pub back : (r : Redo) → IsIn r log → r.prev_volume < r.lsn
   pub led : (n : ℕ) → (n == 0 || is_led cutting.led n) ≡ leads log n
   pub cut : cutting.cut ≡ cut_of log
 
--- of whatever log the old one is the cut, the new one is that of the log with this record behind it
+-- if the old state is that of a log, the new one is that of the log with this record appended
 abbrev pub ReadsOneMore : Cutting → Cutting → Redo → Type 0
 ReadsOneMore old new r = (log : List Redo) → IsCutOf old log → last_lsn log < r.lsn → IsCutOf new (r ∷ log)

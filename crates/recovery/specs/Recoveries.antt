@@ -1,4 +1,4 @@
--- What a recovery is, as the model's client, and what it answers.
+-- The client of the model for a recovery, and a recovery's answers.
 use Rattle.std.specs.Prelude.{◌≡◌, ℕ, true, List, [], Option, Some, None, Result, Ok, Err}
 use Rattle.std.specs.Prelude.{Vec}
 use Rattle.std.specs.Global.{Global}
@@ -21,32 +21,32 @@ use Rattle.writer_core.specs.Writers as writers
 use Rattle.recovery.specs.declared.found.Found.{Found}
 use Rattle.recovery.specs.declared.recovery.Recovery.{Recovery}
 
--- the plan that it was made over
+-- the plan of a recovery
 abbrev pub recovery_plan : Recovery → Plan
 recovery_plan r = group_states_plan r.group_states
 
--- its volume epoch
+-- the volume epoch of a recovery
 abbrev pub recovery_volume : Recovery → ℕ
 recovery_volume r = r.volume
 
--- what it keeps of its groups
+-- a recovery's state of its groups
 abbrev pub recovery_groups : Recovery → List ClientGroup
 recovery_groups r = groups_in r.group_states
 
--- in each group the members whose acknowledgement is counted are a write set
+-- in each group the members with a counted acknowledgement satisfy the write expression
 abbrev pub HasInstalled : Recovery → Type 0
 HasInstalled r = has_installed (recovery_plan r) (keeping (recovery_groups r)) ≡ true
 
--- the client that keeps these of its groups: before its cut, and after it
+-- the client with this state of its groups, before its cut or after it
 abbrev pub client_with : List ClientGroup → Option Found → Client
 client_with groups None = record unborn { stage = Reading; groups = groups }
 client_with groups (Some found) = writers.installing groups (lineage_of found.lineage) (log_of_set found.log)
 
--- the client that it is
+-- the client of the model for a recovery
 abbrev pub client_of : Recovery → Client
 client_of r = client_with (groups_in r.group_states) r.found
 
--- what the first message to a client makes of it: a View is its birth, and nothing else is
+-- the answer to the first message of a client: only a View makes a recovery
 abbrev pub birth_of : Plan → model.Message → ClientAnswer
 birth_of plan (View volume places) = taken plan volume unborn (View volume places)
 birth_of plan (StepTo group place) = Err NotAddressed
@@ -61,7 +61,7 @@ birth_of plan (CopyReport group epoch sender series piece contents) = Err NotAdd
 birth_of plan (PageAsk group label block point) = Err NotAddressed
 birth_of plan (Page group label sender block point bytes) = Err NotAddressed
 
--- the volume epoch of a View, and 0 of any other message
+-- the volume epoch of a View, 0 for any other message
 abbrev pub view_volume : model.Message → ℕ
 view_volume (View volume places) = volume
 view_volume (StepTo group place) = 0
@@ -76,19 +76,19 @@ view_volume (CopyReport group epoch sender series piece contents) = 0
 view_volume (PageAsk group label block point) = 0
 view_volume (Page group label sender block point bytes) = 0
 
--- a new recovery with the messages that it makes, as a step
+-- the step that makes a new recovery, with its messages
 abbrev pub begun : Recovery × Vec Message Global → ClientStep
 begun (r, messages) = record { made = messages_of messages.items; client = client_of r }
 
--- the cut of a recovery that keeps these of its groups, with what it finds
+-- the step of a cut with this result, by a recovery with this state of its groups
 abbrev pub found_step : ℕ → Found → List ClientGroup → ClientStep
 found_step volume found groups = cut_step volume (keeping groups) (log_of_set found.log) (lineage_of found.lineage)
 
--- a call isn't refused
+-- the call isn't refused
 abbrev pub admitted : Unit {0} → Unit {0} → Unit {0}
 admitted u v = u
 
--- A recovery becomes the writer that is defined, or refuses as is defined and is handed back as it was.
+-- The recovery becomes the defined writer, or is refused as defined and returned unchanged.
 abbrev pub Opens : ClientAnswer → Recovery → Result Writer (Fault × Recovery) → Type 0
 Opens defined old (Ok w) = defined ≡ Ok (record { made = []; client = writers.client_of w })
 Opens defined old (Err (fault, back)) = (defined ≡ Err fault) × (back ≡ old)

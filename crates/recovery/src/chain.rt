@@ -1,4 +1,4 @@
-//! The log that is found among records.
+//! Finds the log among records.
 
 ghost use Rattle.std.specs.Prelude.{◌≡◌, ◌≤◌, ℕ, true, Some, take, length, IfOk, IfSome, is_some};
 ghost use Rattle.volume_model.specs.Redo.{record_at, chain_from, chain_or_none};
@@ -10,10 +10,10 @@ use crate::cutting::are_growing;
 use redo_record::{RecordSet, SharedRecord};
 use std::alloc::{AllocError, Global};
 
-/// Returns the first record of each LSN of a set: the set itself, shared with it, where no LSN stands twice.
+/// Returns the first record of each LSN of a set. Shares the records if no LSN occurs twice.
 ///
 /// # Errors
-/// `AllocError` if there is no memory.
+/// `AllocError` if memory runs out.
 pub fn firsts(alloc: Global, set: &RecordSet) -> Result<RecordSet, AllocError>
     ensures growing { IfOk result (λ firsts. is_growing (log_of_set firsts) ≡ true) }
     ensures same { IfOk result (λ firsts. (n : ℕ) → record_at (log_of_set firsts) n ≡ record_at (records_of set.now)
@@ -33,8 +33,8 @@ pub fn firsts(alloc: Global, set: &RecordSet) -> Result<RecordSet, AllocError>
     Ok(firsts)
 }
 
-/// Returns how many records from the first on are the chain by `prev_volume` from an LSN down to 0; `None` if others
-/// stand between.
+/// Returns the number of first records that are the chain by `prev_volume` from an LSN down to 0, or `None` if other
+/// records are between them.
 fn chain_length(packets: &[SharedRecord], lsn: u64) -> Option<usize>
     ensures chain { IfSome result (λ len. IsChainTo lsn (log_of (take len packets.now))) }
     ensures within { IfSome result (λ len. len ≤ length packets.now) }
@@ -57,7 +57,7 @@ fn chain_length(packets: &[SharedRecord], lsn: u64) -> Option<usize>
     }
 }
 
-/// Returns the records of the chain by `prev_volume` from an LSN down to 0, in growing LSN.
+/// Returns the records of the chain by `prev_volume` from an LSN down to 0, in order of LSN.
 fn chain_packets(
     alloc: Global,
     records: &[SharedRecord],
@@ -81,11 +81,10 @@ fn chain_packets(
     Ok(log)
 }
 
-/// Returns the chain by `prev_volume` from an LSN down to 0: a part of the records, shared with them, where no others
-/// stand between.
+/// Returns the chain by `prev_volume` from an LSN down to 0. Shares the records if no others are between them.
 ///
 /// # Errors
-/// `AllocError` if there is no memory.
+/// `AllocError` if memory runs out.
 pub fn chain_of(alloc: Global, records: &RecordSet, lsn: u64) -> Result<RecordSet, AllocError>
     requires growing { is_growing (log_of_set records.now) ≡ true }
     requires there { is_some (chain_from lsn (log_of_set records.now) lsn) ≡ true }

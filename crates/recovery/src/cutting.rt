@@ -1,4 +1,4 @@
-//! Where a log is cut.
+//! Computes the cut of a log.
 
 ghost use Rattle.std.specs.Prelude.{◌≡◌, true, Ok};
 ghost use Rattle.volume_model.specs.Answer.{Gives};
@@ -11,10 +11,10 @@ use redo_record::{Record, SharedRecord};
 use std::alloc::{AllocError, Global};
 use volume_model::Fault;
 
-/// The cut of the records read so far, which stand in growing LSN.
+/// The cut of the records read so far, in order of LSN.
 #[derive(Drop)]
 pub struct Cutting {
-    /// The LSNs from which `prev_volume` leads down to 0.
+    /// The LSNs whose chain by `prev_volume` leads down to 0.
     led: Led,
     cut: u64,
 }
@@ -25,7 +25,7 @@ impl Cutting {
     ghost use Rattle.recovery.specs.Led.{is_led};
     ghost use Rattle.recovery.specs.Cutting.{IsCutOf, ReadsOneMore};
 
-    /// Returns the cut of no records.
+    /// Makes the cut of no records.
     fn new(alloc: Global) -> Cutting
         ensures { IsCutOf result [] }
     {
@@ -35,10 +35,10 @@ impl Cutting {
         }
     }
 
-    /// Reads one record more, whose LSN is above those read so far.
+    /// Reads one more record, whose LSN is greater than those before it.
     ///
     /// # Errors
-    /// `AllocError` if there is no memory.
+    /// `AllocError` if memory runs out.
     #[inline]
     fn read(&mut self, record: &Record) -> Result<(), AllocError>
         requires { (n : ℕ) → is_led self.old.led n ≡ true → n ≤ «record».now.lsn }
@@ -54,7 +54,7 @@ impl Cutting {
     }
 }
 
-/// Returns whether shared records stand in growing LSN.
+/// Returns whether the LSNs of shared records grow.
 pub fn are_growing(records: &[SharedRecord]) -> bool
     ensures { result ≡ is_growing (log_of records.now) }
 {
@@ -70,7 +70,7 @@ pub fn are_growing(records: &[SharedRecord]) -> bool
 /// Returns the cut of shared records, as [`cut_of`] does.
 ///
 /// # Errors
-/// `NoMemory` if there is no memory.
+/// `NoMemory` if memory runs out.
 pub fn shared_cut_of(alloc: Global, records: &[SharedRecord]) -> Result<u64, Fault>
     requires { is_growing (log_of records.now) ≡ true }
     ensures { Gives (λ cut. cut) result (Ok (cut_of (log_of records.now))) }
@@ -82,7 +82,7 @@ pub fn shared_cut_of(alloc: Global, records: &[SharedRecord]) -> Result<u64, Fau
     Ok(cutting.cut)
 }
 
-/// Returns whether records stand in growing LSN.
+/// Returns whether the LSNs of records grow.
 pub fn is_growing(records: &[Record]) -> bool
     ensures { result ≡ is_growing (log_of_records records.now) }
 {
@@ -95,11 +95,11 @@ pub fn is_growing(records: &[Record]) -> bool
     growing
 }
 
-/// Returns the cut of records that stand in growing LSN: the greatest LSN of a consistency point from which
-/// `prev_volume` leads through the records down to 0, and 0 where there is none.
+/// Returns the cut of records in order of LSN: the greatest consistency point whose chain by `prev_volume` leads
+/// through the records down to 0, or 0 if there is none.
 ///
 /// # Errors
-/// `NoMemory` if there is no memory.
+/// `NoMemory` if memory runs out.
 pub fn cut_of(alloc: Global, records: &[Record]) -> Result<u64, Fault>
     requires { is_growing (log_of_records records.now) ≡ true }
     ensures { Gives (λ cut. cut) result (Ok (cut_of (log_of_records records.now))) }

@@ -1,4 +1,4 @@
-//! What a recovery finds in the reports that it has.
+//! Finds the log in a recovery's reports.
 
 ghost use Rattle.std.specs.Prelude.{◌≡◌, ◌≤◌, true, IfOk};
 ghost use Rattle.volume_model.specs.Answer.{Gives};
@@ -19,11 +19,11 @@ use std::alloc::Global;
 use volume_model::Fault;
 use writer_core::GroupStates;
 
-/// Returns what a recovery of this volume epoch finds in the reports that it has.
+/// Returns what a recovery of this volume epoch finds in its reports.
 ///
 /// # Errors
-/// `LsnSpent` if its own numbers would begin above the greatest, and `NoMemory`, which may come before it, if there
-/// is no memory.
+/// `LsnSpent` if its own LSNs would begin above the greatest LSN; `NoMemory` if memory runs out, which may come before
+/// it.
 pub fn find(alloc: Global, volume: u32, group_states: &GroupStates) -> Result<Found, Fault>
     requires assigned { 1 ≤ volume }
     requires older { are_older volume (groups_in group_states.now) ≡ true }

@@ -1,4 +1,4 @@
-//! What a recovery has found.
+//! The result of a recovery's cut.
 
 ghost use Rattle.std.specs.Prelude.{◌≡◌, true};
 ghost use Rattle.lineage.specs.Lineage.{lineage_of};
@@ -10,12 +10,12 @@ use redo_record::RecordSet;
 use std::alloc::AllocError;
 use writer_core::Writer;
 
-/// What a recovery has found, and where it has cut.
+/// The result of a recovery's cut.
 #[derive(Drop)]
 pub struct Found {
-    /// The log up to the cut, in growing LSN.
+    /// The log found, up to the cut, in order of LSN.
     pub log: RecordSet,
-    /// The LSN up to which the log is kept.
+    /// The cut: the LSN up to which the log is kept.
     pub cut: u64,
     /// The lineage, with the recovery's own entry.
     pub lineage: Lineage,
@@ -28,11 +28,11 @@ impl Found {
     ghost use Rattle.writer_core.specs.Writers.{client_of};
     ghost use Rattle.recovery.specs.Finds.{IsFindOf};
 
-    /// Returns what the recovery had found that has become this writer. The writer that a volume is born with was none:
-    /// of it that is no record, and its lineage.
+    /// Returns the result of the recovery that became this writer. The first writer has no recovery: its log found is
+    /// empty.
     ///
     /// # Errors
-    /// `AllocError` if there is no memory.
+    /// `AllocError` if memory runs out.
     pub fn of_writer(writer: &Writer) -> Result<Found, AllocError>
         ensures { IfOk result (IsFindOf (client_of writer.now)) }
     {

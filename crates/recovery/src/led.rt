@@ -1,10 +1,10 @@
-//! The numbers of records from which a log leads down to 0.
+//! The LSNs whose chain leads down to 0.
 
 ghost use Rattle.std.specs.List.Sorted.{IsNonDecreasing};
 
 use std::alloc::{AllocError, Global};
 
-/// Numbers in growing order.
+/// LSNs in growing order.
 #[derive(Drop)]
 pub struct Led {
     numbers: Vec<u64>,
@@ -15,7 +15,7 @@ impl Led {
     ghost use Rattle.std.specs.Prelude.{◌≡◌, ◌≤◌, ◌==◌, ℕ, true, false, if◌then◌else◌, OnOk};
     ghost use Rattle.recovery.specs.Led.{is_led};
 
-    /// Makes a set without a number.
+    /// Makes an empty set.
     pub fn new(alloc: Global) -> Led
         ensures { (n : ℕ) → is_led result n ≡ false }
     {
@@ -24,7 +24,7 @@ impl Led {
         }
     }
 
-    /// Returns whether the number is one of these: often it is the last.
+    /// Returns whether the set has the LSN. Tests the last one first.
     pub fn contains(&self, number: u64) -> bool
         ensures { result ≡ is_led self.now number }
     {
@@ -36,10 +36,10 @@ impl Led {
         self.numbers.binary_search(&number).is_ok()
     }
 
-    /// Adds a number that none of these is above.
+    /// Adds an LSN that is at least all others.
     ///
     /// # Errors
-    /// `AllocError` if there is no memory.
+    /// `AllocError` if memory runs out.
     pub fn push(&mut self, number: u64) -> Result<(), AllocError>
         requires { (n : ℕ) → is_led self.old n ≡ true → n ≤ number }
         ensures { OnOk result ((n : ℕ) → is_led self.new n ≡ (if number == n then true else is_led self.old n)) }

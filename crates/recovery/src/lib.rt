@@ -1,4 +1,5 @@
-//! A recovery: it finds the log that nodes hold, cuts it, installs it, and becomes the writer of its volume epoch.
+//! Recoveries. A recovery finds the log that nodes hold, cuts it, installs it, and becomes the writer of its volume
+//! epoch.
 #![tactic(auto)]
 
 mod chain;

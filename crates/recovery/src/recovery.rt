@@ -1,4 +1,4 @@
-//! A recovery.
+//! Recoveries.
 
 ghost use Rattle.std.specs.Prelude.{◌≡◌, ◌≤◌, true};
 ghost use Rattle.writer_core.specs.Groups.{groups_in};
@@ -15,12 +15,12 @@ use volume_model::{Fault, steps_are_few};
 use wire::{Ack, Message, Report, View};
 use writer_core::{GroupStates, Writer, are_places};
 
-/// A recovery of a volume epoch: it reads until it cuts, and then installs what it has found.
+/// The recovery of a volume epoch. It collects reports until it cuts, and then installs the log found.
 #[derive(Drop)]
 pub struct Recovery {
     group_states: GroupStates,
     volume: u32,
-    /// What it has found, once it has cut.
+    /// The result of its cut, once it has cut.
     found: Option<Found>,
     ghost assigned: { 1 ≤ volume },
     ghost older: { are_older volume (groups_in group_states) ≡ true },
@@ -40,7 +40,7 @@ impl Recovery {
     ghost use Rattle.recovery.specs.Recoveries.{client_of, recovery_groups, recovery_plan, recovery_volume, admitted, begun, birth_of, found_step, view_volume, HasInstalled, Opens};
     ghost use Rattle.recovery.specs.Finds.{is_spent, IsFindOf};
 
-    /// Returns the View that makes a recovery, refused as [`Recovery::admits_birth`] says.
+    /// Returns the View that makes a recovery, with the refusals of [`Recovery::admits_birth`].
     fn first_view<'a>(plan: &CheckedPlan, message: &'a Message) -> Result<&'a View, Fault>
         ensures refusal { refusal_of result ≡ refusal_of (birth_of (checked_model plan.now) (message_of message.now)) }
         ensures view { IfOk result (λ view. message.now ≡ Message.View view.now) }
@@ -57,11 +57,11 @@ impl Recovery {
         Ok(view)
     }
 
-    /// Checks whether a message makes a recovery. Takes no memory.
+    /// Checks whether a message makes a recovery. Allocates nothing.
     ///
     /// # Errors
-    /// `NotAddressed` if it is no View, and `NotInPlan` if its places aren't those of the plan's first groups, of all
-    /// that are there at birth at least, each at one of its configurations.
+    /// `NotAddressed` if it isn't a View; `NotInPlan` if it lacks a group of the birth, has more groups than the plan,
+    /// or has a place that isn't a configuration of its group.
     pub fn admits_birth(plan: &CheckedPlan, message: &Message) -> Result<(), Fault>
         ensures refusal { result ≡ refusal_of (birth_of (checked_model plan.now) (message_of message.now)) }
         ensures own { IfErr result (λ fault. fault ≢ NoMemory) }
@@ -72,10 +72,10 @@ impl Recovery {
         }
     }
 
-    /// Returns a recovery from its first View, with one Fence a group of the View.
+    /// Makes a recovery from its first View. Returns it with one Fence for each group of the View.
     ///
     /// # Errors
-    /// As [`Recovery::admits_birth`] says; `NoMemory`.
+    /// Those of [`Recovery::admits_birth`]; `NoMemory` if memory runs out.
     pub fn new(
         alloc: Global,
         plan: Arc<CheckedPlan>,
@@ -106,7 +106,7 @@ impl Recovery {
         self.volume
     }
 
-    /// Returns how many groups the volume has.
+    /// Returns the number of groups.
     pub fn groups(&self) -> u8
         ensures all { result ≡ (recovery_plan self.now).groups }
         ensures view { length (client_of self.now).groups ≤ result }
@@ -114,11 +114,11 @@ impl Recovery {
         self.group_states.plan().groups()
     }
 
-    /// Checks whether a later View can be taken. Takes no memory.
+    /// Checks whether a later View can be taken. Allocates nothing.
     ///
     /// # Errors
-    /// `NotAddressed` if it is one of another volume epoch, and `NotInPlan` if its places aren't those of the plan's
-    /// first groups, of all that are there at birth at least, each at one of its configurations.
+    /// `NotAddressed` if it is of another volume epoch; `NotInPlan` if it lacks a group of the birth, has more groups
+    /// than the plan, or has a place that isn't a configuration of its group.
     pub fn admits_view(&self, view: &View) -> Result<(), Fault>
         ensures refusal { result ≡ refusal_of (taken (recovery_plan self.now) (recovery_volume self.now)
             (client_of self.now) (message_of (Message.View view.now))) }
@@ -136,12 +136,12 @@ impl Recovery {
         Ok(())
     }
 
-    /// Takes a later View. Each group moves to its place where that is one of a later epoch, which a group that is
-    /// new always is; for each such group it makes a Fence before its cut, when the group's reports no longer count,
-    /// and the group's Installs after it.
+    /// Takes a later View. Each group moves to its place if that is of a later epoch, and new groups are added. Before
+    /// the cut, each of these groups drops its reports, and a Fence is returned for it. After the cut, its Installs are
+    /// returned.
     ///
     /// # Errors
-    /// As [`Recovery::admits_view`] says; `NoMemory`; the recovery is unchanged.
+    /// Those of [`Recovery::admits_view`]; `NoMemory` if memory runs out. The recovery is unchanged.
     pub fn view(&mut self, alloc: Global, view: &View) -> Result<Vec<Message>, Fault>
         ensures answers { Answers acted (taken (recovery_plan self.old) (recovery_volume self.old) (client_of self.old)
             (message_of (Message.View view.now))) (client_of self.old) result (client_of self.new) }
@@ -170,11 +170,10 @@ impl Recovery {
         }
     }
 
-    /// Checks whether a report can be taken. Takes no memory.
+    /// Checks whether a report can be taken. Allocates nothing.
     ///
     /// # Errors
-    /// `NotAddressed` if it isn't for this recovery, of a group of the volume with records of that group, from a
-    /// member.
+    /// `NotAddressed` if it isn't for this recovery, for one of its groups with that group's records, or from a member.
     pub fn admits_report(&self, report: &Report) -> Result<(), Fault>
         ensures refusal { result ≡ refusal_of (taken (recovery_plan self.now) (recovery_volume self.now)
             (client_of self.now) (message_of (Message.Report report.now))) }
@@ -188,11 +187,11 @@ impl Recovery {
         Ok(())
     }
 
-    /// Takes a report. It counts before the cut, where its membership epoch is the group's and its lineage is older
-    /// than the recovery, and it is the member's first; else it changes nothing.
+    /// Takes a report. It counts before the cut, if it is the member's first, its membership epoch is the group's, and
+    /// its lineage is older than the recovery. Else it is ignored.
     ///
     /// # Errors
-    /// As [`Recovery::admits_report`] says; `NoMemory`; the recovery is unchanged.
+    /// Those of [`Recovery::admits_report`]; `NoMemory` if memory runs out. The recovery is unchanged.
     pub fn take_report(&mut self, report: &Report) -> Result<(), Fault>
         ensures answers { Answers silent (taken (recovery_plan self.old) (recovery_volume self.old) (client_of self.old)
             (message_of (Message.Report report.now))) (client_of self.old) result (client_of self.new) }
@@ -210,10 +209,10 @@ impl Recovery {
         Ok(())
     }
 
-    /// Checks whether an acknowledgement can be taken. Takes no memory.
+    /// Checks whether an acknowledgement can be taken. Allocates nothing.
     ///
     /// # Errors
-    /// `NotAddressed` if it isn't one to this recovery, of a group of the volume and a member.
+    /// `NotAddressed` if it isn't for this recovery, for one of its groups, or from a member.
     pub fn admits_ack(&self, ack: &Ack) -> Result<(), Fault>
         ensures refusal { result ≡ refusal_of (taken (recovery_plan self.now) (recovery_volume self.now)
             (client_of self.now) (message_of (Message.Ack ack.now))) }
@@ -227,11 +226,11 @@ impl Recovery {
         Ok(())
     }
 
-    /// Takes an acknowledgement. It is counted after the cut, where its membership epoch is at most the group's; else
-    /// it changes nothing.
+    /// Takes an acknowledgement. It counts after the cut, if its membership epoch is at most the group's. Else it is
+    /// ignored.
     ///
     /// # Errors
-    /// As [`Recovery::admits_ack`] says; `NoMemory`; the recovery is unchanged.
+    /// Those of [`Recovery::admits_ack`]; `NoMemory` if memory runs out. The recovery is unchanged.
     pub fn take_ack(&mut self, ack: &Ack) -> Result<(), Fault>
         ensures answers { Answers silent (taken (recovery_plan self.old) (recovery_volume self.old) (client_of self.old)
             (message_of (Message.Ack ack.now))) (client_of self.old) result (client_of self.new) }
@@ -246,7 +245,7 @@ impl Recovery {
         Ok(())
     }
 
-    /// Finds the log that a cut would find, refused as [`Recovery::admits_cut`] says.
+    /// Finds the log for a cut, with the refusals of [`Recovery::admits_cut`].
     fn find_cut(&self, alloc: Global) -> Result<Found, Fault>
         ensures { AnswersAfterGrowth is_spent (found_step (recovery_volume self.now))
             (cut_client (recovery_plan self.now) (recovery_volume self.now) (client_of self.now))
@@ -261,12 +260,12 @@ impl Recovery {
         find(alloc, self.volume, &self.group_states)
     }
 
-    /// Checks whether it can cut the log that the reports hold.
+    /// Checks whether the recovery can cut the log of its reports.
     ///
     /// # Errors
-    /// `AlreadyDone` if it has cut, `NotReady` if in some group the senders of its reports are no read set, and
-    /// `LsnSpent` if its own numbers would begin above the greatest; `NoMemory`, which may come before `LsnSpent`,
-    /// since the log is found first, if there is no memory.
+    /// `AlreadyDone` if it has cut; `NotReady` if in some group the senders of its reports aren't a read quorum;
+    /// `LsnSpent` if its own LSNs would begin above the greatest LSN; `NoMemory` if memory runs out, which may come
+    /// before `LsnSpent`, since the log is found first.
     pub fn admits_cut(&self, alloc: Global) -> Result<(), Fault>
         ensures { AnswersAfterGrowth is_spent admitted
             (refusal_of (cut_client (recovery_plan self.now) (recovery_volume self.now) (client_of self.now))) tt result
@@ -278,11 +277,11 @@ impl Recovery {
         }
     }
 
-    /// Cuts the log that the reports hold, and makes the Installs of what it has found, one a piece of a group: the
-    /// newest lineage with its own entry, and the log up to the cut.
+    /// Cuts the log of its reports. Returns the Installs, one for each piece of a group: the newest lineage with the
+    /// recovery's own entry, and the log up to the cut.
     ///
     /// # Errors
-    /// As [`Recovery::admits_cut`] says; the recovery is unchanged.
+    /// Those of [`Recovery::admits_cut`]. The recovery is unchanged.
     pub fn cut(&mut self, alloc: Global) -> Result<Vec<Message>, Fault>
         ensures answers { AnswersAfterGrowth is_spent acted (cut_client (recovery_plan self.old)
             (recovery_volume self.old) (client_of self.old)) (client_of self.old) result (client_of self.new) }
@@ -298,7 +297,7 @@ impl Recovery {
         Ok(messages)
     }
 
-    /// Returns a bound on the number of records of the log that its reports hold.
+    /// Returns an upper bound on the number of records of the log in its reports.
     pub fn reported(&self) -> usize
         ensures { length (log_reported (client_of self.now)) ≤ result }
     {
@@ -306,7 +305,7 @@ impl Recovery {
         records_said(self.group_states.as_slice())
     }
 
-    /// Returns how many records the log has that it has found, and 0 before its cut.
+    /// Returns the number of records of the log found, 0 before the cut.
     pub fn found_len(&self) -> usize
         ensures { result ≡ length (client_of self.now).found }
     {
@@ -316,7 +315,7 @@ impl Recovery {
         }
     }
 
-    /// Returns what it has found, `None` before its cut.
+    /// Returns the result of its cut, or `None` before the cut.
     pub fn found(&self) -> Option<&Found>
         ensures { MatchOption result (has_cut (client_of self.now).stage ≡ false)
             (λ found. (has_cut (client_of self.now).stage ≡ true) × IsFindOf (client_of self.now) found.now) }
@@ -324,10 +323,10 @@ impl Recovery {
         self.found.as_ref()
     }
 
-    /// Returns the refusal of [`Recovery::open`] without acting. Takes no memory.
+    /// Returns the refusal of [`Recovery::open`], if any, without acting. Allocates nothing.
     ///
     /// # Errors
-    /// `NotReady` before its cut, and until a write quorum of each group has acknowledged its install.
+    /// `NotReady` before the cut, and until a write quorum of each group has acknowledged its install.
     pub fn admits_open(&self) -> Result<(), Fault>
         ensures refusal { result ≡ refusal_of (opened (recovery_plan self.now) (client_of self.now)) }
         ensures cut { OnOk result (has_cut (client_of self.now).stage ≡ true) }
@@ -341,10 +340,10 @@ impl Recovery {
     }
 
     /// Returns the writer that the recovery becomes once a write quorum of each group has acknowledged its install.
-    /// Takes no memory.
+    /// Allocates nothing.
     ///
     /// # Errors
-    /// Those of [`Recovery::admits_open`], with the recovery unchanged.
+    /// Those of [`Recovery::admits_open`]. The recovery is returned unchanged.
     pub fn open(self) -> Result<Writer, (Fault, Recovery)>
         ensures opens { Opens (opened (recovery_plan self) (client_of self)) self result }
         ensures plan { IfOk result (λ w. writer_plan w ≡ recovery_plan self) }

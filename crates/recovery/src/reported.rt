@@ -1,4 +1,4 @@
-//! What the reports of all groups hold together.
+//! The contents of all groups' reports together.
 
 ghost use Rattle.std.specs.Prelude.{◌≡◌, ◌-◌, ◌^◌, min, IfOk};
 ghost use Rattle.volume_model.specs.Few.{records_in};
@@ -16,7 +16,7 @@ use redo_record::RecordSet;
 use std::alloc::{AllocError, Global};
 use writer_core::GroupState;
 
-/// Returns the newest of the lineages of all reports and of one that comes behind them.
+/// Returns the newest of the lineages of all reports and `last`.
 fn newest_reported<'a>(group_states: &'a [GroupState], last: &'a Lineage) -> &'a Lineage
     ensures { lineage_of result.now ≡ newest_with (lineage_of last.now) (reports_in (groups_of group_states.now)) }
 {
@@ -26,10 +26,10 @@ fn newest_reported<'a>(group_states: &'a [GroupState], last: &'a Lineage) -> &'a
     }
 }
 
-/// Returns the newest lineage of all reports, and none where there is no report.
+/// Returns the newest lineage of all reports, or the empty lineage if there is no report.
 ///
 /// # Errors
-/// `AllocError` if there is no memory.
+/// `AllocError` if memory runs out.
 pub fn newest_lineage(alloc: Global, group_states: &[GroupState]) -> Result<Lineage, AllocError>
     ensures { IfOk result (λ lineage. lineage_of lineage ≡ newest (reports_in (groups_of group_states.now))) }
 {
@@ -40,7 +40,7 @@ pub fn newest_lineage(alloc: Global, group_states: &[GroupState]) -> Result<Line
 /// Returns all reported records that are live in the lineage.
 ///
 /// # Errors
-/// `AllocError` if there is no memory.
+/// `AllocError` if memory runs out.
 pub fn found_in(
     alloc: Global,
     lineage: &Lineage,
@@ -58,8 +58,7 @@ pub fn found_in(
     }
 }
 
-/// Returns how many records the reports of a group hold, each counted as often as it is held; at most the greatest
-/// number.
+/// Returns the number of records in a group's reports; a record counts as often as it is reported. Saturates.
 fn records_in(copies: &[Copied]) -> usize
     ensures { result ≡ min (records_in (contents_of (copies_in copies.now))) (2 ^ 64 - 1) }
 {
@@ -69,8 +68,7 @@ fn records_in(copies: &[Copied]) -> usize
     }
 }
 
-/// Returns how many records the reports of all groups hold, each counted as often as it is held; at most the greatest
-/// number.
+/// Returns the number of records in the reports of all groups; a record counts as often as it is reported. Saturates.
 pub fn records_said(group_states: &[GroupState]) -> usize
     ensures { result ≡ min (records_in (reports_in (groups_of group_states.now))) (2 ^ 64 - 1) }
 {

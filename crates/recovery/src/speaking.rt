@@ -1,4 +1,4 @@
-//! The messages of a recovery to nodes.
+//! The messages of a recovery.
 
 ghost use Rattle.std.specs.Prelude.{◌≡◌, ◌≤◌, true, length, map, IfOk};
 ghost use Rattle.volume_model.specs.Message.{place_in};
@@ -16,10 +16,10 @@ use std::alloc::{AllocError, Global};
 use wire::{Fence, Message, Place};
 use writer_core::{GroupStates, group_installs, label_at};
 
-/// Returns one Fence a group of the view.
+/// Returns one Fence for each group.
 ///
 /// # Errors
-/// `AllocError` if there is no memory.
+/// `AllocError` if memory runs out.
 pub fn fences(
     alloc: Global,
     volume: u32,
@@ -38,10 +38,10 @@ pub fn fences(
     Ok(messages)
 }
 
-/// Returns one Fence for each group that these places raise.
+/// Returns one Fence for each group whose new place is of a later epoch.
 ///
 /// # Errors
-/// `AllocError` if there is no memory.
+/// `AllocError` if memory runs out.
 pub fn later_fences(
     alloc: Global,
     volume: u32,
@@ -66,10 +66,10 @@ pub fn later_fences(
     Ok(messages)
 }
 
-/// Returns the Installs of what was found for all groups of the view, in order of group, then piece.
+/// Returns the Installs of the log found for all groups, in order of group, then piece.
 ///
 /// # Errors
-/// `AllocError` if there is no memory.
+/// `AllocError` if memory runs out.
 pub fn installs(
     alloc: Global,
     volume: u32,
@@ -89,10 +89,11 @@ pub fn installs(
     Ok(messages)
 }
 
-/// Returns the Installs of what was found for each group that these places raise, in order of group, then piece.
+/// Returns the Installs of the log found for each group whose new place is of a later epoch, in order of group, then
+/// piece.
 ///
 /// # Errors
-/// `AllocError` if there is no memory.
+/// `AllocError` if memory runs out.
 pub fn later_installs(
     alloc: Global,
     volume: u32,

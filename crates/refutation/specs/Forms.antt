@@ -1,4 +1,4 @@
--- What the forms of the code stand for.
+-- Views of the types that the reader uses.
 use Rattle.std.specs.Prelude.{List, map}
 use Rattle.serde_json.specs.Data.{Data}
 use Rattle.json_node.specs.Nodes.{items_in}

@@ -2,7 +2,7 @@
 use Rattle.std.specs.Prelude.{ℕ, ◌+◌, Bool, true, ◌&&◌, nat_lt, nat_le, length}
 use Rattle.refutation.specs.Rule.{Rule, Branches, dead, clash, open_all, pick, pair_up, split, no_branch, branch, branch_count, depth_of}
 
--- how many rules there are
+-- the number of rules in a tree of rules
 abbrev mutual
   pub nodes_of : Rule → ℕ
   nodes_of (dead side i) = 1
@@ -12,7 +12,7 @@ abbrev mutual
   nodes_of (pair_up i j pairs branches) = 1 + branch_nodes branches
   nodes_of (split x left right) = 1 + nodes_of left + nodes_of right
 
-  -- how many rules branches have
+  -- the number of rules in all branches
   pub branch_nodes : Branches → ℕ
   branch_nodes no_branch = 0
   branch_nodes (branch rule rest) = nodes_of rule + branch_nodes rest
@@ -29,11 +29,11 @@ abbrev mutual
       each_keeps_lists branches)
   keeps_lists (split x left right) = nat_lt x 64 && (keeps_lists left && keeps_lists right)
 
-  -- each branch does
+  -- the same for each branch
   pub each_keeps_lists : Branches → Bool
   each_keeps_lists no_branch = true
   each_keeps_lists (branch rule rest) = keeps_lists rule && each_keeps_lists rest
 
--- at most 40 levels, no list that is too long, and at most 100,000 rules
+-- at most 40 levels, no list with more than 255 entries, and at most 100,000 rules
 abbrev pub is_certificate : Rule → Bool
 is_certificate rule = nat_le (depth_of rule) 40 && (keeps_lists rule && nat_le (nodes_of rule) 100000)

@@ -1,8 +1,8 @@
--- The numbers that certificates are written with.
+-- The ranges of the numbers in certificates.
 use Rattle.std.specs.Prelude.{ℕ, ◌≤◌, All}
 use Rattle.refutation.specs.Rule.{Rule, Branches, dead, clash, open_all, pick, pair_up, split, no_branch, branch}
 
--- two numbers of children
+-- both numbers of children are at most 255
 abbrev pub IsPairInRange : ℕ × ℕ → Type 0
 IsPairInRange p = (p.0 ≤ 255) × (p.1 ≤ 255)
 
@@ -16,7 +16,7 @@ abbrev mutual
   HasRanges (pair_up i j pairs branches) = (i ≤ 65535) × (j ≤ 65535) × All IsPairInRange pairs × EachHasRanges branches
   HasRanges (split x left right) = HasRanges left × HasRanges right
 
-  -- each branch has them
+  -- the same for each branch
   pub EachHasRanges : Branches → Type 0
   EachHasRanges no_branch = Unit {0}
   EachHasRanges (branch rule rest) = HasRanges rule × EachHasRanges rest

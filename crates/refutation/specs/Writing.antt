@@ -64,7 +64,7 @@ abbrev mutual
   certificate_data (pair_up i j pairs branches) = match_data i j (pairs_data pairs) (branches_data branches)
   certificate_data (split x left right) = split_data x (certificate_data left) (certificate_data right)
 
-  -- that of branches, in order
+  -- the JSON of branches, in order
   pub branches_data : Branches → Items
   branches_data no_branch = no_items
   branches_data (branch rule rest) = item (certificate_data rule) (branches_data rest)

@@ -11,10 +11,10 @@ use crate::limits::{is_shallow, keep_lists, room_after};
 use std::alloc::Allocator;
 use volume_model::Fault;
 
-/// How many levels a certificate may have.
+/// The most levels that a certificate may have.
 pub const MAX_DEPTH: u8 = 40;
 
-/// How many rules a certificate may have.
+/// The most rules that a certificate may have.
 pub const MAX_NODES: u32 = 100_000;
 
 /// A refutation of at most 40 levels and 100,000 rules, whose lists have at most 255 entries and whose members are
@@ -30,14 +30,14 @@ impl<A: Allocator> Certificate<A> {
     ghost use Rattle.volume_model.specs.Answer.{Gives};
     ghost use Rattle.refutation.specs.Certificate.{certificate_rule};
 
-    /// Returns the certificate that a refutation is. `OverLimit`, with the refutation, where it passes a limit.
+    /// Returns a refutation as a certificate. Returns it with `OverLimit` if it passes a limit.
     pub fn new(tree: Refutation<A>) -> Result<Certificate<A>, (Fault, Refutation<A>)>
         ensures made { IfOk result (λ c. certificate_rule c ≡ rule_of tree) }
         ensures within { OnOk result (is_certificate (rule_of tree) ≡ true) }
         ensures over { IfErr result (λ e. (e.0 ≡ Fault.OverLimit) × (e.1 ≡ tree)
             × (is_certificate (rule_of tree) ≡ false)) }
     {
-        // One more than the limit, so that nothing is left exactly where it is passed.
+        // Starts at one more than the limit: room is left exactly if the limit isn't passed.
         if !is_shallow(&tree, MAX_DEPTH)
             || !keep_lists(&tree)
             || room_after(&tree, MAX_NODES + 1) == 0
@@ -47,7 +47,7 @@ impl<A: Allocator> Certificate<A> {
         Ok(Certificate { tree })
     }
 
-    /// Its tree.
+    /// Returns the refutation.
     pub fn tree(&self) -> &Refutation<A>
         ensures rule { rule_of result.now ≡ certificate_rule self.now }
         ensures depth { depth_of (certificate_rule self.now) ≤ 40 }
@@ -57,10 +57,10 @@ impl<A: Allocator> Certificate<A> {
         &self.tree
     }
 
-    /// Returns the same certificate in other memory.
+    /// Copies the certificate into another allocator.
     ///
     /// # Errors
-    /// `NoMemory` where a growth was refused.
+    /// `NoMemory` if memory runs out.
     pub fn copy_in<B: Allocator + Clone>(&self, alloc: B) -> Result<Certificate<B>, Fault>
         ensures { Gives certificate_rule result (Ok (certificate_rule self.now)) }
     {

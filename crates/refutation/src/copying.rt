@@ -1,4 +1,4 @@
-//! Refutations made from others.
+//! Copies refutations into another allocator.
 
 ghost use Rattle.std.specs.Prelude.{◌≡◌, Ok};
 ghost use Rattle.volume_model.specs.Answer.{Gives};
@@ -10,7 +10,7 @@ use crate::{Refutation, Side};
 use std::alloc::Allocator;
 use volume_model::Fault;
 
-/// Returns the same numbers in other memory.
+/// Copies a list of numbers.
 fn copy_list<T: Copy, B: Allocator + Clone>(numbers: &[T], alloc: &B) -> Result<Vec<T, B>, Fault>
     ensures { Gives (λ v. v.items) result (Ok numbers.now) }
 {
@@ -19,7 +19,7 @@ fn copy_list<T: Copy, B: Allocator + Clone>(numbers: &[T], alloc: &B) -> Result<
     Ok(copy)
 }
 
-/// Returns a refutation in a box of its own.
+/// Moves a refutation into a box.
 #[inline]
 fn boxed<B: Allocator + Clone>(
     rule: Refutation<B>,
@@ -95,7 +95,7 @@ fn copy_match<B: Allocator + Clone>(
     })
 }
 
-/// Returns the same refutation in other memory.
+/// Copies a refutation.
 #[cycle(copy)]
 pub fn copy_tree<A: Allocator, B: Allocator + Clone>(
     rule: &Refutation<A>,

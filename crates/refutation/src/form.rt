@@ -1,4 +1,4 @@
-//! What a JSON node spells at its own level, before its branches are read.
+//! One level of a JSON node, before its branches are read.
 
 use crate::Side;
 use json_node::{Node, count_items};
@@ -14,7 +14,7 @@ pub enum RuleName {
     Split,
 }
 
-/// A rule with the nodes of its branches: one each, or the array that lists them.
+/// A rule with the nodes of its branches: one node each, or the array that lists them.
 #[derive(Drop)]
 pub enum Form<N> {
     Dead(Side, u16),
@@ -47,7 +47,7 @@ impl RuleName {
     ghost use Rattle.std.specs.Prelude.{◌≡◌, ◌≤◌};
     ghost use Rattle.refutation.specs.Reading.{key_count};
 
-    /// Returns how many keys a rule of this name has, the name included.
+    /// Returns the number of keys of a rule with this name, the name included.
     pub fn key_count(self) -> usize
         ensures keys { result ≡ key_count self }
         ensures few { result ≤ 5 }

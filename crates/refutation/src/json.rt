@@ -46,7 +46,7 @@ pub fn array<N: Node>(value: &N) -> Result<N::Rest, Fault>
     }
 }
 
-/// Returns a node that is an array as it is.
+/// Returns the node if it is an array.
 ///
 /// # Errors
 /// `Malformed` for any other value.
@@ -111,7 +111,7 @@ pub fn number_at<N: Node>(value: &N, key: &str, most: u64) -> Result<u64, Fault>
     number_to(&found, most)
 }
 
-/// Returns the members of an object with one more, which takes the place of an earlier one with its key. Fails only if
+/// Returns the object with one more key and value, which replaces an earlier one with the same key. Fails only if
 /// memory runs out.
 pub fn with(
     alloc: Global,

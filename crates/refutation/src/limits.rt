@@ -1,4 +1,4 @@
-//! How deep, how long and how large a refutation is.
+//! The depth of a refutation, the lengths of its lists, and its number of rules.
 
 ghost use Rattle.std.specs.Prelude.{◌≡◌, ◌-◌, ◌&&◌, nat_le, map};
 ghost use Rattle.refutation.specs.Rule.{branches_of, depth_of, branch_depth};
@@ -8,10 +8,10 @@ ghost use Rattle.refutation.specs.Limits.{keeps_lists, each_keeps_lists, nodes_o
 use crate::Refutation;
 use std::alloc::Allocator;
 
-/// How many entries a list may have.
+/// The most entries that a list may have.
 pub const MAX_LIST: usize = 255;
 
-/// Returns whether there are at most so many levels.
+/// Returns whether there are at most `levels` levels.
 #[cycle(levels)]
 pub fn is_shallow<A: Allocator>(rule: &Refutation<A>, levels: u8) -> bool
     ensures { result ≡ nat_le (depth_of (rule_of rule.now)) levels }
@@ -48,7 +48,7 @@ fn are_short(entries: usize, branches: usize) -> bool
     entries <= MAX_LIST && branches <= MAX_LIST
 }
 
-/// Returns whether no list is too long, and each member is below 64.
+/// Returns whether no list has more than 255 entries, and each member is below 64.
 #[cycle(lists)]
 pub fn keep_lists<A: Allocator>(rule: &Refutation<A>) -> bool
     ensures { result ≡ keeps_lists (rule_of rule.now) }
@@ -82,7 +82,7 @@ fn each_keep_lists<A: Allocator>(branches: &[Refutation<A>]) -> bool
     true
 }
 
-/// Returns how much is left of so much room once each rule has taken one.
+/// Subtracts the number of rules from `room`, down to 0.
 #[cycle(count)]
 pub fn room_after<A: Allocator>(rule: &Refutation<A>, room: u32) -> u32
     ensures { result ≡ room - nodes_of (rule_of rule.now) }

@@ -34,7 +34,6 @@ fn side<N: Node>(value: &N) -> Result<Side, Fault>
     }
 }
 
-/// Reads the name of a rule.
 fn rule_name<N: Node>(value: &N) -> Result<RuleName, Fault>
     ensures { result ≡ rule_name_of (N.means value.now) }
 {
@@ -55,7 +54,7 @@ fn rule_name<N: Node>(value: &N) -> Result<RuleName, Fault>
     }
 }
 
-/// Reads the numbers of children.
+/// Reads the numbers of children in an array.
 fn numbers<N: Node>(alloc: Global, rest: &mut N::Rest) -> Result<Vec<u8>, Fault>
     ensures { Gives (λ v. v.items) result (numbers_of (N.left rest.old)) }
 {
@@ -77,7 +76,7 @@ fn pair<N: Node>(value: &N) -> Result<(u8, u8), Fault>
     Ok((a as u8, b as u8))
 }
 
-/// Reads the pairs of a list.
+/// Reads the pairs in an array.
 fn pairs<N: Node>(alloc: Global, rest: &mut N::Rest) -> Result<Vec<(u8, u8)>, Fault>
     ensures { Gives (λ v. v.items) result (pairs_of (N.left rest.old)) }
 {
@@ -170,7 +169,7 @@ fn fields<N: Node>(alloc: Global, name: RuleName, value: &N) -> Result<Form<N>, 
     }
 }
 
-/// Reads a node's own level.
+/// Reads one level of a node.
 #[tactic(auto, unfolding(crate::specs::Reading::form_of))]
 fn form_at<N: Node>(alloc: Global, value: &N) -> Result<Form<N>, Fault>
     ensures { Gives (form_data N.means) result (form_of (N.means value.now)) }
@@ -281,12 +280,13 @@ pub fn read_certificate_at<N: Node>(alloc: Global, node: &N) -> Result<Certifica
     }
 }
 
-/// Returns the certificate that a value spells.
+/// Returns the certificate of a value.
 ///
 /// # Errors
-/// The first fault, outer ones before inner ones and branches in order: at each rule `Malformed` for another shape or a
-/// number out of its range, then `OverLimit` for a list of more than 255 entries or a level below the 40th; and
-/// `OverLimit` for more than 100,000 rules when the whole has been read.
+/// The first fault, outer ones before inner ones and branches in order:
+/// - `Malformed` if a rule has another shape, or a number is out of its range;
+/// - `OverLimit` for a list of more than 255 entries, or a 41st level;
+/// - `OverLimit` for more than 100,000 rules, which are counted last.
 pub fn read_certificate(alloc: Global, value: &Value) -> Result<Certificate<Global>, Fault>
     ensures { Gives certificate_rule result (certificate_in (view value.now)) }
 {

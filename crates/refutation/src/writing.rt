@@ -1,4 +1,4 @@
-//! From certificates to JSON.
+//! Writes certificates as JSON.
 
 ghost use Rattle.std.specs.Prelude.{◌≡◌, ◌≤◌, All, IfOk, OnOk, Ok, codes, map};
 ghost use Rattle.volume_model.specs.Answer.{Gives};
@@ -27,7 +27,7 @@ fn side_name(side: Side) -> &'static str
     }
 }
 
-/// Returns the member that names a rule.
+/// Returns an object with the name of a rule.
 fn named(alloc: Global, name: &str) -> Result<Map<String, Value>, AllocError>
     ensures { IfOk result (λ m. members_view m.entries ≡ with_member (codes "rule") (string name.now) no_members) }
 {
@@ -35,7 +35,7 @@ fn named(alloc: Global, name: &str) -> Result<Map<String, Value>, AllocError>
     with(alloc, Map::new(alloc), "rule", name)
 }
 
-/// Returns the members that rules about an item of one side have in common.
+/// Returns the keys and values that all rules about an item of one side have.
 fn at_side(
     alloc: Global,
     name: &str,
@@ -53,7 +53,7 @@ fn at_side(
     with(alloc, map, "item", Value::from(u64::from(item)))
 }
 
-/// Returns the members that rules about an item of each side have in common.
+/// Returns the keys and values that all rules about an item of each side have.
 fn at_both(
     alloc: Global,
     name: &str,
@@ -226,7 +226,7 @@ fn branches_json<A: Allocator>(
     Ok(list)
 }
 
-/// Returns the JSON of a certificate, which is read back as that certificate. It nests at most 81 deep. Fails only if
+/// Returns the JSON of a certificate, from which the same certificate is read. It nests at most 81 deep. Fails only if
 /// memory runs out.
 pub fn write_certificate<A: Allocator>(
     alloc: Global,

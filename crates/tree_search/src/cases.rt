@@ -1,4 +1,4 @@
-//! The search by cases: each member that matters on both sides is absent from the one or from the other.
+//! The search by cases: each member that both sides name is absent from one or the other.
 
 use crate::leaves::dead_on;
 use crate::spending::Search;
@@ -7,8 +7,8 @@ use quorum_expr::MEMBERS;
 use refutation::{Refutation, Side};
 use std::alloc::{AllocError, Allocator};
 
-/// Refutes a state by splitting on these members, in a tree of at most `levels` levels. Only the side that lost a member
-/// last is searched for an item that can't hold.
+/// Refutes a state by splitting on these members, in a tree of at most `levels` levels. Looks for an item that can't be
+/// satisfied only on the side `lost`, from which a member was removed last.
 pub fn split<A: Allocator, B: Allocator + Clone>(
     search: &mut Search<B>,
     state: &State<'_, A>,

@@ -1,4 +1,4 @@
-//! The tree of a pair of subexpressions that closes.
+//! Builds the tree of a pair of subexpressions that closes.
 
 use crate::closing::{Closing, Way, equal_members};
 use crate::equals::equal_match;
@@ -7,7 +7,7 @@ use crate::spending::Search;
 use refutation::{Refutation, Side};
 use std::alloc::{AllocError, Allocator};
 
-/// Refutes the state whose only items are these, in a tree of at most that many levels.
+/// Refutes the state whose only items are these two, in a tree of at most `levels` levels.
 #[cycle(closed)]
 pub fn closed<B: Allocator + Clone, C: Allocator>(
     search: &mut Search<B>,
@@ -28,7 +28,7 @@ pub fn closed<B: Allocator + Clone, C: Allocator>(
     }
 }
 
-/// Returns both sides with one of them replaced by a child.
+/// Returns the pair with one of its sides replaced by a child.
 fn pair<'p>(side: Side, both: (&'p Part, &'p Part), child: &'p Part) -> (&'p Part, &'p Part) {
     match side {
         Side::Left => (child, both.1),
@@ -36,7 +36,7 @@ fn pair<'p>(side: Side, both: (&'p Part, &'p Part), child: &'p Part) -> (&'p Par
     }
 }
 
-/// Returns a bit for each of a side's first children that close with the other side and together reach a weight.
+/// Returns a bit for each of the first children that close with the other side, until their weight is enough.
 fn chosen<C: Allocator>(
     closing: &Closing<C>,
     side: Side,
@@ -61,7 +61,7 @@ fn chosen<C: Allocator>(
     chosen
 }
 
-/// Returns the pick of children of a side's only item that close with the other side's, of enough weight.
+/// Returns the pick of a side's only item: of children that close with the other side, until their weight is enough.
 #[cycle(closed)]
 fn picked<B: Allocator + Clone, C: Allocator>(
     search: &mut Search<B>,
@@ -100,7 +100,7 @@ fn picked<B: Allocator + Clone, C: Allocator>(
     }))
 }
 
-/// Returns the match of closing pairs of children of the only items.
+/// Returns the match of the only items: of closing pairs of their children.
 #[cycle(closed)]
 fn matched<B: Allocator + Clone, C: Allocator>(
     search: &mut Search<B>,

@@ -1,6 +1,6 @@
-//! The pairs of subexpressions of the two sides that close, that is, of which no two disjoint sets satisfy one each:
-//! one can't hold, both are the same member, two choices have enough closing pairs of children, or one choice has enough
-//! children that close with the other.
+//! Finds the pairs of a left and a right subexpression that *close*: no two disjoint sets satisfy them. A pair closes
+//! if one of the two can't be satisfied, if both are the same member, if enough pairs of children close, or if enough
+//! children of one close with the other.
 
 use crate::grid::Grid;
 use crate::matching::{Mates, steps_of};
@@ -10,10 +10,10 @@ use crate::spending::Search;
 use refutation::Side;
 use std::alloc::{AllocError, Allocator};
 
-/// The steps that deciding a pair takes if one is a member or both are thresholds over members alone.
+/// The steps of deciding a pair if one of the two is a member or both have only members as children.
 const FLAT_STEPS: u64 = 4;
 
-/// How a pair is closed.
+/// The rule that refutes a closing pair.
 #[derive(Clone, Copy)]
 pub enum Way {
     Dead(Side),
@@ -22,8 +22,8 @@ pub enum Way {
     Pick(Side),
 }
 
-/// The subexpressions of both sides, and for each left choice a bit for each right one that closes with it. Whether a
-/// member closes with another subexpression follows from the members that the other one requires.
+/// The subexpressions of both sides, and for each left choice a bit for each right choice that closes with it. Pairs
+/// with a member need no bit: the members that the other subexpression requires decide them.
 #[derive(Drop)]
 pub struct Closing<B: Allocator> {
     lefts: Parts<B>,
@@ -31,23 +31,23 @@ pub struct Closing<B: Allocator> {
     grid: Grid<B>,
 }
 
-/// Returns the least weight of the pairs of a match of two choices.
+/// Returns the least total weight of the pairs in a match of two choices.
 pub fn wanted(of: &Choice, others: &Choice) -> usize {
     (of.needed().saturating_add(others.needed())).saturating_sub(1)
 }
 
-/// Returns how many members there are.
+/// Returns the number of members.
 fn count(members: u64) -> usize {
     members.count_ones() as usize
 }
 
-/// Returns the number of children of a choice over members that can't hold.
+/// Returns the number of children that can't be satisfied, of a choice over members only.
 fn dead(choice: &Choice, part: &Part) -> usize {
     choice.len().saturating_sub(count(part.members))
 }
 
-/// Returns how many pairs of equal members a match of two choices takes, where both are over members that may all be
-/// there and enough of these are equal.
+/// Returns the number of pairs in a match of two choices over distinct members, if no child's member is absent and
+/// enough of the members are equal.
 pub fn equal_members(one: &Part, of: &Choice, other: &Part, others: &Choice) -> Option<usize> {
     let are_there = dead(of, one) == 0 && dead(others, other) == 0;
     let wanted = wanted(of, others);
@@ -75,8 +75,8 @@ impl<B: Allocator> Closing<B> {
         self.rights.at(at)
     }
 
-    /// Decides all pairs of choices, children before parents, within the budget. `None` if the budget doesn't allow for
-    /// the table.
+    /// Decides all pairs of choices, children before parents, as far as the budget goes. Returns `None` if the budget
+    /// is too small for the table.
     pub fn new(
         search: &mut Search<B>,
         lefts: Parts<B>,
@@ -101,7 +101,7 @@ impl<B: Allocator> Closing<B> {
         Ok(Some(closing))
     }
 
-    /// Returns the members that matter on both sides, in the order of splitting.
+    /// Returns the members that both sides name, in the order of splitting.
     pub fn members(&self, arena: &B) -> Result<Vec<u8, B>, AllocError>
     where
         B: Clone,
@@ -109,12 +109,13 @@ impl<B: Allocator> Closing<B> {
         ordered(arena, self.lefts.all.as_slice(), self.rights.all.as_slice())
     }
 
-    /// Returns how many subexpressions there are on both sides.
+    /// Returns the number of subexpressions on both sides.
     pub fn size(&self) -> usize {
         self.lefts.len().saturating_add(self.rights.len())
     }
 
-    /// Decides the pairs of a left choice, except that of the two whole expressions, which are no children.
+    /// Decides the pairs of a left choice. The pair of the two whole expressions isn't needed, since they aren't
+    /// children.
     fn close_row(&mut self, search: &mut Search<B>, row: usize) {
         for column in (0..self.rights.choices.len()).rev() {
             if (row, column) != (0, 0) && self.choices_close(search, row, column) {
@@ -123,7 +124,7 @@ impl<B: Allocator> Closing<B> {
         }
     }
 
-    /// Returns whether a pair of choices closes, by the pairs of children and within the budget.
+    /// Returns whether a pair of choices closes, if its children's pairs are decided and the budget is enough.
     fn choices_close(&self, search: &mut Search<B>, row: usize, column: usize) -> bool {
         match (self.lefts.choice(row), self.rights.choice(column)) {
             (Some(one), Some(other)) => {
@@ -159,7 +160,7 @@ impl<B: Allocator> Closing<B> {
         }
     }
 
-    /// Returns how a pair closes, by the pairs of children.
+    /// Returns the rule that closes a pair, given which pairs of children close.
     pub fn way(&self, one: &Part, other: &Part) -> Option<Way> {
         if !one.is_live {
             return Some(Way::Dead(Side::Left));
@@ -178,7 +179,7 @@ impl<B: Allocator> Closing<B> {
         }
     }
 
-    /// Returns how a pair of choices closes.
+    /// Returns the rule that closes a pair of choices.
     fn two_choices(&self, one: &Part, of: &Choice, other: &Part, others: &Choice) -> Option<Way> {
         if self.match_closes(one, of, other, others) {
             return Some(Way::Match);
@@ -234,8 +235,8 @@ impl<B: Allocator> Closing<B> {
         weight
     }
 
-    /// Returns whether the closing pairs of children have the weight that a match of two choices takes. Of members, these
-    /// are the equal ones and those that can't hold.
+    /// Returns whether the closing pairs of children weigh enough for a match of two choices. If all children are
+    /// members, the closing pairs are those of equal members and those with a member that is absent.
     fn match_closes(&self, one: &Part, of: &Choice, other: &Part, others: &Choice) -> bool {
         if of.is_flat && others.is_flat {
             let pairs = count(one.members & other.members)
@@ -248,7 +249,7 @@ impl<B: Allocator> Closing<B> {
         }
     }
 
-    /// Returns a bit for each of some right subexpressions that closes with a left one.
+    /// Returns a bit for each right subexpression that closes with a left one.
     fn edge(&self, one: &Part, others: &[Part]) -> u64 {
         let mut edge = 0u64;
         let mut bit = 1u64;
@@ -261,7 +262,7 @@ impl<B: Allocator> Closing<B> {
         edge
     }
 
-    /// Returns closing pairs of children of the weight that a match of two choices takes.
+    /// Returns closing pairs of children that weigh enough for a match of two choices.
     pub fn mates(&self, of: &Choice, others: &Choice) -> Option<Mates> {
         let wanted = wanted(of, others);
         if wanted > usize::from(of.total.min(others.total)) {

@@ -5,14 +5,14 @@ use crate::parts::Part;
 use refutation::Refutation;
 use std::alloc::{AllocError, Allocator};
 
-/// The first child of each of some members: a bit for each member, and at its place the number of the child.
+/// A set of members as bits, and for each of them the number of the first child that is this member.
 #[derive(Drop)]
 struct Chosen {
     members: u64,
     numbers: [u8; 64],
 }
 
-/// Returns the first `count` children that are one of these members each.
+/// Returns the first `count` children that are one of these members.
 fn first_of(of: &[Part], members: u64, count: usize) -> Chosen {
     let mut chosen = Chosen {
         members: 0,
@@ -33,8 +33,8 @@ fn first_of(of: &[Part], members: u64, count: usize) -> Chosen {
     chosen
 }
 
-/// Returns the match of this many pairs of equal members among these. The children of the only items are distinct
-/// members.
+/// Returns the match of `count` pairs of children that are the same one of these members. The state's only items are
+/// the two choices, whose children are distinct members.
 pub fn equal_match<B: Allocator + Clone>(
     arena: &B,
     of: &[Part],

@@ -1,4 +1,4 @@
-//! The search for the first tree that refutes a claim.
+//! Searches for a tree that refutes a claim.
 
 use crate::cases::split;
 use crate::closed::closed;
@@ -16,19 +16,19 @@ use std::alloc::{AllocError, Allocator, Global};
 /// The steps that a search may take for each node of its budget.
 const NODE_STEPS: u64 = 2_000;
 
-/// How often the rules over items visit each subexpression of a state: with and without each member, on either side.
+/// How often the rules over items visit each subexpression of a state: with and without each member, on both sides.
 const ITEM_LOOKS: u64 = 128;
 
-/// A tree that was found, and the memory that holds it.
+/// A tree that was found, and where it is stored.
 #[derive(Drop)]
 pub enum Tree<B: Allocator> {
-    /// In memory of its own.
+    /// The tree has its own memory.
     Kept(Refutation<Global>),
-    /// In the arena of the search.
+    /// The tree is in the arena of the search.
     InArena(Refutation<B>),
 }
 
-/// Returns the closing pairs of subexpressions of a claim, by at most half of the steps.
+/// Finds the closing pairs of subexpressions of a claim, with at most half of the steps.
 fn closing_of<A: Allocator, B: Allocator + Clone>(
     search: &mut Search<B>,
     claim: &Claim<A>,
@@ -46,7 +46,7 @@ fn closing_of<A: Allocator, B: Allocator + Clone>(
     Ok(closing)
 }
 
-/// Refutes a claim whose two expressions close as a pair.
+/// Refutes a claim whose two whole expressions close.
 fn whole<B: Allocator>(
     search: &mut Search<Global>,
     closing: &Closing<B>,
@@ -57,8 +57,8 @@ fn whole<B: Allocator>(
     }
 }
 
-/// Refutes a claim whose pair of expressions doesn't close: by the rules over items, within half of the nodes and
-/// steps, then by cases of members, within the rest.
+/// Refutes a claim whose two whole expressions don't close: by the rules over items, with half of the nodes and steps,
+/// then by cases of members, with the rest.
 fn searched<A: Allocator, B: Allocator + Clone>(
     search: &mut Search<B>,
     claim: &Claim<A>,
@@ -88,9 +88,9 @@ fn searched<A: Allocator, B: Allocator + Clone>(
     split(search, &state, Side::Left, members.as_slice(), MAX_DEPTH)
 }
 
-/// Returns a tree that should refute a claim, or `None` if the search gave up: by closing pairs of subexpressions, then
-/// by the rules over items, then by cases of members. The budget bounds the nodes that are tried, and by them the steps
-/// and so time and memory. Tables and items lie in the arena, as does a tree that isn't read off the pairs.
+/// Returns a tree that should refute a claim, or `None` if the search gives up. Tries closing pairs of subexpressions,
+/// then the rules over items, then cases of members. The budget bounds the nodes that are tried, and so the steps, the
+/// time and the memory. The arena holds tables and items, and the tree unless it comes from the closing pairs.
 ///
 /// # Errors
 /// [`AllocError`] if memory runs out.

@@ -1,29 +1,29 @@
-//! Rows of bits.
+//! A table of bits.
 
 use std::alloc::{AllocError, Allocator};
 
-/// Rows of bits, of which none is set at first.
+/// A table of bits, all of them 0 at first.
 #[derive(Drop)]
 pub struct Grid<B: Allocator> {
-    /// How many words a row has.
+    /// The number of words in a row.
     words: usize,
     bits: Vec<u64, B>,
 }
 
 impl<B: Allocator> Grid<B> {
-    /// Returns how many words this many rows of this many columns take.
+    /// Returns the number of words in a table of this size.
     pub fn words(rows: usize, columns: usize) -> usize {
         rows.saturating_mul(columns / 64 + 1)
     }
 
-    /// Returns so many rows of this many columns.
+    /// Returns a table of this size.
     pub fn new(arena: B, rows: usize, columns: usize) -> Result<Grid<B>, AllocError> {
         let bits = vec![in arena; 0u64; Grid::<B>::words(rows, columns)]?;
         let words = columns / 64 + 1;
         Ok(Grid { words, bits })
     }
 
-    /// Returns the place of the word with a bit.
+    /// Returns the index of the word with a bit.
     fn place(&self, row: usize, column: usize) -> usize {
         row.saturating_mul(self.words).saturating_add(column / 64)
     }

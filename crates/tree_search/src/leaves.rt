@@ -1,4 +1,4 @@
-//! The leaves of a search: a state that is refuted at once, and one whose sides two disjoint sets satisfy.
+//! The leaves of a search: states that a rule without branches refutes, and states that two disjoint sets satisfy.
 
 use crate::members::common;
 use crate::state::State;
@@ -6,7 +6,7 @@ use quorum_expr::{Expr, MEMBERS};
 use refutation::{Refutation, Side};
 use std::alloc::Allocator;
 
-/// Refutes a state by an item of a side that can't hold.
+/// Refutes a state by an item of one side that can't be satisfied.
 pub fn dead_on<A: Allocator, B: Allocator>(
     state: &State<'_, A>,
     side: Side,
@@ -16,7 +16,7 @@ pub fn dead_on<A: Allocator, B: Allocator>(
     Some(Refutation::Dead { side, item })
 }
 
-/// Refutes a state by an item that can't hold.
+/// Refutes a state by an item that can't be satisfied.
 fn dead<A: Allocator, B: Allocator>(state: &State<'_, A>) -> Option<Refutation<B>> {
     match dead_on(state, Side::Left) {
         Some(tree) => Some(tree),
@@ -39,7 +39,7 @@ fn clash<A: Allocator, B: Allocator>(state: &State<'_, A>) -> Option<Refutation<
     None
 }
 
-/// Refutes a state without branches.
+/// Refutes a state by a rule without branches.
 pub fn leaf<A: Allocator, B: Allocator>(state: &State<'_, A>) -> Option<Refutation<B>> {
     match dead(state) {
         Some(tree) => Some(tree),
@@ -47,8 +47,8 @@ pub fn leaf<A: Allocator, B: Allocator>(state: &State<'_, A>) -> Option<Refutati
     }
 }
 
-/// Returns whether two disjoint sets satisfy all items of both sides, where each common member goes to the right side if
-/// the left one holds without it, and else to the left.
+/// Returns whether two disjoint sets satisfy all items of both sides if the left side gives up each common member that
+/// it doesn't need.
 fn leaves_enough<A: Allocator>(state: &State<'_, A>) -> bool {
     let mut left = state.left.absent.complement();
     let mut right = state.right.absent.complement();
@@ -66,7 +66,7 @@ fn leaves_enough<A: Allocator>(state: &State<'_, A>) -> bool {
     state.right.hold(right)
 }
 
-/// Returns whether two disjoint sets that satisfy all items of both sides are found. Each item can hold.
+/// Returns whether two disjoint sets that satisfy both sides are found quickly. No item may be unsatisfiable.
 pub fn has_counterexample<A: Allocator>(state: &State<'_, A>) -> bool {
     leaves_enough(state) || leaves_enough(&state.turned())
 }

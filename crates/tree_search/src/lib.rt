@@ -1,5 +1,6 @@
-//! The search for a tree that refutes a claim: by closing pairs of subexpressions, by the rules over items, and by cases
-//! of members. What it finds isn't trusted: each call is safe and ends, and the caller has the tree checked.
+//! Searches for a tree that refutes a claim: by closing pairs of subexpressions, by the rules over items, and by cases
+//! of members. The result isn't trusted: it is proved that each call is safe and ends, and the caller has the tree
+//! checked.
 #![tactic(auto)]
 
 mod cases;

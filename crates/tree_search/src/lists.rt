@@ -2,7 +2,7 @@
 
 use std::alloc::{AllocError, Allocator};
 
-/// Appends one more.
+/// Appends an element.
 pub fn append<T: Drop, B: Allocator>(list: &mut Vec<T, B>, value: T) -> Result<(), AllocError> {
     list.reserve(1)?;
     list.push_reserved(value);

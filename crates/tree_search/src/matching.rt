@@ -3,8 +3,8 @@
 /// No left child.
 const NOBODY: u8 = u8::MAX;
 
-/// Returns a bound on the steps of a matching of this many children: one for each pair, and if weights other than 1
-/// occur, that many for each child of the longer side.
+/// Returns a bound on the steps of a matching: one for each pair of children; if there are weights other than 1, that
+/// many for each child of the longer side.
 pub fn steps_of(lefts: usize, rights: usize, is_of_ones: bool) -> u64 {
     let pairs = (lefts as u64).saturating_mul(rights as u64);
     if is_of_ones {
@@ -14,13 +14,13 @@ pub fn steps_of(lefts: usize, rights: usize, is_of_ones: bool) -> u64 {
     }
 }
 
-/// A matching: for each right child its left child.
+/// A matching: the left child of each right child.
 #[derive(Drop)]
 pub struct Mates {
     mates: [u8; 64],
 }
 
-/// Finds a mate for a left child among the right children that weren't tried yet, and moves their mates if need be.
+/// Finds a mate for a left child among the right children that weren't tried yet. Moves the mates of others if needed.
 fn augment(edges: &[u64], left: u8, tried: &mut u64, mates: &mut [u8; 64], depth: u8) -> bool {
     if depth == 0 {
         return false;
@@ -47,7 +47,7 @@ fn augment(edges: &[u64], left: u8, tried: &mut u64, mates: &mut [u8; 64], depth
 /// No right child: the column from which a search for a mate starts.
 const START: usize = 64;
 
-/// A matching of greatest weight under construction (the Hungarian method): for each right child its left child, and
+/// A matching of greatest weight under construction (the Hungarian method): the left child of each right child, and
 /// prices under which the pairs of the matching are the cheapest. A pair's cost is the negative of its weight.
 #[derive(Drop)]
 struct Heaviest<'e> {
@@ -61,7 +61,7 @@ struct Heaviest<'e> {
     right_prices: [i32; 65],
 }
 
-/// Returns the number at a place, and 0 beyond the list.
+/// Returns the number at a place, 0 beyond the list.
 fn at(list: &[i32; 65], place: usize) -> i32 {
     list.get(place).copied().unwrap_or(0)
 }
@@ -73,8 +73,8 @@ fn add(list: &mut [i32; 65], place: usize, number: i32) {
     }
 }
 
-/// The state of a search for an augmenting path: the columns that were visited, and for each other column the least
-/// extra cost of a path to it, and the column before it.
+/// A search for an augmenting path: the columns that were visited, and for each other column the least extra cost of a
+/// path to it, and the column before it on that path.
 #[derive(Drop)]
 struct PathSearch {
     seen: u64,
@@ -125,7 +125,7 @@ impl<'e> Heaviest<'e> {
         self.mates.get(column).copied().unwrap_or(NOBODY)
     }
 
-    /// Lowers the cost of each unvisited column to that of a path through a column.
+    /// Lowers the cost of each unvisited column to that of the path through this column, if that is cheaper.
     fn relax(&self, search: &mut PathSearch, column: usize) {
         let left = self.mate(column);
         for right in 0..self.columns.min(64) {
@@ -224,8 +224,8 @@ fn columns_of(edges: &[u64]) -> usize {
 }
 
 impl Mates {
-    /// Returns a matching of closing pairs of at least a weight, if there is one. A pair's weight is the smaller of its
-    /// two weights; `edges` has for each left child a bit for each right child that closes with it.
+    /// Returns a matching of closing pairs that weighs at least `wanted`, if there is one. A pair's weight is the
+    /// smaller of its children's; `edges` has for each left child a bit for each right child that closes with it.
     pub fn heaviest(
         edges: &[u64],
         lefts: &[u8; 64],
@@ -260,7 +260,7 @@ impl Mates {
         (weight >= wanted).then_some(Mates { mates })
     }
 
-    /// Returns a matching of this many closing pairs, if there is one. `edges` has for each left child a bit for each
+    /// Returns a matching of `wanted` closing pairs, if there is one. `edges` has for each left child a bit for each
     /// right child that closes with it.
     pub fn find(edges: &[u64], wanted: usize) -> Option<Mates> {
         let mut mates = [NOBODY; 64];
@@ -280,12 +280,12 @@ impl Mates {
         Some(Mates { mates })
     }
 
-    /// Returns how many pairs there are.
+    /// Returns the number of pairs.
     pub fn len(&self) -> usize {
         self.mates.iter().filter(|mate| **mate != NOBODY).count()
     }
 
-    /// Returns the left child that a right one is matched with.
+    /// Returns the left child that is matched with a right one.
     pub fn of(&self, right: u8) -> Option<u8> {
         match self.mates.get(usize::from(right)) {
             Some(left) if *left != NOBODY => Some(*left),
@@ -293,7 +293,7 @@ impl Mates {
         }
     }
 
-    /// Returns whether two children are mates.
+    /// Returns whether two children are matched.
     pub fn are_mates(&self, left: u8, right: u8) -> bool {
         self.of(right) == Some(left)
     }

@@ -24,7 +24,7 @@ fn members_of<A: Allocator>(expr: &Expr<A>) -> MemberSet {
     }
 }
 
-/// Returns the members that an item names and that aren't absent.
+/// Returns the members that the items name and that aren't absent.
 fn members_in<A: Allocator>(row: &Row<'_, A>) -> MemberSet {
     let mut members = MemberSet::empty();
     for item in row.items {
@@ -33,7 +33,7 @@ fn members_in<A: Allocator>(row: &Row<'_, A>) -> MemberSet {
     members.difference(row.absent)
 }
 
-/// Returns the members that matter on both sides.
+/// Returns the members that both sides name and that are absent from neither.
 pub fn common<A: Allocator>(state: &State<'_, A>) -> MemberSet {
     members_in(&state.left).intersection(members_in(&state.right))
 }

@@ -1,8 +1,8 @@
-//! What follows for a choice from its children: whether it can hold, and the members that it requires.
+//! What a choice inherits from its children: whether it can be satisfied, and which members it requires.
 
 use crate::parts::{Choice, Form, Part};
 
-/// What is known of a choice.
+/// The computed properties of a choice.
 #[derive(Clone, Copy)]
 pub struct Known {
     pub is_flat: bool,
@@ -11,7 +11,7 @@ pub struct Known {
     pub needs: u64,
 }
 
-/// Returns whether the children are members of weight 1, of which those that aren't absent are distinct.
+/// Returns whether the children are members of weight 1, and those that aren't absent are distinct.
 fn are_flat(children: &[Part]) -> bool {
     let mut members = 0u64;
     for child in children {
@@ -27,7 +27,7 @@ fn are_flat(children: &[Part]) -> bool {
     true
 }
 
-/// Returns the weight of the children that can hold, but not without these members.
+/// Returns the weight of the children that can be satisfied, but not without these members.
 fn weight_of(children: &[Part], members: u64) -> usize {
     let mut weight = 0usize;
     for child in children {
@@ -38,7 +38,7 @@ fn weight_of(children: &[Part], members: u64) -> usize {
     weight
 }
 
-/// Returns the members of which each is required by children of at least a weight that can hold.
+/// Returns the members that are each required by children of weight `needed` or more that can be satisfied.
 fn needed_by(children: &[Part], needed: usize) -> u64 {
     let mut sure = 0u64;
     let mut some = 0u64;
@@ -64,7 +64,7 @@ fn needed_by(children: &[Part], needed: usize) -> u64 {
     sure
 }
 
-/// Returns what is known of a choice over these children.
+/// Computes the properties of a choice from its children.
 pub fn known_of(choice: Choice, children: &[Part]) -> Known {
     let mut members = 0u64;
     let mut live = 0usize;

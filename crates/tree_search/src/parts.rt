@@ -1,4 +1,4 @@
-//! The subexpressions of an expression, by number.
+//! The subexpressions of an expression, numbered.
 
 use crate::lists::append;
 use crate::needs::known_of;
@@ -7,10 +7,10 @@ use quorum_expr::{Expr, MemberSet};
 use std::alloc::{AllocError, Allocator};
 use std::ops::Range;
 
-/// The most subexpressions that are numbered: as many as a valid expression may have.
+/// The most subexpressions: as many as a valid expression may have.
 const MOST: usize = 4096;
 
-/// The initial room for subexpressions and for choices.
+/// The initial capacity for subexpressions and for choices.
 const ROOM: usize = 64;
 
 const CHOICES: usize = 16;
@@ -18,18 +18,18 @@ const CHOICES: usize = 16;
 /// The steps of listing a subexpression and of finding the members that it requires.
 const PART_STEPS: u64 = 16;
 
-/// A threshold over the subexpressions from a number on.
+/// A threshold whose children have consecutive numbers.
 #[derive(Clone, Copy)]
 pub struct Choice {
-    /// The weight that has to hold.
+    /// The weight that the satisfied children must reach.
     pub k: u16,
     /// The weight of all children.
     pub total: u16,
     pub first: u16,
     pub count: u16,
-    /// Its number among the choices.
+    /// The choice's number among the choices.
     pub number: u16,
-    /// Whether its children are members of weight 1, of which those that aren't absent are distinct.
+    /// Whether the children are members of weight 1, and those that aren't absent are distinct.
     pub is_flat: bool,
 }
 
@@ -44,37 +44,39 @@ pub enum Form {
 #[derive(Clone, Copy)]
 pub struct Part {
     pub form: Form,
-    /// Its weight as a child.
+    /// The subexpression's weight as a child.
     pub weight: u8,
-    /// Whether it holds in the set of all members that aren't absent.
+    /// Whether all members that aren't absent satisfy it.
     pub is_live: bool,
     /// The members that it names and that aren't absent, a bit for each.
     pub members: u64,
-    /// The members that it requires, a bit for each.
+    /// The members without which it isn't satisfied, a bit for each.
     pub needs: u64,
 }
 
-/// The subexpressions of an expression, itself the first, each before its children, whose numbers follow one another.
+/// The subexpressions of an expression, itself first, parents before children. The children of one choice have
+/// consecutive numbers.
 #[derive(Drop)]
 pub struct Parts<B: Allocator> {
     pub all: Vec<Part, B>,
-    /// The numbers of those that are choices.
+    /// The numbers of the subexpressions that are choices.
     pub choices: Vec<usize, B>,
 }
 
 impl Choice {
-    /// Returns the numbers of its children.
+    /// Returns the numbers of the choice's children.
     pub fn children(&self) -> Range<usize> {
         let first = usize::from(self.first);
         first..first + usize::from(self.count)
     }
 
-    /// Returns how many children there are.
+    /// Returns the number of children.
     pub fn len(&self) -> usize {
         usize::from(self.count)
     }
 
-    /// Returns the least weight of children of which at least one must hold: one more than the choice can spare.
+    /// Returns the least weight that the others can't make up for: of children with this weight at least one must be
+    /// satisfied.
     pub fn needed(&self) -> usize {
         (usize::from(self.total) + 1).saturating_sub(usize::from(self.k))
     }
@@ -94,12 +96,12 @@ pub fn total<A: Allocator>(of: &[(u8, Expr<A>)]) -> usize {
     total
 }
 
-/// Returns a number of up to 16 bits, as all are if an expression has at most 65,536 subexpressions.
+/// Returns a number as 16 bits. An expression has at most 65,536 subexpressions.
 fn short(number: usize) -> u16 {
     u16::try_from(number).unwrap_or(u16::MAX)
 }
 
-/// Returns the part of a member, which can hold if it isn't absent.
+/// Returns the part of a member. It is live if the member isn't absent.
 fn member_part(member: u8, weight: u8, absent: MemberSet) -> Part {
     let bit = 1u64.checked_shl(u32::from(member)).unwrap_or(0);
     let is_live = !absent.contains(member);
@@ -112,7 +114,7 @@ fn member_part(member: u8, weight: u8, absent: MemberSet) -> Part {
     }
 }
 
-/// Returns a choice over this many subexpressions from a number on, of which nothing is known yet.
+/// Returns choice `number`, whose children are not yet listed.
 fn choice_part(k: u16, weight: u8, number: usize) -> Part {
     let choice = Choice {
         k,
@@ -135,13 +137,13 @@ fn choice_part(k: u16, weight: u8, number: usize) -> Part {
 #[derive(Drop)]
 struct Listing<'e, A: Allocator, B: Allocator> {
     parts: Parts<B>,
-    /// The children of the choices.
+    /// The child expressions of each choice.
     children: Vec<&'e [(u8, Expr<A>)], B>,
     absent: MemberSet,
 }
 
 impl<'e, A: Allocator, B: Allocator> Listing<'e, A, B> {
-    /// Adds one more part.
+    /// Adds a part.
     fn add(&mut self, weight: u8, expr: &'e Expr<A>) -> Result<(), AllocError> {
         let part = match expr {
             Expr::Member(member) => member_part(*member, weight, self.absent),
@@ -155,7 +157,7 @@ impl<'e, A: Allocator, B: Allocator> Listing<'e, A, B> {
         append(&mut self.parts.all, part)
     }
 
-    /// Adds the children of a choice, which come last.
+    /// Adds the children of a choice at the end.
     fn add_children(&mut self, number: usize) -> Result<(), AllocError> {
         let children = self.children.get(number).copied().unwrap_or(&[]);
         let first = self.parts.all.len();
@@ -186,7 +188,7 @@ impl<B: Allocator> Parts<B> {
         self.all.get(number)
     }
 
-    /// Returns the choice with a number among them.
+    /// Returns choice `number`.
     pub fn choice(&self, number: usize) -> Option<&Part> {
         self.all.get(*self.choices.get(number)?)
     }
@@ -196,12 +198,12 @@ impl<B: Allocator> Parts<B> {
         self.all.get(choice.children()).unwrap_or(&[])
     }
 
-    /// Returns how many there are.
+    /// Returns the number of subexpressions.
     pub fn len(&self) -> usize {
         self.all.len()
     }
 
-    /// Stores what follows for a choice from its children.
+    /// Computes a choice's properties from its children.
     fn know(&mut self, at: usize) {
         let Some(
             Part {
@@ -228,7 +230,7 @@ impl<B: Allocator> Parts<B> {
         }
     }
 
-    /// Stores it for all choices, children before parents.
+    /// Computes the properties of all choices, children before parents.
     fn know_all(&mut self) {
         for number in (0..self.choices.len()).rev() {
             let at = self.choices.get(number).copied().unwrap_or(0);
@@ -237,8 +239,8 @@ impl<B: Allocator> Parts<B> {
     }
 }
 
-/// Returns the subexpressions of an expression, these members absent. `None` if they are too many, or more than the
-/// budget allows for.
+/// Returns the subexpressions of an expression from which these members are absent. Returns `None` if there are too
+/// many, or the budget is too small.
 pub fn parts_of<A: Allocator, B: Allocator + Clone>(
     search: &mut Search<B>,
     expr: &Expr<A>,

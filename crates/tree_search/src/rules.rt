@@ -1,5 +1,5 @@
-//! The search by the rules over items: items that require all their children first, then those that require one, then
-//! matches, then other picks.
+//! The search by the rules over items. It first opens an item that requires all its children, then picks from one that
+//! requires any, then tries matches, then other picks.
 
 use crate::leaves::{has_counterexample, leaf};
 use crate::matching::{Mates, steps_of};
@@ -10,7 +10,7 @@ use quorum_expr::Expr;
 use refutation::{Refutation, Side};
 use std::alloc::{AllocError, Allocator};
 
-/// A pair of children that closes.
+/// A pair of children that closes, with its tree.
 #[derive(Drop)]
 struct Closed<B: Allocator> {
     left: u8,
@@ -33,7 +33,7 @@ fn first_all<A: Allocator>(row: &Row<'_, A>) -> Option<usize> {
     })
 }
 
-/// Returns the first item that requires one of its children.
+/// Returns the first item that requires only one of its children.
 fn first_any<A: Allocator>(row: &Row<'_, A>) -> Option<usize> {
     row.items.iter().position(|item| match *item {
         Expr::Member(_) => false,
@@ -50,7 +50,7 @@ fn weights<A: Allocator>(of: &[(u8, Expr<A>)]) -> [u8; 64] {
     weights
 }
 
-/// Returns whether a search for what closes a pair of children is worthwhile.
+/// Returns whether it is worth while to search for a tree that closes a pair of children.
 fn may_close<A: Allocator>(state: &State<'_, A>, left: &Expr<A>, right: &Expr<A>) -> bool {
     match (left, right) {
         (Expr::Member(one), Expr::Member(other)) => {
@@ -60,7 +60,7 @@ fn may_close<A: Allocator>(state: &State<'_, A>, left: &Expr<A>, right: &Expr<A>
     }
 }
 
-/// Refutes a state by its items, in a tree of at most that many levels.
+/// Refutes a state by its items, in a tree of at most `levels` levels.
 #[cycle(rules)]
 pub fn refute<A: Allocator, B: Allocator + Clone>(
     search: &mut Search<B>,
@@ -119,8 +119,7 @@ fn open<A: Allocator, B: Allocator + Clone>(
     Ok(Some(Refutation::Open { side, item, then }))
 }
 
-/// Refutes a state by replacing an item by one of its children, for so many of them that the others' weight is below
-/// the threshold.
+/// Refutes a state by picking children of an item, until the weight of the others is below the threshold.
 #[cycle(rules)]
 fn pick<A: Allocator, B: Allocator + Clone>(
     search: &mut Search<B>,

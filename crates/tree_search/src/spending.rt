@@ -2,25 +2,25 @@
 
 use std::alloc::Allocator;
 
-/// The arena and the budget of a search. What it makes is counted before it is made.
+/// The arena and the budget of a search. Nodes and steps are counted before they are made.
 #[derive(Drop)]
 pub struct Search<B: Allocator> {
     pub arena: B,
-    /// The nodes that it may still try.
+    /// The nodes that the search may still try.
     pub nodes: u64,
-    /// The steps that it may still take. A step is a visit of a subexpression or of a pair of them.
+    /// The steps that the search may still take. A step is a visit of a subexpression or of a pair of them.
     pub steps: u64,
-    /// The steps of a state.
+    /// The steps that each state takes.
     pub state_steps: u64,
 }
 
 impl<B: Allocator> Search<B> {
-    /// Counts steps, if the budget allows for them.
+    /// Counts steps. Returns whether the budget allows for them.
     pub fn step(&mut self, steps: u64) -> bool {
         self.spend(0, steps)
     }
 
-    /// Counts nodes and steps, if the budget allows for them.
+    /// Counts nodes and steps. Returns whether the budget allows for them.
     pub fn spend(&mut self, nodes: u64, steps: u64) -> bool {
         match (self.nodes.checked_sub(nodes), self.steps.checked_sub(steps)) {
             (Some(nodes), Some(steps)) => {
@@ -32,13 +32,13 @@ impl<B: Allocator> Search<B> {
         }
     }
 
-    /// Counts a state.
+    /// Counts a state. Returns whether the budget allows for it.
     pub fn spend_state(&mut self) -> bool {
         self.spend(1, self.state_steps)
     }
 
-    /// Returns whether the budget allows for a state whose tree may have this many levels. Called before a row is copied
-    /// for it.
+    /// Returns whether the budget allows for a state whose tree may have `levels` levels. Called before items are
+    /// copied for the state.
     pub fn may_try(&self, levels: u8) -> bool {
         levels > 0 && self.nodes > 0 && self.state_steps <= self.steps
     }

@@ -6,17 +6,17 @@ use quorum_expr::{Expr, MEMBERS, MemberSet, holds};
 use refutation::Side;
 use std::alloc::{AllocError, Allocator};
 
-/// Items at the end of a side's list.
+/// The last items of a side.
 #[derive(Drop)]
 pub struct Row<'a, A: Allocator> {
-    /// The number of items before them, which the search doesn't change.
+    /// The number of items before these; the search doesn't change them.
     pub before: usize,
     pub items: &'a [&'a Expr<A>],
     /// The members that are absent from the side.
     pub absent: MemberSet,
 }
 
-/// Both sides.
+/// The items of both sides.
 #[derive(Drop)]
 pub struct State<'a, A: Allocator> {
     pub left: Row<'a, A>,
@@ -24,12 +24,12 @@ pub struct State<'a, A: Allocator> {
 }
 
 impl<'a, A: Allocator> Row<'a, A> {
-    /// Returns the number that an item has on its side.
+    /// Returns the number of an item in the whole list of its side.
     pub fn number(&self, at: usize) -> Option<u16> {
         u16::try_from(self.before.saturating_add(at)).ok()
     }
 
-    /// Returns other items, after as many.
+    /// Returns a row of other items, with `before` items before them.
     pub fn with<'b>(&self, before: usize, items: &'b [&'b Expr<A>]) -> Row<'b, A>
     where
         'a: 'b,
@@ -41,7 +41,7 @@ impl<'a, A: Allocator> Row<'a, A> {
         }
     }
 
-    /// Returns the items with one of them replaced by one child.
+    /// Returns the row after one item was replaced by one child. `items` is that child alone.
     pub fn narrowed<'b>(&self, items: &'b [&'b Expr<A>]) -> Row<'b, A>
     where
         'a: 'b,
@@ -50,7 +50,7 @@ impl<'a, A: Allocator> Row<'a, A> {
         self.with(self.before.saturating_add(others), items)
     }
 
-    /// Returns the same with one more member absent.
+    /// Returns the row with one more member absent.
     fn lacking(&self, member: u8) -> Row<'a, A>
         requires { member < 64 }
     {
@@ -61,7 +61,7 @@ impl<'a, A: Allocator> Row<'a, A> {
         }
     }
 
-    /// Returns the same items.
+    /// Returns a copy of the row.
     fn again(&self) -> Row<'a, A> {
         Row {
             before: self.before,
@@ -70,7 +70,7 @@ impl<'a, A: Allocator> Row<'a, A> {
         }
     }
 
-    /// Returns the items without one of them.
+    /// Returns the items except one.
     fn rest<B: Allocator>(&self, alloc: B, at: usize) -> Result<Vec<&'a Expr<A>, B>, AllocError> {
         let mut rest = Vec::new(alloc);
         for (i, item) in self.items.iter().enumerate() {
@@ -81,7 +81,7 @@ impl<'a, A: Allocator> Row<'a, A> {
         Ok(rest)
     }
 
-    /// Returns the items with one replaced by others at the end.
+    /// Returns the items with one of them replaced: it is removed and the others are added at the end.
     pub fn replaced<B: Allocator>(
         &self,
         alloc: B,
@@ -95,7 +95,7 @@ impl<'a, A: Allocator> Row<'a, A> {
         Ok(list)
     }
 
-    /// Returns the items with one replaced by one of its children at the end.
+    /// Returns the items with one of them replaced by one of its children, at the end.
     pub fn replaced_by_one<B: Allocator>(
         &self,
         alloc: B,
@@ -107,12 +107,12 @@ impl<'a, A: Allocator> Row<'a, A> {
         Ok(list)
     }
 
-    /// Returns whether all items hold in a set of members.
+    /// Returns whether a set of members satisfies all items.
     pub fn hold(&self, members: MemberSet) -> bool {
         self.items.iter().all(|item| holds(*item, members))
     }
 
-    /// Returns the first item that doesn't hold in the set of all members that aren't absent.
+    /// Returns the first item that isn't satisfied by all members that aren't absent.
     pub fn first_dead(&self) -> Option<usize> {
         let present = self.absent.complement();
         self.items.iter().position(|item| !holds(*item, present))
@@ -131,7 +131,7 @@ impl<'a, A: Allocator> Row<'a, A> {
         members
     }
 
-    /// Returns the first item that is this member.
+    /// Returns the place of the first item that is this member.
     pub fn place_of(&self, member: u8) -> Option<usize> {
         self.items.iter().position(|item| match *item {
             Expr::Member(own) => *own == member,
@@ -141,7 +141,7 @@ impl<'a, A: Allocator> Row<'a, A> {
 }
 
 impl<'a, A: Allocator> State<'a, A> {
-    /// Returns the state with these items, and these members absent from the left side and from the right one.
+    /// Returns the state with these items, and with these members absent from the left side and from the right one.
     pub fn new(
         lefts: &'a [&'a Expr<A>],
         rights: &'a [&'a Expr<A>],
@@ -177,7 +177,7 @@ impl<'a, A: Allocator> State<'a, A> {
         }
     }
 
-    /// Returns the same with other items on a side.
+    /// Returns the state with other items on a side.
     pub fn changed<'b>(&self, side: Side, items: &'b [&'b Expr<A>]) -> State<'b, A>
     where
         'a: 'b,
@@ -194,7 +194,7 @@ impl<'a, A: Allocator> State<'a, A> {
         }
     }
 
-    /// Returns the same with one more member absent from a side.
+    /// Returns the state with one more member absent from a side.
     pub fn lacking(&self, side: Side, member: u8) -> State<'a, A>
         requires { member < 64 }
     {

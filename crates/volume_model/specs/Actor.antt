@@ -1,4 +1,4 @@
--- Actors, and what each does on its own, over the messages that it is handed.
+-- Actors, and what each does with its own state and the messages that are passed to it.
 use Rattle.std.specs.Prelude.{◌≡◌, ℕ, Bool, true, false, ◌&&◌, ◌==◌, nat_lt, List, [], Option, Some, None, Result, Ok, Err}
 use Rattle.volume_model.specs.declared.fault.Fault.{Fault}
 use Rattle.volume_model.specs.Lists.{added, numbered, put, put_at, IsBeginningOf}
@@ -19,7 +19,7 @@ pub data Actor : Type 0 where
   Client : (volume : ℕ) → Actor
   Node : (group member : ℕ) → Actor
 
--- whose step an event is
+-- the actor whose step an event is
 abbrev pub actor_of : Event → Actor
 actor_of Assign = Actor.TheAuthority
 actor_of (Advance group configuration) = Actor.TheAuthority
@@ -36,7 +36,7 @@ actor_of (Hydrate group member) = Actor.Node group member
 actor_of (Restart group member) = Actor.Node group member
 actor_of (Offer group member lsn) = Actor.Node group member
 
--- both are one actor
+-- whether both are the same actor
 abbrev pub same_actor : Actor → Actor → Bool
 same_actor Actor.TheAuthority Actor.TheAuthority = true
 same_actor Actor.TheAuthority (Actor.Client b) = false
@@ -48,39 +48,40 @@ same_actor (Actor.Node g a) Actor.TheAuthority = false
 same_actor (Actor.Node g a) (Actor.Client b) = false
 same_actor (Actor.Node g a) (Actor.Node h b) = g == h && a == b
 
--- what an actor is
+-- the type of an actor's state
 abbrev pub State : Actor → Type 0
 State Actor.TheAuthority = Authority
 State (Actor.Client volume) = client.Client
 State (Actor.Node group member) = node.Node
 
--- what an actor is in a world
+-- the state of an actor in a world
 abbrev pub state_in : World → (actor : Actor) → State actor
 state_in w Actor.TheAuthority = w.authority
 state_in w (Actor.Client volume) = w.clients volume
 state_in w (Actor.Node group member) = w.nodes group member
 
--- what a step of an actor leaves: the messages that it makes, and the actor
+-- the result of an actor's step: the messages that it makes, and its new state
 pub record Acted (actor : Actor) : Type 0 where
   pub made : List Message
   pub state : State actor
 
--- the answer of the authority, as that of an actor
+-- the authority's answer, as an actor's
 abbrev pub authority_acted : Result AuthorityStep Fault → Result (Acted Actor.TheAuthority) Fault
 authority_acted (Err fault) = Err fault
 authority_acted (Ok s) = Ok (record { made = s.made; state = s.authority })
 
--- the answer of a client, as that of an actor
+-- a client's answer, as an actor's
 abbrev pub client_acted : (volume : ℕ) → ClientAnswer → Result (Acted (Actor.Client volume)) Fault
 client_acted volume (Err fault) = Err fault
 client_acted volume (Ok s) = Ok (record { made = s.made; state = s.client })
 
--- the answer of a node, as that of an actor
+-- a node's answer, as an actor's
 abbrev pub node_acted : (group member : ℕ) → NodeAnswer → Result (Acted (Actor.Node group member)) Fault
 node_acted group member (Err fault) = Err fault
 node_acted group member (Ok s) = Ok (record { made = s.made; state = s.node })
 
--- what the actor of an event does, where so many groups have joined, and these messages were made, newest first
+-- what the actor of an event does, given the number of groups that have joined and the messages made so far, newest
+-- first
 abbrev pub acted : Plan → ℕ → List Message → (event : Event) → State (actor_of event) → Result (Acted (actor_of event))
     Fault
 acted plan joined messages Assign now = authority_acted (assigned plan now)
@@ -103,30 +104,30 @@ acted plan joined messages (Restart group member) now = node_acted group member 
 acted plan joined messages (Offer group member lsn) now = node_acted group member (if_there plan joined group member
     (offered group now lsn))
 
--- a world in which one actor is this
+-- the world with another state of one actor
 abbrev pub with_state : World → (actor : Actor) → State actor → World
 with_state w Actor.TheAuthority now = record w { authority = now }
 with_state w (Actor.Client volume) now = record w { clients = put w.clients volume now }
 with_state w (Actor.Node group member) now = record w { nodes = put_at w.nodes group member now }
 
--- the step of an actor, in a world: the actor has changed, and the messages that it made are added
+-- the world after an actor's step: its state is replaced and the messages that it made are added
 abbrev pub in_world : World → (actor : Actor) → Result (Acted actor) Fault → Result Step Fault
 in_world w actor (Err fault) = Err fault
 in_world w actor (Ok s) =
     Ok (record { made = s.made; world = record (with_state w actor s.state) { messages = added s.made w.messages } })
 
--- the actor is there, as far as groups have joined, which are the first so many: a node's group has
+-- the actor exists when this many groups have joined: a node exists if its group has joined
 abbrev pub is_joined : ℕ → Actor → Bool
 is_joined joined Actor.TheAuthority = true
 is_joined joined (Actor.Client volume) = true
 is_joined joined (Actor.Node group member) = nat_lt group joined
 
--- the actor of an event is there in both worlds or in neither, as far as groups have joined
+-- the actor of an event exists in both worlds or in neither, by the number of groups that have joined
 abbrev pub JoinedAlike : Event → World → World → Type 0
 JoinedAlike e w v = is_joined (groups_joined w.authority) (actor_of e) ≡ is_joined (groups_joined v.authority)
     (actor_of e)
 
--- both worlds have this actor in one state
+-- both worlds have the actor in the same state
 abbrev pub Agree : Actor → World → World → Type 0
 Agree Actor.TheAuthority w v = w.authority ≡ v.authority
 Agree (Actor.Client c) w v = w.clients c ≡ v.clients c

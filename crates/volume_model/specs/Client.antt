@@ -9,40 +9,40 @@ use Rattle.volume_model.specs.Refusal.{refuse_if}
 use Rattle.volume_model.specs.declared.fault.Fault.{Fault}
 use Rattle.volume_model.specs.declared.fault.Fault.TheVariants.{NoActor}
 
--- how far a client has come
+-- the stage that a client has reached
 pub data Stage : Type 0 where
   Unborn : Stage
   Reading : Stage
   Installing : Stage
   Writing : Stage
 
--- a View has reached it
+-- the client has taken a View
 abbrev pub is_born : Stage → Bool
 is_born Unborn = false
 is_born Reading = true
 is_born Installing = true
 is_born Writing = true
 
--- its lineage and log stand
+-- the client has cut: its lineage and its log found no longer change
 abbrev pub has_cut : Stage → Bool
 has_cut Unborn = false
 has_cut Reading = false
 has_cut Installing = true
 has_cut Writing = true
 
--- it is a writer
+-- the client is a writer
 abbrev pub is_open : Stage → Bool
 is_open Unborn = false
 is_open Reading = false
 is_open Installing = false
 is_open Writing = true
 
--- a counted acknowledgement: its sender, and the greatest complete point that it said
+-- a counted acknowledgement: its sender, and the greatest complete point that the sender has reported
 pub record Count : Type 0 where
   pub sender : ℕ
   pub reached : ℕ
 
--- what a client keeps of a group: where it stands, the reports kept, the acknowledgements counted, the group point, and
+-- what a client keeps for a group: its place, the reports kept, the acknowledgements counted, the group point, and
 -- whether the group has joined the open writer
 pub record ClientGroup : Type 0 where
   pub place : Place
@@ -51,35 +51,36 @@ pub record ClientGroup : Type 0 where
   pub group_point : ℕ
   pub joined : Bool
 
--- a group, as a client comes to it
+-- a group at a place, of which the client has received nothing yet
 abbrev pub newly_at : Place → ClientGroup
 newly_at place = record { place = place; reports = []; counts = []; group_point = 0; joined = false }
 
--- a group that the client doesn't have
+-- the value for a group that the client doesn't have
 abbrev pub no_group : ClientGroup
 no_group = newly_at (record { configuration = 0; epoch = 0 })
 
--- the group of a number
+-- the group with a number
 abbrev pub group_of : List ClientGroup → ℕ → ClientGroup
 group_of groups group = slice_index_or groups group no_group
 
--- where the group of a number stands
+-- the place of the group with a number
 abbrev pub place_of : List ClientGroup → ℕ → Place
 place_of groups group = (group_of groups group).place
 
--- the reports kept of the group of a number
+-- the reports kept for the group with a number
 abbrev pub reports_of : List ClientGroup → ℕ → List From
 reports_of groups group = (group_of groups group).reports
 
--- the acknowledgements counted of the group of a number
+-- the acknowledgements counted for the group with a number
 abbrev pub counts_of : List ClientGroup → ℕ → List Count
 counts_of groups group = (group_of groups group).counts
 
--- the point of the group of a number
+-- the point of the group with a number
 abbrev pub group_point_of : List ClientGroup → ℕ → ℕ
 group_point_of groups group = (group_of groups group).group_point
 
--- a recovery, and the writer that it becomes. The groups stand by number, the log found and the log newest first
+-- a recovery, and the writer that it becomes. The groups are in order of their numbers, the log found and the log
+-- newest first
 pub record Client : Type 0 where
   pub stage : Stage
   pub groups : List ClientGroup
@@ -87,15 +88,15 @@ pub record Client : Type 0 where
   pub found : List Redo
   pub log : List Redo
 
--- where each group stands at first
+-- the place of each group at first
 abbrev pub at_root : Place
 at_root = record { configuration = 0; epoch = 1 }
 
--- a group that is there when the volume is born, as the first writer has it
+-- a group that exists when the volume is born, as the first writer has it
 abbrev pub born_group : ClientGroup
 born_group = record (newly_at at_root) { joined = true }
 
--- the writer of volume epoch 1, with no record, over the groups that are there at birth
+-- the writer of volume epoch 1, with no record, over the groups that exist at birth
 abbrev pub first_writer : Plan → Client
 first_writer plan = record {
   stage = Writing;
@@ -106,15 +107,15 @@ first_writer plan = record {
       = [];
 }
 
--- a client that no View has reached
+-- a client that has taken no View
 abbrev pub unborn : Client
 unborn = record { stage = Unborn; groups = []; lineage = []; found = []; log = [] }
 
--- the configuration at which a group stands
+-- the configuration at a group's place
 abbrev pub place_configuration : Plan → ℕ → Place → Configuration
 place_configuration plan group place = plan.configuration group place.configuration
 
--- what a step of a client leaves
+-- the result of a client's step
 pub record ClientStep : Type 0 where
   pub made : List Message
   pub client : Client
@@ -123,14 +124,14 @@ pub record ClientStep : Type 0 where
 abbrev pub ClientAnswer : Type 0
 ClientAnswer = Result ClientStep Fault
 
--- the label under which a client speaks to a group
+-- the label that a client puts on messages to a group
 abbrev pub label_of : ℕ → (ℕ → Place) → ℕ → Label
 label_of volume places group = record { volume = volume; member = (places group).epoch }
 
--- the client as it is
+-- the step that changes nothing
 abbrev pub stays : Client → ClientStep
 stays client = record { made = []; client = client }
 
--- refused before birth
+-- refused if the client isn't born
 abbrev pub if_born : Client → ClientAnswer → ClientAnswer
 if_born client rest = refuse_if (not (is_born client.stage)) NoActor rest

@@ -12,35 +12,35 @@ use Rattle.volume_model.specs.Client.Stage.{Unborn, Reading, Installing, Writing
 use Rattle.volume_model.specs.ClientPoints.{with_count, raised, groups_now}
 use Rattle.volume_model.specs.ClientRecovery.{fences, installs, born_client, report_taken}
 
--- the one place is of a later epoch than the other
+-- the second place is of a later membership epoch than the first
 abbrev pub is_later : Place → Place → Bool
 is_later old new = nat_lt old.epoch new.epoch
 
--- the groups whose places are of later epochs
+-- whether a group's new place is of a later epoch
 abbrev pub later_in : (ℕ → Place) → (ℕ → Place) → ℕ → Bool
 later_in old new group = is_later (old group) (new group)
 
--- the groups whose places are of later epochs, and that haven't joined
+-- whether a group's new place is of a later epoch and the group hasn't joined
 abbrev pub later_unjoined : List ClientGroup → (ℕ → Place) → ℕ → Bool
 later_unjoined groups new group = later_in (place_of groups) new group && not (group_of groups group).joined
 
--- a group, at a place of a later epoch
+-- the group at its new place, if that is of a later epoch
 abbrev pub later_group : ClientGroup → Place → ClientGroup
 later_group group place = if is_later group.place place then record group { place = place } else group
 
--- the same before the cut: the reports of an earlier epoch no longer count
+-- the same before the cut: the group also drops its reports, which were of an earlier epoch
 abbrev pub reread_group : ClientGroup → Place → ClientGroup
 reread_group group place = if is_later group.place place then record group { place = place; reports = [] } else group
 
--- each group at its place in a View, by what becomes of one. A group that is new to the client counts as one of a later
--- epoch
+-- the groups after a View, each changed by move to its new place. A group that the client didn't have is changed like
+-- one whose place is of a later epoch
 abbrev pub with_places : (ClientGroup → Place → ClientGroup) → List ClientGroup → List Place → List ClientGroup
 with_places move groups [] = groups
 with_places move [] (place ∷ places) = move no_group place ∷ with_places move [] places
 with_places move (group ∷ groups) (place ∷ places) = move group place ∷ with_places move groups places
 
--- A View. Groups of a later membership epoch are fenced before the cut, and installed after it; of an open writer those
--- alone that haven't joined, with no records
+-- A View. Groups of a later membership epoch are sent a Fence before the cut and an Install after it. An open writer
+-- sends an Install without records, and only to those that haven't joined
 abbrev pub viewed : Plan → ℕ → Client → List Place → Stage → ClientStep
 viewed plan volume client places Unborn = born_client volume places
 viewed plan volume client places Reading =
@@ -64,7 +64,7 @@ viewed plan volume client places Writing =
       client = record client { groups = raised plan now };
     }
 
--- an acknowledgement counts from the cut on, of a membership epoch that is at most the client's
+-- an acknowledgement counts after the cut, if its membership epoch is at most the client's
 abbrev pub ack_taken : Plan → Client → ℕ → Label → ℕ → ℕ → Client
 ack_taken plan client group label sender reached =
     let now = group_of client.groups group in
@@ -75,15 +75,15 @@ ack_taken plan client group label sender reached =
     }
     else client
 
--- each group that is there at birth has a place, no other than the plan's groups, and each place is one of a
--- configuration of the plan
+-- each group that exists at birth has a place, there are no more places than the plan has groups, and each place is
+-- that of a configuration of the plan
 abbrev pub are_places : Plan → List Place → Bool
 are_places plan places =
     nat_le plan.born (length places) && (nat_le (length places) plan.groups && every_below (length places)
     (λ group. is_configuration plan group (place_in places group).configuration (place_in places group).epoch))
 
--- The message is for the client of this volume epoch, over so many groups: it is a View of the volume epoch, or a
--- report, an acknowledgement or a page of one of the groups, from a member, and a report's records are those of the
+-- The message is for the client of this volume epoch, which has this many groups. It is a View of the volume epoch, or
+-- a report, an acknowledgement or a page of one of the groups, from a member. A report's records are those of the
 -- group.
 abbrev pub is_for : ℕ → ℕ → Message → Bool
 is_for volume groups (View of places) = of == volume

@@ -1,4 +1,4 @@
--- What a client counts of acknowledgements, and the points that it reaches.
+-- How a client counts acknowledgements, and the points that it computes from them.
 use Rattle.std.specs.Prelude.{ℕ, suc, Bool, ◌&&◌, ◌||◌, ◌==◌, nat_le, if◌then◌else◌, List, [], ◌∷◌, max}
 use Rattle.volume_model.specs.Lists.{any}
 use Rattle.volume_model.specs.Formula.{Formula, Members, sat}
@@ -20,7 +20,7 @@ best write counts (count ∷ rest) =
 abbrev pub counted_by : List Count → Members
 counted_by counts = reaching counts 0
 
--- the greatest of a sender is kept
+-- the counts with one more acknowledgement: the greatest number of each sender is kept
 abbrev pub with_count : ℕ → ℕ → List Count → List Count
 with_count sender reached [] = record { sender = sender; reached = reached } ∷ []
 with_count sender reached (count ∷ rest) =
@@ -28,23 +28,23 @@ with_count sender reached (count ∷ rest) =
     then record { sender = sender; reached = max count.reached reached } ∷ rest
     else count ∷ with_count sender reached rest
 
--- a group, its point raised to what its counts satisfy now. It has joined where they satisfy the write expression now,
--- or did at a moment before
+-- a group with its point raised to what its counts satisfy now. It has joined if its counts satisfy the write
+-- expression now, or if it had joined before
 abbrev pub raised_group : Plan → ℕ → ClientGroup → ClientGroup
 raised_group plan number group =
     let write = (place_configuration plan number group.place).write in
     record group { group_point = max group.group_point (best write group.counts group.counts); joined = group.joined || sat write (counted_by group.counts) }
 
--- the groups from a number on, their points raised
+-- the groups with their points raised; the number is that of the first
 abbrev pub raised_from : Plan → ℕ → List ClientGroup → List ClientGroup
 raised_from plan number [] = []
 raised_from plan number (group ∷ rest) = raised_group plan number group ∷ raised_from plan (suc number) rest
 
--- all groups, their points raised
+-- all groups with their points raised
 abbrev pub raised : Plan → List ClientGroup → List ClientGroup
 raised plan groups = raised_from plan 0 groups
 
--- from its opening on a client's points are raised
+-- the groups of a client at this stage: from its opening on their points are raised
 abbrev pub groups_now : Plan → Stage → List ClientGroup → List ClientGroup
 groups_now plan stage groups = if is_open stage then raised plan groups else groups
 
@@ -60,7 +60,7 @@ abbrev pub consistency_point_below : ℕ → List Redo → ℕ
 consistency_point_below n [] = 0
 consistency_point_below n (r ∷ older) = if r.point && nat_le r.lsn n then r.lsn else consistency_point_below n older
 
--- the number up to which the log is acknowledged in each group
+-- the number up to which each record of the log is covered by its group's point
 abbrev pub complete_point : Client → ℕ
 complete_point client = complete_of (group_point_of client.groups) client.log
 
@@ -72,6 +72,6 @@ durable_point client = consistency_point_below (complete_point client) client.lo
 abbrev pub is_consistency_point : ℕ → List Redo → Bool
 is_consistency_point n log = any (λ r. r.lsn == n && r.point) log
 
--- a commit is complete
+-- the commit n is acknowledged
 abbrev pub acknowledged : Client → ℕ → Bool
 acknowledged client n = is_open client.stage && (is_consistency_point n client.log && nat_le n (durable_point client))

@@ -18,7 +18,7 @@ pub record Change : Type 0 where
   pub offset : ℕ
   pub bytes : List ℕ
 
--- the record of a change, behind this log; the last of a transaction is a consistency point
+-- the record of a change, appended to this log; point says whether it is a consistency point
 abbrev pub record_of : ℕ → ℕ → List Redo → Change → Bool → Redo
 record_of volume start log change point =
     record {
@@ -34,7 +34,7 @@ record_of volume start log change point =
       point = point;
     }
 
--- no further change follows
+-- no change follows
 abbrev pub is_last : List Change → Bool
 is_last [] = true
 is_last (change ∷ more) = false
@@ -52,17 +52,17 @@ issued_writes volume places start (change ∷ more) log =
     let r = record_of volume start log change (is_last more) in
     Write change.group (label_of volume places change.group) r ∷ issued_writes volume places start more (r ∷ log)
 
--- the change is one of a group below the number of groups, of 1 to 64 bytes within a page
+-- the change is to one of the groups, and has 1 to 64 bytes that lie within a page
 abbrev pub is_change : ℕ → Change → Bool
 is_change groups change = nat_lt change.group groups && (nat_le 1 (length change.bytes) &&
     (nat_le (length change.bytes) 64 && nat_le (change.offset + length change.bytes) 512))
 
--- one to 32 changes, each of them a good one
+-- there are 1 to 32 changes, each of them valid
 abbrev pub is_transaction : ℕ → List Change → Bool
 is_transaction groups changes = nat_le 1 (length changes) && (nat_le (length changes) 32 && every (is_change groups)
     changes)
 
--- each group that is changed has joined
+-- each group that the changes name has joined
 abbrev pub have_joined : List ClientGroup → List Change → Bool
 have_joined groups changes = every (λ change. (group_of groups change.group).joined) changes
 
@@ -73,7 +73,7 @@ issue_step volume client changes = record {
   client = record client { log = issued_log volume (last_start client.lineage) changes client.log };
 }
 
--- what a writer does with a transaction
+-- a writer's answer to a transaction
 abbrev pub issued : Plan → ℕ → Client → List Change → ClientAnswer
 issued plan volume client changes =
     let start = last_start client.lineage in
@@ -86,7 +86,7 @@ issued plan volume client changes =
     refuse_if (nat_lt (max (durable_point client) start + plan.lal) last) LimitReached (
     Ok (issue_step volume client changes)))))))
 
--- the Write of a record that was found
+-- the Write of a record that was looked up
 abbrev pub write_of : ℕ → Client → Option Redo → ClientAnswer
 write_of volume client None = Err NoLogRecord
 write_of volume client (Some r) = Ok (record {
@@ -95,7 +95,7 @@ write_of volume client (Some r) = Ok (record {
   client = client;
 })
 
--- what a writer does when it sends a record of its log again
+-- a writer's answer when it is asked to send a record again
 abbrev pub resent : ℕ → Client → ℕ → ClientAnswer
 resent volume client lsn =
     refuse_if (not (is_born client.stage)) NoActor (
@@ -108,7 +108,7 @@ last_of_group_below group n [] = 0
 last_of_group_below group n (r ∷ older) =
     if r.group == group && nat_le r.lsn n then r.lsn else last_of_group_below group n older
 
--- what a writer does when it asks for a page at the durable point
+-- a writer's answer when it is asked to read a page at the durable point
 abbrev pub page_asked : ℕ → Client → ℕ → ℕ → ClientAnswer
 page_asked volume client group block =
     refuse_if (not (is_born client.stage)) NoActor (

@@ -11,16 +11,16 @@ use Rattle.volume_model.specs.ClientRecovery.{reported, live_reported, log_repor
 use Rattle.volume_model.specs.ClientMessages.{taken}
 use Rattle.volume_model.specs.Leading.{VolumeLinksFall}
 
--- a step makes at most so many messages, where it is made
+-- the step makes at most this many messages, if it isn't refused
 abbrev pub Few : ℕ → ClientAnswer → Type 0
 Few most (Err fault) = Unit {0}
 Few most (Ok step) = length step.made ≤ most
 
--- how many pieces a log found makes at most over so many groups: one a group, and one for each 256 records
+-- the greatest number of Install pieces of a log found: one a group, and one for each 256 records
 abbrev pub most_installs : ℕ → List Redo → ℕ
 most_installs groups found = groups + length found / most_in_piece
 
--- how many records all of these hold, each counted as often as it is held
+-- the number of records in all contents; a record counts as often as it is held
 abbrev pub records_in : List Contents → ℕ
 records_in [] = 0
 records_in (contents ∷ rest) = length contents.records + records_in rest
@@ -29,9 +29,8 @@ records_in (contents ∷ rest) = length contents.records + records_in rest
 abbrev pub records_said : Client → ℕ
 records_said client = records_in (reported client)
 
--- a transaction makes at most a message a change, a message that is taken or a cut as many as the pieces of the log
--- found, and a record or a question one. No more records are found than the reports hold, where the number before each
--- in the volume is a smaller one
+-- A transaction makes at most one message for each change, a Take or a Cut at most most_installs, a Resend or a Read
+-- one. The log found has no more records than the reports hold, if each record's prev_volume is less than its LSN
 pub record StepsAreFew : Type 0 where
   pub issue : (plan : Plan) (volume : ℕ) (client : Client) (changes : List Change) → Few (length changes)
       (issued plan volume client changes)

@@ -1,4 +1,4 @@
--- What a recovery unites, in the words of the reports.
+-- What a recovery finds, stated with the reports.
 use Rattle.std.specs.Prelude.{◌≡◌, ◌↔◌, ◌≤◌, true, List}
 use Rattle.volume_model.specs.Lists.{IsIn}
 use Rattle.volume_model.specs.Redo.{Redo}
@@ -11,7 +11,7 @@ pub record IsReportedLive (lineage : Lineage) (reports : List Contents) (r : Red
   pub holds : IsIn r report.records
   pub live : is_live lineage r.volume r.lsn ≡ true
 
--- what was found are exactly the live records of all reports
+-- the records found are exactly the live records of all reports
 abbrev pub FoundIsReported : Type 0
 FoundIsReported = (lineage : Lineage) (reports : List Contents) (r : Redo) → IsIn r (found_in lineage reports) ↔
     IsReportedLive lineage reports r
@@ -23,7 +23,7 @@ pub record IsNewestOf (reports : List Contents) (lineage : Lineage) : Type 0 whe
   pub its_own : lineage ≡ report.lineage
   pub last : (other : Contents) → IsIn other reports → last_epoch other.lineage ≤ last_epoch lineage
 
--- where there is a report the newest lineage is the newest of them
+-- if there is a report, the newest lineage is the newest of them
 abbrev pub NewestIsNewest : Type 0
 NewestIsNewest = (reports : List Contents) (some_report : Contents) → IsIn some_report reports → IsNewestOf reports
     (newest reports)

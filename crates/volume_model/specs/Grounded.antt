@@ -1,21 +1,20 @@
--- A segment's complete point, in the words of its records.
+-- A segment's complete point, stated with its records.
 use Rattle.std.specs.Prelude.{◌≡◌, ℕ, ◌<◌, List}
 use Rattle.volume_model.specs.Lists.{IsIn}
 use Rattle.volume_model.specs.Redo.{Redo, scl}
 use Rattle.volume_model.specs.Greatest.{IsGreatest}
 
--- A record is grounded where none stands before it in its group, or where the one that stands before it is there and
--- grounded.
+-- A record is grounded if it is its group's first, or if the record before it in the group is held and grounded.
 pub data IsGrounded (records : List Redo) : Redo → Type 0 where
   from_none : (r : Redo) → IsIn r records → r.prev_group ≡ 0 → IsGrounded records r
   from_one : (r before : Redo) → IsIn r records → IsGrounded records before → before.lsn ≡ r.prev_group
       → IsGrounded records r
 
--- the number is that of a grounded record
+-- a grounded record has this number
 abbrev pub IsGroundedNumber : List Redo → ℕ → Type 0
 IsGroundedNumber records n = (r : Redo) × IsGrounded records r × (r.lsn ≡ n)
 
--- the number before a record in its group is a smaller one, for each record of the list
+-- each record's prev_group is less than its LSN
 abbrev pub GroupLinksFall : List Redo → Type 0
 GroupLinksFall records = (r : Redo) → IsIn r records → r.prev_group < r.lsn
 

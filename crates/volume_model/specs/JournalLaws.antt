@@ -1,4 +1,4 @@
--- The laws of actors, and of runs that are kept as entries of a journal.
+-- The laws of actors, and of runs as entries of a journal.
 use Rattle.std.specs.Prelude.{◌≡◌, ℕ, ◌+◌, ◌≤◌, true, false, List, [], ◌∷◌, ◌++◌, length, take, Some, Err, slice_get}
 use mathlib.Core.List.{IsPrefix}
 use Rattle.volume_model.specs.declared.fault.Fault.{Fault}
@@ -17,30 +17,30 @@ use Rattle.volume_model.specs.StepResults.{makes, Refuses, IsOwn, IsOwnOfClient}
 use Rattle.volume_model.specs.Journal.{Entry, world_at, Goes, IsRun, last_of, before}
 use Rattle.volume_model.specs.Judging.{Refusal, IsRefused, Exact, IsNoted}
 
--- a step of the world is the step of the event's actor, over what the actor is there, how many groups have joined, and
--- the messages made so far
+-- a step of the world is the step of the event's actor, computed from the actor's state, the number of groups that have
+-- joined, and the messages made so far
 abbrev pub StepsAreOfActors : Type 0
 StepsAreOfActors = (plan : Plan) (w : World) (e : Event) → step plan w e ≡ in_world w (actor_of e)
     (acted plan (groups_joined w.authority) w.messages e (state_in w (actor_of e)))
 
--- an event leaves all actors but its own as they are
+-- an event changes no actor but its own
 abbrev pub LeavesOthers : Type 0
 LeavesOthers = (plan : Plan) (w : World) (e : Event) (actor : Actor) → same_actor (actor_of e) actor ≡ false
     → Agree actor w (after plan w e)
 
--- the messages that an event makes are put before the others, in their order; a refused event changes nothing
+-- the messages that an event makes are put before the older ones, in their order. A refused event changes nothing
 pub record MessagesGrow : Type 0 where
   pub grow : (plan : Plan) (w : World) (e : Event) (ms : List Message) → makes (step plan w e) ≡ Some ms
       → ((after plan w e).messages ≡ added ms w.messages) × (length (after plan w e).messages ≡ length w.messages +
       length ms)
   pub refused : (plan : Plan) (w : World) (e : Event) (fault : Fault) → step plan w e ≡ Err fault → after plan w e ≡ w
 
--- a beginning that has the last entry of an actor has its state
+-- a prefix that includes an actor's last entry gives the actor's state
 abbrev pub AgreesAtLast : Type 0
 AgreesAtLast = (plan : Plan) (actor : Actor) (seen es : List Entry) → IsPrefix seen es → last_of actor es ≤ length seen
     → Agree actor (world_at plan seen) (world_at plan es)
 
--- a run and one step more is a run, and the first number of an entry is how many messages were made before it
+-- a run with one more step is a run, and the first of an entry is the number of messages made before it
 pub record RunsGoOn : Type 0 where
   pub push : (plan : Plan) (es : List Entry) (e : Entry) → IsRun plan es → Goes plan (world_at plan es) e
       → IsRun plan (es ++ e ∷ [])
@@ -49,15 +49,15 @@ pub record RunsGoOn : Type 0 where
   pub messages : (plan : Plan) (es : List Entry) (e : Entry) → Goes plan (world_at plan es) e
       → length (world_at plan (es ++ e ∷ [])).messages ≡ e.first + length e.made
 
--- where two worlds have the actor of an event alike, a node's group has joined in both or in neither, and the second
--- has the messages of the first: the same refusal, but that there was no message, and else the same messages
+-- An event has the same result in two worlds that agree on its actor's state and on whether a node's group has joined,
+-- if the second has the messages of the first. Only a refusal for a missing message may differ
 pub record StepsAlike : Type 0 where
   pub refused : (plan : Plan) (w v : World) (e : Event) (fault : Fault) → (fault ≡ NoMessage → ⊥) → Agree (actor_of e) w
       v → JoinedAlike e w v → Keeps w v → step plan w e ≡ Err fault → step plan v e ≡ Err fault
   pub made : (plan : Plan) (w v : World) (e : Event) (ms : List Message) → Agree (actor_of e) w v → JoinedAlike e w v
       → Keeps w v → makes (step plan w e) ≡ Some ms → makes (step plan v e) ≡ Some ms
 
--- a message keeps its number, which its entry and its place in it give
+-- a message keeps the number that its entry and its place in the entry give
 pub record MessagesAreFound : Type 0 where
   pub later : (plan : Plan) (es fs : List Entry) → IsPrefix es fs → (n : ℕ) (x : Message)
       → numbered (world_at plan es).messages n ≡ Some x → numbered (world_at plan fs).messages n ≡ Some x
@@ -66,8 +66,8 @@ pub record MessagesAreFound : Type 0 where
   pub named : (plan : Plan) (es : List Entry) → IsRun plan es → (k : ℕ) (e : Entry) (n : ℕ) → slice_get es k ≡ Some e
       → named_by e.event ≡ Some n → n ≤ before plan es k
 
--- an actor on its own doesn't refuse for lack of a message, an actor, a slot or a cell; but a client that isn't born
--- does
+-- an actor never refuses for a missing message, an actor, a slot or a journal cell; except that a client refuses as
+-- NoActor before it is born
 pub record RefusalsAreOwn : Type 0 where
   pub deliver : (plan : Plan) (group member : ℕ) (node : Node) (m : Message) → Refuses IsOwn
       (reaction plan group member node m)
@@ -91,8 +91,8 @@ pub record RefusalsAreOwn : Type 0 where
   pub read : (volume : ℕ) (client : Client) (group block : ℕ) → is_born client.stage ≡ true → Refuses IsOwn
       (page_asked volume client group block)
 
--- what the model refuses may be noted, from the number of the actor's last entry on where a node's group has joined
--- then as it has now, and stays true as the journal grows
+-- A refusal of the model may be noted with any number from the actor's last entry on, provided that a node's group had
+-- joined then as it has now. A noted refusal stays true as the journal grows
 pub record RefusalsLast : Type 0 where
   pub noted : (plan : Plan) (slots cells number : ℕ) (es : List Entry) (event : Event) (fault : Fault) → IsNoted fault
       → number ≤ length es → last_of (actor_of event) es ≤ number

@@ -1,4 +1,4 @@
--- What a refusal that was noted says of a journal, however long it grows.
+-- What a noted refusal says about a journal, and keeps saying as the journal grows.
 use Rattle.std.specs.Prelude.{◌≡◌, ℕ, ◌≤◌, List, length, take}
 use Rattle.volume_model.specs.declared.fault.Fault.{Fault}
 use Rattle.volume_model.specs.declared.fault.Fault.TheVariants.{NoMemory, NoMessage, NoSlot, JournalFull}
@@ -10,19 +10,20 @@ use Rattle.volume_model.specs.Actor.{Actor, actor_of}
 use Rattle.volume_model.specs.StepResults.{refusal}
 use Rattle.volume_model.specs.Journal.{Entry, world_at}
 
--- the world v, except one actor, which is as in w; for a node, as many groups have joined as in w
+-- the world v with one actor's state from w; for a node, also with as many groups joined as in w
 abbrev pub placed : Actor → World → World → World
 placed Actor.TheAuthority w v = record v { authority = w.authority }
 placed (Actor.Client c) w v = record v { clients = put v.clients c (w.clients c) }
 placed (Actor.Node g m) w v = record v { authority = w.authority; nodes = put_at v.nodes g m (w.nodes g m) }
 
--- the world of these entries, except the actor of an event, which is as after so many of them
+-- the world of these entries, with the event's actor as it was after the first number of them
 abbrev pub judged : Plan → List Entry → ℕ → Event → World
 judged plan es number event = placed (actor_of event) (world_at plan (take number es)) (world_at plan es)
 
--- What a refusal says is that these two numbers are one: the last volume epoch and the number of slots, the length of
--- the journal and the number of cells, or the number of the refusal with which the event is refused and its own.
--- Running out of memory, and a missing message, are not noted
+-- The first of two numbers that are equal if the refusal is true; wanted is the second. For NoSlot they are the last
+-- volume epoch and the number of slots, for JournalFull the journal's length and its number of cells, for any other
+-- fault the number of the model's refusal and the fault's own. Running out of memory and a missing message are not
+-- noted
 abbrev pub found_in : Plan → List Entry → ℕ → Event → Fault → ℕ
 found_in plan es number event NoMemory = 0
 found_in plan es number event NoMessage = 0
@@ -46,9 +47,9 @@ pub record IsRefused (plan : Plan) (slots cells : ℕ) (es : List Entry) (n : Re
   pub within : n.number ≤ length es
   pub judged_so : found_in plan es n.number n.event n.fault ≡ wanted slots cells n.fault
 
--- The refusal is true after these entries. NoSlot is of Assign alone, where the model assigns and the last volume epoch
--- is the number of slots; the journal is full where the model refuses nothing and it has as many entries as there are
--- cells; any other is the model's. Running out of memory says nothing
+-- The refusal is true after these entries. NoSlot: the event is Assign, the model doesn't refuse it, and the last
+-- volume epoch is the number of slots. JournalFull: the model refuses nothing, and there are as many entries as cells.
+-- Any other fault is the model's. NoMemory says nothing
 abbrev pub Exact : Plan → ℕ → ℕ → List Entry → Event → Fault → Type 0
 Exact plan slots cells es event NoMemory = Unit {0}
 Exact plan slots cells es event NoSlot =

@@ -1,4 +1,4 @@
--- Which records are live, in the words of a lineage's entries.
+-- Which records are live, stated with a lineage's entries.
 use Rattle.std.specs.Prelude.{◌≡◌, ◌↔◌, ℕ, ◌<◌, ◌≤◌, true, [], ◌∷◌}
 use Rattle.volume_model.specs.Lists.{IsIn}
 use Rattle.volume_model.specs.Lineage.{Entry, Lineage, is_live}
@@ -17,7 +17,7 @@ pub record Lives (lineage : Lineage) (volume lsn : ℕ) : Type 0 where
   pub above_start : entry.start < lsn
   pub not_cut_off : (later : Entry) → IsIn later lineage → volume < later.volume → lsn ≤ later.cut
 
--- in a lineage whose epochs grow a record of this volume epoch and number is live exactly where it lives
+-- in a lineage whose epochs grow, is_live says exactly that a record lives
 abbrev pub RecordsLive : Type 0
 RecordsLive = (lineage : Lineage) → EpochsGrow lineage → (volume lsn : ℕ) → (is_live lineage volume lsn ≡ true) ↔ Lives
     lineage volume lsn

@@ -1,11 +1,11 @@
--- The name of each fault, and what is printed of it.
+-- The name of each fault, and how a fault is printed.
 use Rattle.std.specs.Prelude.{ℕ, List, ◌++◌, codes}
 use Rattle.std.specs.Fmt.{decimal}
 use Rattle.volume_model.specs.Numbers.{number_of}
 use Rattle.volume_model.specs.declared.fault.Fault.{Fault}
 use Rattle.volume_model.specs.declared.fault.Fault.TheVariants.{Short, BadField, Trailing, NoMemory, BadCount, TooDeep, NotAMember, Malformed, NoSuchItem, NotDead, NoClash, NotAll, TooFewPicked, BadPair, CountTooSmall, BranchCount, BadParent, MemberReused, NoCertificate, Certificate, OverLimit, Superseded, NotInPlan, NoGroup, EpochsSpent, AllGrown, StaleVolume, StaleMember, AheadMember, NotInstalled, NotWhole, Full, AlreadyWhole, NotEnough, NoRecord, BadPiece, TailSegment, PointAhead, SeriesSpent, NotOpen, LimitReached, BadTransaction, LsnSpent, NotReady, AlreadyDone, NoLogRecord, NotJoined, NoMessage, NotAddressed, NoActor, NoSlot, JournalFull}
 
--- its name
+-- the name of a fault
 abbrev pub name_of : Fault → List ℕ
 name_of Short = codes "Short"
 name_of BadField = codes "BadField"
@@ -60,6 +60,6 @@ name_of NoActor = codes "NoActor"
 name_of NoSlot = codes "NoSlot"
 name_of JournalFull = codes "JournalFull"
 
--- its number and its name
+-- the number and name of a fault, as they are printed
 abbrev pub fault_text : Fault → List ℕ
 fault_text fault = decimal (number_of fault) ++ codes " " ++ name_of fault

@@ -12,13 +12,13 @@ use Rattle.volume_model.specs.Refusal.{refuse_if}
 use Rattle.volume_model.specs.declared.fault.Fault.{Fault}
 use Rattle.volume_model.specs.declared.fault.Fault.TheVariants.{AheadMember, AlreadyWhole, BadPiece, Full, NoRecord, NotAddressed, NotEnough, NotInPlan, NotInstalled, NotWhole, PointAhead, SeriesSpent, StaleMember, StaleVolume, TailSegment}
 
--- what came from a sender
+-- contents and the member that sent them
 pub record From : Type 0 where
   pub sender : ℕ
   pub contents : Contents
 
--- a segment of a group: its volume epoch, where its group stands as far as it was informed, whether it is whole, what
--- it holds, the pieces kept of the copies that it has been sent and of an install, and how often it has made a copy
+-- a segment of a group: its volume epoch, the latest place that it knows, whether it is whole, its contents, the pieces
+-- kept of copies and of an install, and the number of copies that it has made
 pub record Node : Type 0 where
   pub volume : ℕ
   pub place : Place
@@ -28,11 +28,11 @@ pub record Node : Type 0 where
   pub install : Option Pieces
   pub copied : ℕ
 
--- the last volume epoch of the lineage that it holds
+-- the last volume epoch of the node's lineage
 abbrev pub lineage_epoch : Node → ℕ
 lineage_epoch node = last_epoch node.contents.lineage
 
--- a member of the root is born whole, any other not
+-- a node before any event: a member of the root is whole, any other isn't
 abbrev pub born_node : Plan → ℕ → ℕ → Node
 born_node plan group member =
     if has_member (plan.configuration group 0) member
@@ -57,12 +57,12 @@ born_node plan group member =
       copied = 0;
     }
 
--- the member is one of the configuration that the node took last
+-- the node's latest place is a configuration of which it is a member
 abbrev pub has_configuration : Plan → ℕ → ℕ → Node → Bool
 has_configuration plan group member node = nat_lt 0 node.place.epoch && has_member
     (plan.configuration group node.place.configuration) member
 
--- what a step of a node leaves: the messages that it makes, and the node
+-- the result of a node's step: the messages that it makes, and its new state
 pub record NodeStep : Type 0 where
   pub made : List Message
   pub node : Node
@@ -83,15 +83,15 @@ label_checks node label rest =
 abbrev pub most_records : ℕ
 most_records = 1048576
 
--- the members that something came from
+-- the senders, as a set of members
 abbrev pub senders : List From → Members
 senders reports x = any (λ report. report.sender == x) reports
 
--- the first of each sender is kept
+-- the reports with one more; the first of each sender is kept
 abbrev pub with_first : From → List From → List From
 with_first new reports = if senders reports new.sender then reports else reports ++ new ∷ []
 
--- what the senders hold
+-- the contents of the reports
 abbrev pub contents_of : List From → List Contents
 contents_of reports = map (λ report. report.contents) reports
 
@@ -99,7 +99,7 @@ contents_of reports = map (λ report. report.contents) reports
 abbrev pub ack_of : ℕ → ℕ → Label → List Redo → Message
 ack_of group member label records = Ack group label member (scl records)
 
--- a record that comes
+-- what a node does with a record of a Write or a Gossip
 abbrev pub take_record : ℕ → ℕ → Node → Label → Redo → NodeAnswer
 take_record group member node label r =
     label_checks node label (
@@ -111,8 +111,8 @@ take_record group member node label r =
       node = record node { contents = record { lineage = node.contents.lineage; records = records } };
     }))))
 
--- what an install of these pieces amounts to: nothing is answered until all are kept; then lineage and records are
--- replaced, and the pieces dropped
+-- the step that keeps these pieces of an install. Nothing is answered until all are kept; then they replace lineage and
+-- records, and are dropped
 abbrev pub install_step : ℕ → ℕ → Node → Label → Lineage → Pieces → NodeStep
 install_step group member node label lineage pieces =
     if is_complete pieces
@@ -130,8 +130,8 @@ install_step group member node label lineage pieces =
     }
     else record { made = []; node = record node { volume = label.volume; install = Some pieces } }
 
--- a piece of an install; where the lineage is that of its volume epoch already, what is held is acknowledged, and
--- nothing kept
+-- the step of one piece of an install. If the lineage is already that of the volume epoch, the node only acknowledges
+-- what it holds
 unfoldable pub installed : ℕ → ℕ → Node → Label → Piece → Contents → NodeStep
 installed group member node label piece contents =
     if lineage_epoch node == label.volume
@@ -160,14 +160,14 @@ page_from page block point (r ∷ rest) =
 abbrev pub page_of : List Redo → ℕ → ℕ → List ℕ
 page_of records block point = page_from (replicate 512 0) block point records
 
--- the tests of a page, in order: the member keeps whole pages, and the segment is complete up to the point
+-- the tests for a page, in order: the member keeps whole pages, and the segment is complete up to the point
 unfoldable pub page_checks : {A : Type 0} → Plan → ℕ → ℕ → Node → ℕ → Result A Fault → Result A Fault
 page_checks plan group member node point rest =
     refuse_if (not (has_configuration plan group member node && is_full
     (plan.configuration group node.place.configuration) member)) TailSegment (
     refuse_if (nat_lt (scl node.contents.records) point) PointAhead rest)
 
--- what a node answers to a question for a page whose label is right
+-- a node's answer to a question for a page whose label is valid
 unfoldable pub page_answer : Plan → ℕ → ℕ → Node → Label → ℕ → ℕ → NodeAnswer
 page_answer plan group member node label block point =
     refuse_if (not (lineage_epoch node == label.volume)) NotInstalled (
@@ -177,7 +177,7 @@ page_answer plan group member node label block point =
       node = node;
     })))
 
--- each record is one of the group
+-- each record is of the group
 abbrev pub in_group : ℕ → Contents → Bool
 in_group group contents = every (λ r. r.group == group) contents.records
 
@@ -234,12 +234,13 @@ reaction plan group member node (Report to label sender contents) = Err NotAddre
 reaction plan group member node (Ack to label sender reached) = Err NotAddressed
 reaction plan group member node (Page to label sender block point bytes) = Err NotAddressed
 
--- what a node becomes: its volume epoch, and what it holds
+-- the volume epoch and contents of a node that has become whole
 pub record Hydrated : Type 0 where
   pub volume : ℕ
   pub contents : Contents
 
--- From the complete copies of a read set a node gets the newest lineage, and all records that are live in it.
+-- If the members with complete copies satisfy the read expression: the newest lineage, and all records of the copies
+-- that are live in it.
 abbrev pub finished : Formula → List Copy → Option Hydrated
 finished read copies =
     let lineage = newest (brought copies) in
@@ -254,12 +255,12 @@ finished read copies =
     })
     else None
 
--- what copies amount to, refused where they are not enough
+-- refused if there are not enough copies
 abbrev pub or_not_enough : Option Hydrated → Result Hydrated Fault
 or_not_enough None = Err NotEnough
 or_not_enough (Some h) = Ok h
 
--- what the copies make of a node, where they are those of a read set of the configuration that it took last
+-- what the node's copies give, if their members satisfy the read expression of its latest configuration
 unfoldable pub gathered : Plan → ℕ → ℕ → Node → Result Hydrated Fault
 gathered plan group member node =
     refuse_if (not (has_configuration plan group member node)) NotEnough (
@@ -269,27 +270,27 @@ gathered plan group member node =
 abbrev pub whole_node : Node → Hydrated → Node
 whole_node node h = record node { volume = max node.volume h.volume; whole = true; contents = h.contents }
 
--- a node becomes what its copies make of it, unless these are more records than it may hold
+-- the step in which a node becomes whole, refused if that gives more records than it may hold
 abbrev pub whole_from : Node → Hydrated → NodeAnswer
 whole_from node h = refuse_if (nat_lt most_records (length h.contents.records)) Full
     (Ok (record { made = []; node = whole_node node h }))
 
--- becoming whole, from copies of a read set of the node's own configuration
+-- the answer to Hydrate: the node becomes whole from copies of a read quorum of its own configuration
 abbrev pub hydrated : Plan → ℕ → ℕ → Node → NodeAnswer
 hydrated plan group member node = refuse_if node.whole AlreadyWhole (gathered plan group member node >>= whole_from
     node)
 
--- what a restart leaves: all but the pieces
+-- a node after a restart: it loses the pieces that it kept
 abbrev pub restarted : Node → Node
 restarted node = record node { copies = []; install = None }
 
--- the Gossip of a record that was found
+-- the Gossip of a record that was looked up
 abbrev pub gossip_of : ℕ → Node → Option Redo → NodeAnswer
 gossip_of group node None = Err NoRecord
 gossip_of group node (Some r) =
     Ok (record { made = Gossip group (record { volume = node.volume; member = node.place.epoch }) r ∷ []; node = node })
 
--- one of its records, for the others
+-- the answer to Offer: the node sends one of its records to the others
 abbrev pub offered : ℕ → Node → ℕ → NodeAnswer
 offered group node lsn =
     refuse_if (not node.whole) NotWhole (

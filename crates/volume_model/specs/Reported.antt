@@ -1,4 +1,4 @@
--- What clients and nodes keep of what they received is in messages that were made.
+-- What clients and nodes keep of received messages is in messages that were made.
 use Rattle.std.specs.Prelude.{◌≡◌, ◌≢◌, ℕ, ◌<◌, List, Some}
 use Rattle.volume_model.specs.Lists.{IsIn}
 use Rattle.volume_model.specs.Pieces.{KeptPiece, Pieces, Copy, piece_in}
@@ -8,9 +8,9 @@ use Rattle.volume_model.specs.Plan.{Plan, IsCertified}
 use Rattle.volume_model.specs.Client.{reports_of}
 use Rattle.volume_model.specs.World.{World, Event, opening, run}
 
--- Each report that a client keeps of a group of the plan was made under its volume epoch, each piece that a node keeps
--- of a copy at the membership epoch where it is, and each that it keeps of an install under the install's volume epoch.
--- The first writer reads nothing.
+-- A client's kept reports, for groups of the plan, were made under its volume epoch. A node's kept pieces of a copy
+-- were made at its membership epoch, those of an install under the install's volume epoch. The first writer takes no
+-- reports.
 pub record KeepsMade (plan : Plan) (world : World) : Type 0 where
   pub reports : (volume group : ℕ) → volume ≢ 1 → group < plan.groups → (from : From)
       → IsIn from (reports_of (world.clients volume).groups group) → (member : ℕ)
@@ -23,7 +23,7 @@ pub record KeepsMade (plan : Plan) (world : World) : Type 0 where
       × IsIn (Install group (record { volume = pieces.series; member = epoch }) (piece_in pieces kept) kept.contents)
       world.messages
 
--- over every list of events, from the opening world of a certified plan
+-- for every list of events, from the opening world of a certified plan
 abbrev pub ReportsWereMade : Type 0
 ReportsWereMade = (plan : Plan) → IsCertified plan → (events : List Event) → KeepsMade plan
     (run plan (opening plan) events)

@@ -3,11 +3,11 @@ use Rattle.std.specs.Prelude.{ℕ, zero, suc, List, [], ◌∷◌, map}
 use Rattle.volume_model.specs.Formula.{Formula, member, at_least, each_once}
 use Rattle.volume_model.specs.Plan.{Configuration, Plan, IsCertified}
 
--- so many of these expressions
+-- at least k of these expressions
 abbrev pub some_of : ℕ → List Formula → Formula
 some_of k expressions = at_least k (each_once expressions)
 
--- so many of these members
+-- at least k of these members
 abbrev pub count_of : ℕ → List ℕ → Formula
 count_of k members = some_of k (map member members)
 
@@ -15,7 +15,7 @@ count_of k members = some_of k (map member members)
 abbrev pub six : List ℕ
 six = 0 ∷ 1 ∷ 2 ∷ 3 ∷ 4 ∷ 5 ∷ []
 
--- three of them
+-- the three members that keep whole pages
 abbrev pub three : List ℕ
 three = 0 ∷ 2 ∷ 4 ∷ []
 
@@ -35,7 +35,8 @@ six_root = record { parent = 0; epoch = 1; members = six; full = six; read = cou
 abbrev pub six_copies : Plan
 six_copies = record { lal = 10; born = 1; groups = 1; configurations = λ group. 1; configuration = λ group c. six_root }
 
--- three members keep whole pages: three of all and one of these read, four of all or these three write
+-- three members keep whole pages. Read quorums: three of six with at least one of these. Write quorums: four of six, or
+-- these three
 abbrev pub full_and_tail_root : Configuration
 full_and_tail_root = record {
   parent = 0;
@@ -57,7 +58,7 @@ full_and_tail = record {
       full_and_tail_root;
 }
 
--- member 6 comes in beside member 5: what reads reads in either six, and what writes writes in both
+-- member 6 beside member 5: a read quorum of either six reads, write quorums of both write
 abbrev pub both_sixes : Configuration
 both_sixes = record {
   parent = 0;
@@ -68,7 +69,7 @@ both_sixes = record {
   write = some_of 2 (count_of 4 six ∷ count_of 4 other_six ∷ []);
 }
 
--- and then member 5 goes
+-- the step in which member 5 leaves
 abbrev pub with_other : Configuration
 with_other = record {
   parent = 1;
@@ -80,11 +81,11 @@ with_other = record {
       count_of 4 other_six;
 }
 
--- or member 6 goes again
+-- the step in which member 6 leaves again
 abbrev pub with_first : Configuration
 with_first = record { parent = 1; epoch = 3; members = six; full = six; read = count_of 3 six; write = count_of 4 six }
 
--- the root, then both, then either
+-- the root, then both sixes, then either of them
 abbrev pub replacing : ℕ → Configuration
 replacing zero = six_root
 replacing (suc zero) = both_sixes

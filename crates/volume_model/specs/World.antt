@@ -12,28 +12,28 @@ use Rattle.volume_model.specs.Refusal.{refuse_if}
 use Rattle.volume_model.specs.declared.fault.Fault.{Fault}
 use Rattle.volume_model.specs.declared.fault.Fault.TheVariants.{AllGrown, EpochsSpent, NoActor, NoGroup, NoMessage, NotInPlan, Superseded}
 
--- the last volume epoch assigned, and the configuration at which each group stands that has joined
+-- the last volume epoch assigned, and the present configuration of each group that has joined
 pub record Authority : Type 0 where
   pub last_volume : ℕ
   pub configurations : List ℕ
 
--- the configuration at which a group stands
+-- the present configuration of a group
 abbrev pub configuration_of : Authority → ℕ → ℕ
 configuration_of authority group = slice_index_or authority.configurations group 0
 
--- how many groups have joined
+-- the number of groups that have joined
 abbrev pub groups_joined : Authority → ℕ
 groups_joined authority = length authority.configurations
 
--- all actors, and all messages ever made, newest first. A node is named by group and member, a client by its volume
--- epoch
+-- all actors, and all messages ever made, newest first. A node is identified by group and member, a client by its
+-- volume epoch
 pub record World : Type 0 where
   pub authority : Authority
   pub nodes : ℕ → ℕ → Node
   pub clients : ℕ → Client
   pub messages : List Message
 
--- what may happen next. A loss is a delivery that never comes
+-- an event. A lost message is one that is never delivered
 pub data Event : Type 0 where
   Assign : Event
   Advance : (group configuration : ℕ) → Event
@@ -60,7 +60,7 @@ opening plan =
       messages = [];
     }
 
--- where the authority has each group
+-- the present place of a group
 abbrev pub place_now : Plan → Authority → ℕ → Place
 place_now plan authority group =
     record {
@@ -69,16 +69,16 @@ place_now plan authority group =
           (configuration_of authority group);
     }
 
--- the places of all groups that have joined, by number
+-- the places of all groups that have joined, in order
 abbrev pub places_now : Plan → Authority → List Place
 places_now plan authority = each_below (groups_joined authority) (λ group. true) (place_now plan authority)
 
--- what a step of the authority leaves
+-- the result of a step of the authority
 pub record AuthorityStep : Type 0 where
   pub made : List Message
   pub authority : Authority
 
--- what the authority does when it assigns a volume epoch
+-- the authority's answer to Assign: it assigns the next volume epoch
 abbrev pub assigned : Plan → Authority → Result AuthorityStep Fault
 assigned plan authority =
     refuse_if (nat_le 4294967295 authority.last_volume) EpochsSpent (
@@ -87,13 +87,13 @@ assigned plan authority =
       authority = record authority { last_volume = suc authority.last_volume };
     }))
 
--- the step that leads a group to a configuration
+-- the step of a group to a configuration
 abbrev pub advance_step : Plan → Authority → ℕ → ℕ → AuthorityStep
 advance_step plan authority group c =
     let now = record authority { configurations = slice_set authority.configurations group c } in
     record { made = StepTo group (place_now plan now group) ∷ []; authority = now }
 
--- what the authority does when a group goes to a child of its configuration
+-- the authority's answer to Advance: a group steps to a child of its configuration
 abbrev pub advanced : Plan → Authority → ℕ → ℕ → Result AuthorityStep Fault
 advanced plan authority group c =
     refuse_if (not (nat_lt group (groups_joined authority))) NoGroup (
@@ -101,24 +101,24 @@ advanced plan authority group c =
     authority group))) NotInPlan (
     Ok (advance_step plan authority group c)))
 
--- what the authority does when a client asks for the places again
+-- the authority's answer to Refresh: a client gets the places again
 abbrev pub refreshed : Plan → Authority → ℕ → Result AuthorityStep Fault
 refreshed plan authority volume =
     refuse_if (not (volume == authority.last_volume)) Superseded (
     Ok (record { made = View volume (places_now plan authority) ∷ []; authority = authority }))
 
--- what the authority does when the next group joins: it stands at its root
+-- the authority's answer to Grow: the next group joins, at its root
 abbrev pub grown : Plan → Authority → Result AuthorityStep Fault
 grown plan authority =
     refuse_if (not (nat_lt (groups_joined authority) plan.groups)) AllGrown (
     Ok (record { made = []; authority = record authority { configurations = authority.configurations ++ 0 ∷ [] } }))
 
--- a step leaves the messages that it makes, in their order, and the world
+-- the result of a step: the messages that it makes, in order, and the new world
 pub record Step : Type 0 where
   pub made : List Message
   pub world : World
 
--- a step of the authority, in the world
+-- a step of the authority, as a step of the world
 abbrev pub of_authority : World → Result AuthorityStep Fault → Result Step Fault
 of_authority world (Err number) = Err number
 of_authority world (Ok step) =
@@ -131,7 +131,7 @@ of_authority world (Ok step) =
       };
     })
 
--- a step of a client, in the world
+-- a step of a client, as a step of the world
 abbrev pub of_client : World → ℕ → ClientAnswer → Result Step Fault
 of_client world volume (Err number) = Err number
 of_client world volume (Ok step) =
@@ -144,7 +144,7 @@ of_client world volume (Ok step) =
       };
     })
 
--- a step of a node, in the world
+-- a step of a node, as a step of the world
 abbrev pub of_node : World → ℕ → ℕ → NodeAnswer → Result Step Fault
 of_node world group member (Err number) = Err number
 of_node world group member (Ok step) =
@@ -157,22 +157,22 @@ of_node world group member (Ok step) =
       };
     })
 
--- what a node does with a message that was found
+-- a node's answer to a message that was looked up
 abbrev pub deliver : Plan → ℕ → ℕ → Node → Option Message → NodeAnswer
 deliver plan group member node None = Err NoMessage
 deliver plan group member node (Some message) = reaction plan group member node message
 
--- what a client does with a message that was found
+-- a client's answer to a message that was looked up
 abbrev pub take : Plan → ℕ → Client → Option Message → ClientAnswer
 take plan volume client None = Err NoMessage
 take plan volume client (Some message) = taken plan volume client message
 
--- refused where the group isn't one of the first so many, which have joined, or no configuration of it has the member
+-- refused if the group hasn't joined (the first joined ones have) or no configuration of it has the member
 abbrev pub if_there : Plan → ℕ → ℕ → ℕ → NodeAnswer → NodeAnswer
 if_there plan joined group member rest = refuse_if (not (nat_lt group joined && is_named plan group member)) NoActor
     rest
 
--- one event: the number of its refusal, or the step
+-- one event: its refusal, or the step
 abbrev pub step : Plan → World → Event → Result Step Fault
 step plan world Assign = of_authority world (assigned plan world.authority)
 step plan world (Advance group c) = of_authority world (advanced plan world.authority group c)
@@ -200,7 +200,7 @@ step plan world (Restart group member) =
 step plan world (Offer group member lsn) = of_node world group member (if_there plan (groups_joined world.authority)
     group member (offered group (world.nodes group member) lsn))
 
--- a refused event changes nothing
+-- the world after a step; a refused event changes nothing
 abbrev pub after_step : World → Result Step Fault → World
 after_step world (Err number) = world
 after_step world (Ok s) = s.world
@@ -209,12 +209,12 @@ after_step world (Ok s) = s.world
 abbrev pub after : Plan → World → Event → World
 after plan world event = after_step world (step plan world event)
 
--- where a list of events leads
+-- the world after a list of events
 abbrev pub run : Plan → World → List Event → World
 run plan world [] = world
 run plan world (event ∷ events) = run plan (after plan world event) events
 
--- the result of an event: the number of messages that it made, or of its refusal
+-- the result of an event: the number of messages that it made, or its refusal
 abbrev pub event_result : Result Step Fault → Result ℕ Fault
 event_result (Err number) = Err number
 event_result (Ok s) = Ok (length s.made)

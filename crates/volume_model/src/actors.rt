@@ -1,4 +1,4 @@
-//! Laws of actors, and of runs that are kept as the entries of a journal, a step an entry.
+//! Laws of actors, and of runs that are recorded as the entries of a journal, one step an entry.
 
 ghost use Rattle.volume_model.specs.JournalLaws.{StepsAreOfActors, LeavesOthers, MessagesGrow, AgreesAtLast, RunsGoOn, StepsAlike, MessagesAreFound, RefusalsAreOwn, RefusalsLast};
 
@@ -7,37 +7,37 @@ pub fn steps_are_of_actors()
     ensures { StepsAreOfActors }
 {}
 
-/// Proves that an event leaves all actors but its own as they are.
+/// Proves that an event changes no actor but its own.
 pub fn leaves_others()
     ensures { LeavesOthers }
 {}
 
-/// Proves that the messages that an event makes come before the others, and a refused event changes nothing.
+/// Proves that the messages that an event makes are put before the older ones. A refused event changes nothing.
 pub fn messages_grow()
     ensures { MessagesGrow }
 {}
 
-/// Proves that a beginning of the entries that has the last one of an actor has the actor as it is.
+/// Proves that a prefix of the entries that includes an actor's last entry gives the actor's present state.
 pub fn agrees_at_last()
     ensures { AgreesAtLast }
 {}
 
-/// Proves that a run and one step more is a run.
+/// Proves that a run with one more step is a run.
 pub fn runs_go_on()
     ensures { RunsGoOn }
 {}
 
-/// Proves that the result of an event rests on its actor and on the messages alone.
+/// Proves that the result of an event depends only on its actor and on the messages.
 pub fn steps_alike()
     ensures { StepsAlike }
 {}
 
-/// Proves that a message is found by the number that its entry and its place in it give, for good.
+/// Proves that the number computed from an entry and a place in it always finds the same message.
 pub fn messages_are_found()
     ensures { MessagesAreFound }
 {}
 
-/// Proves which refusals an actor finds on its own.
+/// Proves which refusals an actor can give without knowing the rest of the world.
 pub fn refusals_are_own()
     ensures { RefusalsAreOwn }
 {}

@@ -1,4 +1,4 @@
-//! Why calls refuse, each reason with its number.
+//! Why calls refuse: each reason with its number.
 
 ghost use Rattle.std.specs.Prelude.{◌≡◌};
 ghost use Rattle.volume_model.specs.Names.{fault_text, name_of};
@@ -26,23 +26,23 @@ pub enum Fault {
     TooDeep = 11,
     /// No member of the configuration.
     NotAMember = 12,
-    /// A text of another shape.
+    /// The text has another shape than it must.
     Malformed = 13,
-    /// No item of this number.
+    /// There is no item with this number.
     NoSuchItem = 20,
-    /// The item can still hold.
+    /// The item could still be satisfied.
     NotDead = 21,
     /// The items aren't the same member.
     NoClash = 22,
-    /// The item doesn't ask for all its children.
+    /// The item doesn't need all its children.
     NotAll = 23,
-    /// The other children could be enough.
+    /// The children that weren't picked could be enough.
     TooFewPicked = 24,
-    /// A child that isn't there, or that is named twice.
+    /// A child doesn't exist, or is named twice.
     BadPair = 25,
-    /// The pairs are too few.
+    /// There are too few pairs.
     CountTooSmall = 26,
-    /// Another number of branches than of children or pairs.
+    /// The number of branches isn't that of the children or pairs.
     BranchCount = 27,
     /// Configuration 0 has a parent, or the parent of another one doesn't come before it.
     BadParent = 30,
@@ -96,13 +96,13 @@ pub enum Fault {
     LimitReached = 71,
     /// Not a transaction of 1 to 32 valid changes.
     BadTransaction = 72,
-    /// No log sequence number is left.
+    /// No log sequence number (LSN) is left.
     LsnSpent = 73,
     /// Too few members have answered for this step.
     NotReady = 74,
-    /// The client has taken this step before.
+    /// The client has already taken this step.
     AlreadyDone = 75,
-    /// The log has no such record.
+    /// The log has no record with this LSN.
     NoLogRecord = 76,
     /// No write quorum has acknowledged the group's Install yet.
     NotJoined = 77,
@@ -110,7 +110,7 @@ pub enum Fault {
     NoMessage = 80,
     /// The message isn't for this actor.
     NotAddressed = 81,
-    /// The actor isn't there.
+    /// There is no such actor.
     NoActor = 82,
     /// No slot is left for a client.
     NoSlot = 83,
@@ -119,14 +119,14 @@ pub enum Fault {
 }
 
 impl Fault {
-    /// Returns the number that stands for the fault in what the program prints.
+    /// Returns the number with which the program prints the fault.
     pub fn number(self) -> u8
         ensures { result ≡ number_of self }
     {
         self as u8
     }
 
-    /// Returns the name that is printed of the fault.
+    /// Returns the name with which the program prints the fault.
     fn name(self) -> &'static str
         ensures { result.now ≡ name_of self }
     {
@@ -187,7 +187,7 @@ impl Fault {
     }
 }
 
-/// The number and the name.
+/// Writes the number and the name.
 impl fmt::Display for Fault {
     ghost use Rattle.std.specs.Prelude.{Some};
 

@@ -23,24 +23,24 @@ pub use laws::{
     steps_are_few,
 };
 
-/// Proves the headline of every certified plan and every list of events: every commit that any writer acknowledges
-/// stands, with the whole log before it, in the log found by every recovery of a later volume epoch, and no two records
-/// are acknowledged under one number.
+/// Proves the main theorem for every certified plan and every list of events. Each commit that any writer acknowledges,
+/// and the whole log before it, is in the log that every recovery of a later volume epoch finds. No two different
+/// records are acknowledged under one LSN.
 pub fn volume_keeps_commits()
     ensures { VolumeKeepsCommits }
 {}
 
-/// Proves that every page that any node makes for any writer is the page of that writer's log at the point asked.
+/// Proves that every page that any node makes for any writer is the page of that writer's log at the requested point.
 pub fn pages_are_true()
     ensures { PagesAreTrue }
 {}
 
-/// Proves that what a writer has acknowledged it has acknowledged for good, with the same log before it.
+/// Proves that what a writer has acknowledged stays acknowledged, with the same log before it.
 pub fn acknowledgements_last()
     ensures { AcknowledgementsLast }
 {}
 
-/// Proves that a plan whose configurations and steps meet their claims is certified.
+/// Proves that a plan is certified if its configurations and steps satisfy their claims.
 pub fn claims_certify()
     ensures { ClaimsCertify }
 {}

@@ -1,4 +1,4 @@
-//! What the authority does and answers.
+//! Tests of the authority.
 
 use super::said::Said::{self, Count, Step, View, Yes};
 use super::said::said_by;
@@ -10,7 +10,7 @@ use std::test::*;
 use volume_model::Fault::{self, AllGrown, NoGroup, NotInPlan, Superseded};
 use wire::Message;
 
-/// One group. Member 0 alone reads and writes; member 1 joins with the child of the root.
+/// One group. Member 0 reads and writes alone; member 1 is added by the child of the root.
 const PLAN: &[u8] = b"{\"format\":1,\"lal\":10,\"groups\":[{\"configurations\":[\
 {\"parent\":null,\"members\":[0],\"full\":[0],\"read\":0,\"write\":0,\"meets\":{\"rule\":\"clash\",\"left\":0,\"right\":0},\"step\":null},\
 {\"parent\":0,\"members\":[0,1],\"full\":[0],\"read\":0,\"write\":0,\"meets\":{\"rule\":\"clash\",\"left\":0,\"right\":0},\"step\":{\"rule\":\"clash\",\"left\":0,\"right\":0}}]}]}";
@@ -22,29 +22,29 @@ const TWO_READ: &[u8] = b"{\"format\":1,\"lal\":10,\"groups\":[{\"configurations
 \"meets\":{\"rule\":\"pick\",\"side\":\"left\",\"item\":0,\"children\":[0],\
 \"then\":[{\"rule\":\"clash\",\"left\":0,\"right\":0}]},\"step\":{\"rule\":\"dead\",\"side\":\"left\",\"item\":0}}]}]}";
 
-/// What the authority is asked, and what it is asked whether it may do it.
+/// A call of the authority.
 #[derive(Clone, Copy)]
 enum Asked {
-    /// To lead a group to this child of its configuration.
+    /// Advances a group to this child of its configuration.
     Advance(u8, u32),
     MayAdvance(u8, u32),
-    /// To assign the next volume epoch.
+    /// Assigns the next volume epoch.
     Assign,
     MayAssign,
-    /// To send the client of a volume epoch a View of the groups' places.
+    /// Makes a View of the groups' places for the client of a volume epoch.
     Refresh(u32),
     MayRefresh(u32),
-    /// To let the next group join.
+    /// Lets the next group join.
     Grow,
     MayGrow,
-    /// How many groups have joined.
+    /// Returns the number of groups that have joined.
     Joined,
 }
 
-/// What the authority is asked, and what it answers or why it refuses.
+/// A call, and the expected answer or refusal.
 type Row = (Asked, Result<Said, Fault>);
 
-/// The message that the authority makes.
+/// Makes the authority's message.
 fn made(alloc: Global, authority: &mut Authority, asked: Asked) -> Result<Message, Fault> {
     match asked {
         Asked::Advance(group, configuration) => authority.advance(group, configuration),
@@ -54,7 +54,6 @@ fn made(alloc: Global, authority: &mut Authority, asked: Asked) -> Result<Messag
     }
 }
 
-/// What the authority answers.
 fn answer(alloc: Global, authority: &mut Authority, asked: Asked) -> Result<Said, Fault> {
     match asked {
         Asked::MayAdvance(group, configuration) => authority.admits_advance(group, configuration)?,
@@ -68,7 +67,7 @@ fn answer(alloc: Global, authority: &mut Authority, asked: Asked) -> Result<Said
     Ok(Yes)
 }
 
-/// The place of the first row that a new volume's authority doesn't keep to, `None` where it keeps to all.
+/// Returns the index of the first row with another answer of a new volume's authority, `None` if there is none.
 fn broken(alloc: Global, text: &[u8], rows: &[Row]) -> Result<Option<usize>, Fault> {
     let mut authority = Authority::new(alloc, checked(alloc, text)?)?;
     for (place, (asked, expected)) in rows.iter().enumerate() {
@@ -79,7 +78,7 @@ fn broken(alloc: Global, text: &[u8], rows: &[Row]) -> Result<Option<usize>, Fau
     Ok(None)
 }
 
-/// The group steps to the child, configuration 1 at membership epoch 2, and Views say so.
+/// The group steps to the child, configuration 1 at membership epoch 2, and later Views have this place.
 const STEPS_AND_VIEWS: &[Row] = &[
     (Asked::MayAdvance(1, 0), Err(NoGroup)),
     (Asked::MayAdvance(0, 1), Ok(Yes)),
@@ -118,7 +117,7 @@ const READINESS: &[(&[u8], bool, bool)] = &[
     (&[0, 1], true, true),
 ];
 
-/// The place of the first row for which a new volume's authority answers otherwise.
+/// Returns the index of the first row of which a new volume's authority says otherwise, `None` if there is none.
 fn wrong_readiness(alloc: Global) -> Result<Option<usize>, Fault> {
     let authority = Authority::new(alloc, checked(alloc, TWO_READ)?)?;
     for (place, (members, can_read, can_write)) in READINESS.iter().enumerate() {
@@ -137,7 +136,7 @@ fn wrong_readiness(alloc: Global) -> Result<Option<usize>, Fault> {
     Ok(None)
 }
 
-/// What the authority refuses to answer for this group and configuration.
+/// Returns the refusal of an advance to this configuration.
 fn refused(alloc: Global, group: u8, configuration: u32) -> Result<Fault, Fault> {
     let authority = Authority::new(alloc, checked(alloc, TWO_READ)?)?;
     match authority.may_advance(group, configuration, MemberSet::empty()) {

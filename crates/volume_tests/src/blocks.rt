@@ -1,4 +1,4 @@
-//! Pages of blocks, from the packets of several.
+//! Tests of pages.
 
 use super::packets::{Line, chained, packet};
 use crate::picked::of_block;
@@ -8,7 +8,8 @@ use std::alloc::Global;
 use std::test::*;
 use volume_model::Fault;
 
-/// The records 1, 2 and 3, which write 61, 62 and 63 to the first bytes of block 0. The last is a consistency point.
+/// Returns the records 1, 2 and 3, which write 61, 62 and 63 to the first bytes of block 0. The last is a consistency
+/// point.
 fn three(alloc: Global) -> Result<RecordSet, Fault> {
     let mut records = RecordSet::new(alloc);
     for (lsn, offset, byte) in [(1, 0, 0x61), (2, 1, 0x62), (3, 2, 0x63)] {
@@ -23,7 +24,7 @@ fn three(alloc: Global) -> Result<RecordSet, Fault> {
     Ok(records)
 }
 
-/// Whether the page of a block at a point begins by these bytes and is empty behind them.
+/// Returns whether the page of a block at a point has these first bytes and is 0 after them.
 fn begins_by(alloc: Global, block: u32, point: u64, bytes: [u8; 3]) -> Result<bool, Fault> {
     let records = three(alloc)?;
     let found = of_block(alloc, records.as_slice(), block)?;
@@ -32,7 +33,7 @@ fn begins_by(alloc: Global, block: u32, point: u64, bytes: [u8; 3]) -> Result<bo
     Ok(page_of(&found, block, point).as_slice() == expected.as_slice())
 }
 
-/// A block, a point, and the bytes by which the page begins.
+/// A block, a point, and the first bytes of its page.
 const PAGES: &[(u32, u64, [u8; 3])] = &[
     (1, 3, [0, 0, 0]),
     (0, 2, [0x61, 0x62, 0]),

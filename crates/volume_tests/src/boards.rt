@@ -1,4 +1,4 @@
-//! A number that is raised and read, by one thread and by two.
+//! Tests of a board with one thread and with two.
 
 ghost use Rattle.board.specs.Seats.{IsSeatOf};
 
@@ -6,7 +6,7 @@ use board::{Board, BoardSeat};
 use std::test::*;
 use std::thread;
 
-// A seat raises the board to two numbers, and reads it after each.
+// Raises the board to two numbers. Returns the number read after each.
 fn raise_twice(board: &Board, seat: &mut BoardSeat, low: u64, high: u64) -> (u64, u64)
     requires { IsSeatOf board.now seat.old }
 {
@@ -24,7 +24,7 @@ struct Climb<'b> {
 }
 
 impl<'b> Climb<'b> {
-    // Whether each reading is at least what the seat has raised and read before.
+    // Returns whether each number read is at least what the seat has raised and read before.
     fn rises(self, low: u64, high: u64) -> bool {
         let Climb { board, mut seat } = self;
         let (first, second) = raise_twice(board, &mut seat, low, high);

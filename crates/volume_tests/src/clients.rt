@@ -1,4 +1,4 @@
-//! A client from before its first View on: none yet, a recovery, and the writer that it becomes.
+//! Tests of a client from before its first View on: unborn, a recovery, and the writer that it becomes.
 
 use super::packets::shared;
 use super::said::Said::{self, Count, Recovers, Writes, Yes};
@@ -15,45 +15,44 @@ use volume_model::Fault::{
 use wire::{Ack, Label, Message, Place, Report, View};
 use world::{AuthorityAction, Client, ClientAction, ClientState, Event};
 
-/// The label under which volume epoch 2 speaks.
+/// The label of volume epoch 2.
 const LABEL: Label = Label {
     volume: 2,
     member: 1,
 };
 
-/// What happens to a client, and what it is asked.
+/// An action of a client, or a question about it.
 #[derive(Clone, Copy)]
 enum Input {
-    /// It takes a View of volume epoch 2 that has the group at its root.
+    /// Take a View of volume epoch 2 with the group at its root.
     View,
-    /// It takes a member's report that it holds no record.
+    /// Take a member's report that it holds no record.
     Report(u8),
-    /// It takes a member's acknowledgement that it holds all records up to 0.
+    /// Take a member's acknowledgement of complete point 0.
     Ack(u8),
-    /// It cuts the log.
+    /// Cut the log.
     Cut,
-    /// It issues a transaction of a change of block 0 of each of these groups.
+    /// Issue a transaction with a change to block 0 of each of these groups.
     Issue(&'static [u8]),
-    /// It sends the record of a number once more.
+    /// Send the record with this LSN again.
     Resend(u64),
-    /// It asks for block 0 of group 0.
+    /// Request block 0 of group 0.
     Read,
-    /// It becomes a writer.
+    /// Become a writer.
     Open,
     /// Whether it can become a writer.
     MayOpen,
-    /// What it is.
+    /// Its stage.
     State,
     /// Its volume epoch.
     Volume,
-    /// How many groups the volume has.
+    /// The number of groups of the volume.
     Groups,
 }
 
-/// What happens to a client, and what it answers or why it refuses.
+/// An action or a question, and the expected answer or refusal.
 type Row = (Input, Result<Said, Fault>);
 
-/// The message that it takes.
 fn message(alloc: Global, input: Input) -> Result<Message, Fault> {
     let root = Place {
         configuration: 0,
@@ -80,7 +79,7 @@ fn message(alloc: Global, input: Input) -> Result<Message, Fault> {
     })
 }
 
-/// How many messages an action makes, where the client judges before it as it answers; `NoMemory` where it doesn't.
+/// Returns the number of messages of an action, or its refusal; `NoMemory` if `admits` and `act` don't agree.
 fn made(
     alloc: Global,
     client: &mut Client,
@@ -96,7 +95,7 @@ fn made(
     }
 }
 
-/// What the client answers to a question.
+/// Returns the answer to a question.
 fn shown(client: &Client, input: Input) -> Said {
     match input {
         Input::Volume => Count(client.volume() as usize),
@@ -109,7 +108,7 @@ fn shown(client: &Client, input: Input) -> Said {
     }
 }
 
-/// What the client answers.
+/// Returns the answer to an action or a question.
 fn answer(alloc: Global, client: &mut Client, input: Input) -> Result<Said, Fault> {
     match input {
         Input::View | Input::Report(_) | Input::Ack(_) => {
@@ -143,8 +142,8 @@ fn answer(alloc: Global, client: &mut Client, input: Input) -> Result<Said, Faul
     }
 }
 
-/// The place of the first row that isn't kept to, `None` where all are: by the writer that a volume is born with, or by the client of
-/// volume epoch 2 before any View.
+/// Returns the index of the first row with another answer, `None` if there is none. `first` selects the first writer,
+/// else the client is the unborn one of volume epoch 2.
 fn broken(alloc: Global, first: bool, rows: &[Row]) -> Result<Option<usize>, Fault> {
     let plan = checked(alloc, SIX)?;
     let mut client = if first {
@@ -160,7 +159,7 @@ fn broken(alloc: Global, first: bool, rows: &[Row]) -> Result<Option<usize>, Fau
     Ok(None)
 }
 
-/// A client is nothing before its first View, and a recovery from then on.
+/// A client is unborn before its first View, and a recovery from then on.
 const BEGINS_BY_A_VIEW: &[Row] = &[
     (Input::Volume, Ok(Count(2))),
     (Input::Groups, Ok(Count(1))),
@@ -173,7 +172,7 @@ const BEGINS_BY_A_VIEW: &[Row] = &[
     (Input::Groups, Ok(Count(1))),
 ];
 
-/// A recovery that installs refuses what isn't for it, and what a writer alone does.
+/// A recovery that installs refuses messages for others, and the actions of writers.
 const A_RECOVERY_REFUSES: &[Row] = &[
     (Input::View, Ok(Count(1))),
     (Input::Report(0), Ok(Count(0))),
@@ -185,7 +184,7 @@ const A_RECOVERY_REFUSES: &[Row] = &[
     (Input::Resend(1), Err(NotOpen)),
 ];
 
-/// It becomes a writer once four have installed.
+/// The client becomes a writer once four members have acknowledged its install.
 const READS_CUTS_AND_OPENS: &[Row] = &[
     (Input::View, Ok(Count(1))),
     (Input::Report(0), Ok(Count(0))),
@@ -204,7 +203,7 @@ const READS_CUTS_AND_OPENS: &[Row] = &[
     (Input::Issue(&[0, 0]), Ok(Count(2))),
 ];
 
-/// The writer that a volume is born with takes no View of another volume epoch, and doesn't open again.
+/// The first writer takes no View of another volume epoch, and doesn't open again.
 const THE_FIRST_IS_OPEN: &[Row] = &[
     (Input::View, Err(NotAddressed)),
     (Input::State, Ok(Writes)),
@@ -215,7 +214,7 @@ const THE_FIRST_IS_OPEN: &[Row] = &[
     (Input::Read, Ok(Count(1))),
 ];
 
-/// What each table is of, whether its client is the first, and its rows.
+/// The name of each table, whether its client is the first writer, and its rows.
 const TABLES: &[(&str, bool, &[Row])] = &[
     ("begins by a view", false, BEGINS_BY_A_VIEW),
     ("a recovery refuses", false, A_RECOVERY_REFUSES),
@@ -230,7 +229,7 @@ fn clients(rt: HostRuntime) {
     }
 }
 
-/// The volume epoch and how many changes the copy of an issue of volume epoch 3 has that has two.
+/// Returns the volume epoch and the number of changes of a copied Issue.
 fn copied_issue(alloc: Global) -> Result<(u32, usize), Fault> {
     let issue = Event::Issue {
         volume: 3,
@@ -242,7 +241,7 @@ fn copied_issue(alloc: Global) -> Result<(u32, usize), Fault> {
     }
 }
 
-/// The group, the member and the number of the copy of an offer of 1, 2 and 3.
+/// Returns the fields of a copied Offer.
 fn copied_offer() -> Result<(u8, u8, u64), Fault> {
     let offer = Event::Offer {
         group: 1,
@@ -261,7 +260,7 @@ fn events_are_copied(rt: HostRuntime) {
     assert_eq!(rt; copied_offer(), Ok((1, 2, 3)));
 }
 
-/// What the authority judges and how it acts, each by an act alone.
+/// Returns what the authority admits and does.
 fn authority_acts(
     alloc: Global,
 ) -> Result<(Result<(), Fault>, u32, [Result<(), Fault>; 2]), Fault> {
@@ -278,7 +277,7 @@ fn authority_acts(
     Ok((admitted, authority.last_volume(), [judged, done]))
 }
 
-/// It assigns volume epoch 2, and sends the client of an earlier one nothing.
+/// The authority assigns volume epoch 2, and refuses a Refresh of an earlier one.
 #[test]
 fn the_authority_acts(rt: HostRuntime) {
     assert_eq!(rt;

@@ -1,4 +1,4 @@
-//! Copies that members send to one that isn't whole, in pieces, and what they hold together.
+//! Tests of copies in pieces, and of what they hold together.
 
 use super::packets::{chain, recovered};
 use hydration::{Change, Copied, Hydration, Keeping, newest_with, senders, with_found};
@@ -11,32 +11,32 @@ use std::test::*;
 use volume_model::Fault;
 use wire::{Contents, CopyPart, CopyReport};
 
-/// A piece of a copy: its number, of how many it is, and its records, those above a number up to another.
+/// A piece of a copy: its number, the number of pieces, and its records, which are those above one LSN up to another.
 type Part = (u16, u16, u64, u64);
 
-/// A lineage: the volume epoch of the volume's only recovery, and its cut.
+/// A lineage: the volume epoch and the cut of the volume's only recovery.
 type Past = (u32, u64);
 
 /// The lineage that a volume is born with.
 const BIRTH: Past = (1, 0);
 
-/// What a member sends.
+/// A message of a member.
 #[derive(Clone, Copy)]
 enum Sent {
-    /// A piece of the copy of this number that member 0 sends, under the lineage of the birth.
+    /// A piece, sent by member 0, of the copy with this number, with the lineage of the birth.
     Piece(u64, Part),
-    /// A member's first copy, in one piece: the records from 1 up to a number, under a lineage.
+    /// A member's first copy, in one piece: the records from 1 up to an LSN, with a lineage.
     Copy(u8, Past, u64),
 }
 
-/// How copies of member 0 make a member whole, `None` where they don't: the volume epoch and the start of its lineage, and how many
-/// records it has. Or why a piece is refused.
+/// The hydration of member 0's copies: the volume epoch and the start of the lineage, and the number of records; `None`
+/// if the copies aren't enough. Or the refusal of a piece.
 type Answer = Result<Option<(u32, u64, usize)>, Fault>;
 
-/// What is sent, and what the copies make then.
+/// A message, and the expected hydration after it.
 type Row = (Sent, Answer);
 
-/// The message that a member sends at membership epoch 2.
+/// Returns the message of a member at membership epoch 2.
 fn report(alloc: Global, sent: Sent) -> Result<CopyReport, Fault> {
     let (from, (volume, cut), series, (piece, of, before, last)) = match sent {
         Sent::Piece(series, part) => (0, BIRTH, series, part),
@@ -60,7 +60,7 @@ fn report(alloc: Global, sent: Sent) -> Result<CopyReport, Fault> {
     })
 }
 
-/// What the copies make.
+/// Returns the hydration of the copies.
 fn made(alloc: Global, hydration: &Hydration) -> Answer {
     let Some(state) = hydration.finish(alloc, &Expr::Member(0))? else {
         return Ok(None);
@@ -69,13 +69,13 @@ fn made(alloc: Global, hydration: &Hydration) -> Answer {
     Ok(Some((state.volume, start, state.contents.records.len())))
 }
 
-/// Takes what is sent, and returns what the copies make then.
+/// Takes a message. Returns the hydration after it.
 fn answer(alloc: Global, hydration: &mut Hydration, sent: Sent) -> Answer {
     hydration.take(&report(alloc, sent)?)?;
     made(alloc, hydration)
 }
 
-/// The place of the first row that isn't kept to, `None` where all are.
+/// Returns the index of the first row with another answer, `None` if there is none.
 fn broken(alloc: Global, rows: &[Row]) -> Option<usize> {
     let mut hydration = Hydration::new(alloc);
     for (place, (sent, expected)) in rows.iter().enumerate() {
@@ -86,8 +86,8 @@ fn broken(alloc: Global, rows: &[Row]) -> Option<usize> {
     None
 }
 
-/// Of a member that isn't there; of one that isn't read; of member 0, whose lineage is the newer one; and another one of it, of which
-/// nothing is kept.
+/// Copies of a number that isn't a member; of a member that isn't read; of member 0, with the newer lineage; and
+/// another one of it, which is ignored.
 const OF_A_READ_SET: &[Row] = &[
     (Sent::Copy(64, BIRTH, 1), Err(Fault::NotAddressed)),
     (Sent::Copy(1, BIRTH, 5), Ok(None)),
@@ -95,7 +95,7 @@ const OF_A_READ_SET: &[Row] = &[
     (Sent::Copy(0, BIRTH, 9), Ok(Some((2, 13, 3)))),
 ];
 
-/// Pieces of two copies don't make one, and a sender counts once all pieces of one are there; after that nothing more of it is kept.
+/// Pieces of two copies don't make one. A sender counts once all pieces of one copy came; later pieces are ignored.
 const OF_TWO_COPIES: &[Row] = &[
     (Sent::Piece(1, (0, 3, 0, 256)), Ok(None)),
     (Sent::Piece(2, (0, 3, 0, 256)), Ok(None)),
@@ -111,7 +111,7 @@ const OF_TWO_COPIES: &[Row] = &[
     (Sent::Piece(2, (0, 2, 0, 256)), Err(Fault::BadPiece)),
 ];
 
-/// The first piece of a number is kept, and the pieces may have any numbers of records, in any order.
+/// The first piece with each number is kept. Pieces may have any numbers of records, and come in any order.
 const IN_ANY_ORDER: &[Row] = &[
     (Sent::Piece(1, (3, 4, 0, 4)), Ok(None)),
     (Sent::Piece(1, (0, 4, 6, 9)), Ok(None)),
@@ -121,7 +121,8 @@ const IN_ANY_ORDER: &[Row] = &[
     (Sent::Piece(1, (1, 4, 9, 9)), Ok(Some((1, 0, 9)))),
 ];
 
-/// One of more pieces than there may be, one with too many records, one of as many pieces and records as there may be, and one with none.
+/// A copy of too many pieces, a piece with too many records, a piece with the most records of a copy of the most
+/// pieces, and one with none.
 const OF_EACH_SIZE: &[Row] = &[
     (Sent::Piece(1, (0, 4097, 0, 1)), Err(Fault::BadPiece)),
     (Sent::Piece(1, (0, 2, 0, 257)), Err(Fault::BadPiece)),
@@ -143,7 +144,8 @@ fn pieces(rt: HostRuntime) {
     }
 }
 
-/// Whether the sender's copy counts before it is kept, once it is, and after all were dropped, and whether it is kept once more.
+/// Returns whether the sender's copy counts before it is kept, after it is kept, whether it is kept again, and whether
+/// it counts after all were dropped.
 fn in_two_steps(alloc: Global) -> Result<[bool; 4], Fault> {
     let mut hydration = Hydration::new(alloc);
     let first = report(alloc, Sent::Copy(5, BIRTH, 1))?;
@@ -156,13 +158,15 @@ fn in_two_steps(alloc: Global) -> Result<[bool; 4], Fault> {
     Ok([before, after, again, hydration.senders().len() > 0])
 }
 
-/// A copy is kept in two steps, only as its sender's first complete one, and all copies are dropped at once.
+/// A copy is prepared and kept in two steps, only the first complete one of its sender, and all copies are dropped at
+/// once.
 #[test]
 fn copies_in_two_steps(rt: HostRuntime) {
     assert_eq!(rt; in_two_steps(rt.alloc()), Ok([false, true, false, false]));
 }
 
-/// The copy of a member, under a lineage and with the records from 1 up to a number; `NotAddressed` where there is no such member.
+/// Returns a member's report with a lineage and the records from 1 up to an LSN; `NotAddressed` if there is no such
+/// member.
 fn copied(alloc: Global, from: u8, past: Past, last: u64) -> Result<Copied, Fault> {
     if from > 63 {
         return Err(Fault::NotAddressed);
@@ -175,7 +179,7 @@ fn copied(alloc: Global, from: u8, past: Past, last: u64) -> Result<Copied, Faul
     })
 }
 
-/// Such copies.
+/// Returns the report of each input.
 fn copies(alloc: Global, input: &[(u8, Past, u64)]) -> Result<Vec<Copied>, Fault> {
     let mut copies: Vec<Copied> = Vec::new(alloc);
     for (from, past, last) in input {
@@ -184,7 +188,7 @@ fn copies(alloc: Global, input: &[(u8, Past, u64)]) -> Result<Vec<Copied>, Fault
     Ok(copies)
 }
 
-/// The newest lineage of copies and of what is kept, which is that of a recovery or, where there is none, no lineage.
+/// Returns the newest lineage of reports and of what is kept: that of a recovery, or none.
 fn newest(alloc: Global, input: &[(u8, Past, u64)], kept: Option<Past>) -> Result<Past, Fault> {
     let kept = match kept {
         Some((volume, cut)) => recovered(alloc, volume, cut)?,
@@ -195,13 +199,14 @@ fn newest(alloc: Global, input: &[(u8, Past, u64)], kept: Option<Past>) -> Resul
     Ok((newest.last_epoch(), newest.last_cut()))
 }
 
-/// The records 1 to 5 under two lineages, of which the newer cut all above 3.
+/// The records 1 to 5 with two lineages, of which the newer cut all above 3.
 const TWO: &[(u8, Past, u64)] = &[(0, (2, 3), 2), (2, BIRTH, 5)];
 
-/// Three copies, two of which know the same last volume epoch.
+/// Three reports, two of which have the same last volume epoch.
 const THREE: &[(u8, Past, u64)] = &[(4, BIRTH, 1), (5, (2, 3), 1), (1, (2, 5), 1)];
 
-/// Of two lineages with the same last volume epoch the first is the newest, and those of the copies come before what is kept.
+/// Of two lineages with the same last volume epoch the first is the newest, and those of reports come before the kept
+/// one.
 #[test]
 fn newest_of_copies(rt: HostRuntime) {
     for (copies, kept) in [
@@ -218,7 +223,7 @@ fn newest_of_copies(rt: HostRuntime) {
     }
 }
 
-/// How many members the two copies are of, and how many records they hold together.
+/// Returns the number of members that sent the two reports, and the number of records in both.
 fn held(alloc: Global) -> Result<(u8, usize), Fault> {
     let copies = copies(alloc, TWO)?;
     let lineage = recovered(alloc, 2, 3)?;

@@ -1,4 +1,4 @@
-//! Letters that are posted and collected, by one thread and by two.
+//! Tests of mailboxes with one thread and with two.
 
 ghost use Rattle.node_fleet.specs.Seats.{IsSeatOf};
 
@@ -7,7 +7,7 @@ use std::sync::Wait;
 use std::test::*;
 use std::thread;
 
-// One holder of a seat.
+// The holder of a seat.
 #[derive(Drop)]
 struct Replies<'m> {
     mail: &'m Mailbox,
@@ -24,7 +24,7 @@ impl<'m> Replies<'m> {
         mail.close(rt, &mut seat);
     }
 
-    // Whether these two letters come in this order, and then the closing letter.
+    // Returns whether these two letters come in this order, and then the closing letter.
     fn collects_two<R: Wait>(self, rt: &R, first: u64, second: u64) -> bool {
         let Replies { mail, mut seat } = self;
         let one = mail.collect(rt, &mut seat);

@@ -1,4 +1,5 @@
-//! Tests of the crates below the program, which would be proved once more with tests of their own.
+//! Tests of the crates below the program. They are in a crate of their own, so that those needn't be proved again with
+//! their tests.
 #![tactic(auto)]
 
 #[cfg(test)]

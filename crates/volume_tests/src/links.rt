@@ -1,4 +1,4 @@
-//! How far records hang together that come in several orders.
+//! Tests of the complete point of records that come in several orders.
 
 ghost use Rattle.std.specs.Prelude.{◌<◌};
 
@@ -6,19 +6,19 @@ use segment_core::Chains;
 use std::alloc::{AllocError, Global};
 use std::test::*;
 
-// A record's number, and the one before it in its group.
+// A record's LSN, and the one before it in its group.
 #[derive(Clone, Copy)]
 struct Link {
     number: u64,
     before: u64,
 }
 
-// Whether these records lead from the number down to 0.
+// Returns whether a chain of these records leads from the LSN down to 0.
 fn is_reached(chains: &Chains, held: &[Link], number: u64) -> bool {
     number == 0 || held.iter().any(|link| link.number == number && !chains.has_pending(link.before))
 }
 
-// Takes a record up, and returns the complete point.
+// Adds a record. Returns the complete point.
 fn take(
     alloc: Global,
     chains: &mut Chains,

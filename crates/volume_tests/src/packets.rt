@@ -1,4 +1,4 @@
-//! Records that tests speak of, their packets, and what is held of them.
+//! Records for tests.
 
 use lineage::Lineage;
 use redo_record::{Payload, Record, RecordSet, SharedRecord};
@@ -22,7 +22,8 @@ pub struct Line {
     pub point: bool,
 }
 
-/// The record of number 1, a consistency point of volume epoch 1, which writes `a` at the beginning of block 0 of group 0.
+/// The record with LSN 1, a consistency point of volume epoch 1, which writes `a` at the beginning of block 0 of group
+/// 0.
 pub const FIRST: Line = Line {
     lsn: 1,
     volume_epoch: 1,
@@ -36,7 +37,7 @@ pub const FIRST: Line = Line {
     point: true,
 };
 
-/// The same of another number, chained to the number before it.
+/// Returns the same record with another LSN, chained to the LSN before it.
 pub fn chained(lsn: u64) -> Line {
     let before = lsn.saturating_sub(1);
     Line {
@@ -48,7 +49,7 @@ pub fn chained(lsn: u64) -> Line {
     }
 }
 
-/// The packet of a record, `BadField` where there is no such record.
+/// Returns a shared record; `BadField` if there is no such record.
 pub fn packet(alloc: Global, line: Line) -> Result<SharedRecord, Fault> {
     let Some(bytes) = Payload::new(&[line.byte]) else {
         return Err(Fault::BadField);
@@ -78,7 +79,7 @@ pub fn packet(alloc: Global, line: Line) -> Result<SharedRecord, Fault> {
     Ok(SharedRecord::pack(alloc, record)?)
 }
 
-/// The chained records from a number up to another.
+/// Returns the chained records from one LSN up to another.
 pub fn chain(alloc: Global, first: u64, last: u64) -> Result<RecordSet, Fault> {
     let mut records = RecordSet::new(alloc);
     for lsn in first..=last {
@@ -87,8 +88,8 @@ pub fn chain(alloc: Global, first: u64, last: u64) -> Result<RecordSet, Fault> {
     Ok(records)
 }
 
-/// The lineage of a volume's first recovery, of this volume epoch and cut, over a plan with an allowance of 10. The volume is born with
-/// volume epoch 1.
+/// Returns the lineage of a volume's first recovery, with this volume epoch and cut and a LAL of 10. The volume was
+/// born with volume epoch 1.
 pub fn recovered(alloc: Global, volume_epoch: u32, cut: u64) -> Result<Lineage, Fault> {
     let birth = Lineage::birth(alloc)?;
     if volume_epoch <= birth.last_epoch() {
@@ -97,7 +98,7 @@ pub fn recovered(alloc: Global, volume_epoch: u32, cut: u64) -> Result<Lineage, 
     birth.extend(volume_epoch, cut, 10)
 }
 
-/// What a segment holds, as its reports share it.
+/// Returns shared contents, as reports have them.
 pub fn shared(alloc: Global, lineage: Lineage, records: RecordSet) -> Result<Arc<Contents>, Fault> {
     Ok(Arc::new(alloc, Contents { lineage, records })?)
 }

@@ -1,4 +1,4 @@
-//! The packets of one block, which a page is made of.
+//! The records of one block, for pages.
 
 ghost use Rattle.std.specs.Prelude.{◌≡◌, All, IfOk};
 ghost use Rattle.redo_record.specs.SharedRecord.{shared_redo};
@@ -6,7 +6,7 @@ ghost use Rattle.redo_record.specs.SharedRecord.{shared_redo};
 use redo_record::SharedRecord;
 use std::alloc::{AllocError, Global};
 
-/// Those of the packets that are of the block.
+/// Returns the records that are of the block.
 pub fn of_block(
     alloc: Global,
     packets: &[SharedRecord],

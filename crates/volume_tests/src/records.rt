@@ -1,4 +1,4 @@
-//! Records as bytes, and sets of them.
+//! Tests of encoded records and of sets of records.
 
 use super::packets::{FIRST, Line, packet};
 use redo_record::{RecordSet, SharedRecord, decode, encode};
@@ -6,19 +6,19 @@ use std::alloc::Global;
 use std::test::*;
 use volume_model::Fault;
 
-/// The record of number 1, a consistency point, that writes 61 at the beginning of block 0 of group 0.
+/// The record with LSN 1, a consistency point that writes 61 at the beginning of block 0 of group 0.
 const BYTES: [u8; 46] = [
     0, 0, 0, 0, 0, 0, 0, 1, 0, 0, 0, 1, 0, 0, 0, 0, 0, 0, 0, 0, 0, 0, 0, 0, 0, 0, 0, 0, 0, 0, 0, 0,
     0, 0, 0, 0, 0, 0, 0, 0, 0, 0, 0, 1, 1, 0x61,
 ];
 
-/// The number and the volume epoch of a record, and whether it is a consistency point.
+/// Returns the LSN and the volume epoch of a record, and whether it is a consistency point.
 fn read(bytes: &[u8]) -> Result<(u64, u32, bool), Fault> {
     let record = decode(bytes)?;
     Ok((record.lsn, record.volume_epoch, record.point))
 }
 
-/// Whether the record writes `a`, its packets are the same, and it is spelled as it was read.
+/// Returns whether the record writes `a`, its packets are the same, and it is encoded as it was decoded.
 fn written(alloc: Global) -> Result<[bool; 3], Fault> {
     let record = decode(&BYTES)?;
     let packet = SharedRecord::pack(alloc, record)?;
@@ -50,12 +50,12 @@ fn faults(rt: HostRuntime) {
     assert_eq!(rt; read(&flagged), Err(Fault::BadField));
 }
 
-/// The packet of the record of this number that writes one byte.
+/// Returns the shared record with this LSN that writes one byte.
 fn writing(alloc: Global, lsn: u64, byte: u8) -> Result<SharedRecord, Fault> {
     packet(alloc, Line { lsn, byte, ..FIRST })
 }
 
-/// The set of the records with these numbers that write these bytes, each of which enters twice.
+/// Returns the set of the records with these LSNs that write these bytes; each is added twice.
 fn set(alloc: Global, records: &[(u64, u8)]) -> Result<RecordSet, Fault> {
     let mut set = RecordSet::new(alloc);
     for (lsn, byte) in records {
@@ -66,7 +66,7 @@ fn set(alloc: Global, records: &[(u64, u8)]) -> Result<RecordSet, Fault> {
     Ok(set)
 }
 
-/// Whether the set has these records, in order.
+/// Returns whether the set has these records, in order.
 fn has(set: &RecordSet, records: &[(u64, u8)]) -> bool {
     for (packet, (lsn, byte)) in set.as_slice().iter().zip(records) {
         if packet.lsn() != *lsn || packet.record().bytes.as_slice() != [*byte].as_slice() {
@@ -76,8 +76,8 @@ fn has(set: &RecordSet, records: &[(u64, u8)]) -> bool {
     set.len() == records.len()
 }
 
-/// Whether a new set is empty, how many records the first of two sets has, whether the second has a record of the first, and whether both
-/// together have all.
+/// Returns whether a new set is empty, the number of records of the first of two sets, whether the second has a record
+/// of the first, and whether their union has all.
 fn sets_of_two(alloc: Global) -> Result<(bool, usize, bool, bool), Fault> {
     let empty = RecordSet::new(alloc).is_empty();
     let left = set(alloc, &[(3, 1), (1, 2), (2, 1), (1, 1)])?;

@@ -1,4 +1,4 @@
-//! What a recovery reads, cuts, installs and becomes.
+//! Tests of recoveries.
 
 use super::packets::{Line, chained, packet, shared};
 use super::said::Said::{self, Count, Found, Record, Yes};
@@ -12,7 +12,7 @@ use std::test::*;
 use volume_model::Fault::{self, AlreadyDone, NoLogRecord, NotAddressed, NotReady};
 use wire::{Ack, Label, Message, Place, Report, View};
 
-/// Three groups of member 0 alone. In the second, member 1 joins with the child of the root.
+/// Three groups of member 0 alone. In the second, member 1 is added by the child of the root.
 const THREE: &[u8] = br#"{"format":1,"lal":10,"groups":[
 {"configurations":[
 {"parent":null,"members":[0],"full":[0],"read":0,"write":0,"meets":{"rule":"clash","left":0,"right":0},"step":null}]},
@@ -22,25 +22,25 @@ const THREE: &[u8] = br#"{"format":1,"lal":10,"groups":[
 {"configurations":[
 {"parent":null,"members":[0],"full":[0],"read":0,"write":0,"meets":{"rule":"clash","left":0,"right":0},"step":null}]}]}"#;
 
-/// Where a group stands at its root.
+/// The place of a group at its root.
 const ROOT: Place = Place {
     configuration: 0,
     epoch: 1,
 };
 
-/// Where the second group stands once member 1 has joined.
+/// The place of the second group once member 1 was added.
 const CHILD: Place = Place {
     configuration: 1,
     epoch: 2,
 };
 
-/// The label under which volume epoch 2 speaks.
+/// The label of volume epoch 2.
 const LABEL: Label = Label {
     volume: 2,
     member: 1,
 };
 
-/// A log of volume epoch 1, whose records are chained one to another.
+/// A log of volume epoch 1, whose records form one chain.
 #[derive(Clone, Copy)]
 enum Log {
     /// Of one group. 3 and 5 are consistency points.
@@ -51,7 +51,7 @@ enum Log {
     OfTwo,
 }
 
-/// The record of an LSN.
+/// Returns the record with an LSN.
 fn line(log: Log, lsn: u64) -> Line {
     let line = chained(lsn);
     match log {
@@ -76,7 +76,7 @@ fn line(log: Log, lsn: u64) -> Line {
     }
 }
 
-/// The records of a log from a number up to another.
+/// Returns the records of a log from one LSN up to another.
 fn records(alloc: Global, log: Log, first: u64, last: u64) -> Result<RecordSet, Fault> {
     let mut records = RecordSet::new(alloc);
     for lsn in first..=last {
@@ -85,7 +85,7 @@ fn records(alloc: Global, log: Log, first: u64, last: u64) -> Result<RecordSet, 
     Ok(records)
 }
 
-/// The cut of a log, `None` where its records don't stand in growing LSN.
+/// Returns the cut of a log, `None` if its LSNs don't grow.
 fn cut(alloc: Global, log: Log, last: u64) -> Result<Option<u64>, Fault> {
     let mut records: Vec<redo_record::Record> = Vec::new(alloc);
     for lsn in 1..=last {
@@ -103,32 +103,31 @@ fn cut_of_a_long_log(rt: HostRuntime) {
     assert_eq!(rt; cut(rt.alloc(), Log::Long, 1007), Ok(Some(1000)));
 }
 
-/// What happens to a recovery, and what it is asked whether it would take or may do.
+/// An action of a recovery, or a question about it.
 #[derive(Clone, Copy)]
 enum Input {
-    /// A member of a group says that it holds the records of a log from a number up to another.
+    /// Take a member's report that it holds the records of a log from one LSN up to another.
     Report(u8, u8, Log, u64, u64),
-    /// The report of member 0 of a group.
+    /// Whether it would take the report of member 0 of a group.
     MayReport(u8),
-    /// It takes one more View of the groups' places.
+    /// Take one more View of the groups' places.
     View(&'static [Place]),
     MayView(&'static [Place]),
-    /// A member says that it holds the records up to 3.
+    /// Take a member's acknowledgement of complete point 3.
     Ack(u8),
     MayAck(u8),
-    /// It cuts the log.
+    /// Cut the log.
     Cut,
     MayCut,
     /// Whether it can become a writer.
     MayOpen,
-    /// What it has found.
+    /// The result of its cut.
     Find,
 }
 
-/// What happens to a recovery, and what it answers or why it refuses.
+/// An action or a question, and the expected answer or refusal.
 type Row = (Input, Result<Said, Fault>);
 
-/// A View of volume epoch 2.
 fn view(alloc: Global, places: &[Place]) -> Result<View, Fault> {
     let mut copies = Vec::new(alloc);
     copies.extend_from_slice(places)?;
@@ -138,7 +137,6 @@ fn view(alloc: Global, places: &[Place]) -> Result<View, Fault> {
     })
 }
 
-/// A member says what it holds.
 fn report(alloc: Global, group: u8, from: u8, records: RecordSet) -> Result<Report, Fault> {
     Ok(Report {
         group,
@@ -148,7 +146,7 @@ fn report(alloc: Global, group: u8, from: u8, records: RecordSet) -> Result<Repo
     })
 }
 
-/// A member says that it holds the records up to 3.
+/// Returns a member's acknowledgement of complete point 3.
 fn ack(from: u8) -> Ack {
     Ack {
         group: 0,
@@ -158,7 +156,7 @@ fn ack(from: u8) -> Ack {
     }
 }
 
-/// What the recovery has found.
+/// Returns the result of the recovery's cut.
 fn found(recovery: &Recovery) -> Said {
     match recovery.found() {
         Some(found) => Found(found.cut, found.lineage.last_start(), found.log.len()),
@@ -166,7 +164,7 @@ fn found(recovery: &Recovery) -> Said {
     }
 }
 
-/// Whether the recovery would take each message.
+/// Returns whether the recovery would take the message.
 fn judged(alloc: Global, recovery: &Recovery, input: Input) -> Result<Said, Fault> {
     match input {
         Input::MayReport(group) => {
@@ -182,7 +180,7 @@ fn judged(alloc: Global, recovery: &Recovery, input: Input) -> Result<Said, Faul
     Ok(Yes)
 }
 
-/// What the recovery answers.
+/// Returns the answer to an action or a question.
 fn answer(alloc: Global, recovery: &mut Recovery, input: Input) -> Result<Said, Fault> {
     match input {
         Input::Report(group, from, log, first, last) => {
@@ -200,7 +198,7 @@ fn answer(alloc: Global, recovery: &mut Recovery, input: Input) -> Result<Said, 
     }
 }
 
-/// The place of the first row that the recovery doesn't keep to, `None` where it keeps to all.
+/// Returns the index of the first row with another answer of the recovery, `None` if there is none.
 fn broken_by(alloc: Global, recovery: &mut Recovery, rows: &[Row]) -> Option<usize> {
     for (place, (input, expected)) in rows.iter().enumerate() {
         if answer(alloc, recovery, *input) != *expected {
@@ -210,14 +208,15 @@ fn broken_by(alloc: Global, recovery: &mut Recovery, rows: &[Row]) -> Option<usi
     None
 }
 
-/// A recovery of volume epoch 2, and how many messages its birth made.
+/// Returns a recovery of volume epoch 2, and the number of messages that its birth made.
 fn born(alloc: Global, text: &[u8], places: &[Place]) -> Result<(Recovery, usize), Fault> {
     let first = Message::View(view(alloc, places)?);
     let (recovery, fences) = Recovery::new(alloc, checked(alloc, text)?, &first)?;
     Ok((recovery, fences.len()))
 }
 
-/// How many messages the birth of a recovery of the plan of six makes, and the place of the first row that it doesn't keep to.
+/// Returns the number of messages that the birth of a recovery of the plan of six makes, and the index of the first row
+/// with another answer.
 fn broken(alloc: Global, rows: &[Row]) -> Result<(usize, Option<usize>), Fault> {
     let (mut recovery, fences) = born(alloc, SIX, &[ROOT])?;
     Ok((fences, broken_by(alloc, &mut recovery, rows)))
@@ -250,7 +249,7 @@ const READING: &[Row] = &[
     (Input::Cut, Err(NotReady)),
 ];
 
-/// What the recovery says before it does it.
+/// The recovery says what it would do before it does it.
 const JUDGES: &[Row] = &[
     (Input::MayReport(0), Ok(Yes)),
     (Input::MayReport(1), Err(NotAddressed)),
@@ -267,7 +266,7 @@ const TABLES: &[(&str, &[Row])] = &[
     ("judges", JUDGES),
 ];
 
-/// The birth of a recovery makes a fence for the only group.
+/// The birth of a recovery makes a Fence for the only group.
 #[test]
 fn recoveries(rt: HostRuntime) {
     for (what, rows) in TABLES {
@@ -275,7 +274,7 @@ fn recoveries(rt: HostRuntime) {
     }
 }
 
-/// Whether a recovery would be born by its first View, and by an acknowledgement.
+/// Returns whether a recovery would be born by its first View, and by an acknowledgement.
 fn births(alloc: Global) -> Result<[Result<(), Fault>; 2], Fault> {
     let plan = checked(alloc, SIX)?;
     let first = Message::View(view(alloc, &[ROOT])?);
@@ -290,7 +289,7 @@ fn births_by_a_view_alone(rt: HostRuntime) {
     assert_eq!(rt; births(rt.alloc()), Ok([Ok(()), Err(NotAddressed)]));
 }
 
-/// Four members say that they have installed what was found, which isn't looked for again.
+/// Four members acknowledge the install. The recovery doesn't cut again.
 const INSTALLED: &[Row] = &[
     (Input::Cut, Err(AlreadyDone)),
     (Input::Ack(0), Ok(Yes)),
@@ -299,7 +298,7 @@ const INSTALLED: &[Row] = &[
     (Input::Ack(3), Ok(Yes)),
 ];
 
-/// The first record of the writer begins behind the allowance, and follows the last one that was found.
+/// The writer's first LSN is above the start, and links to the last record found.
 const OPENED: &[writers::Row] = &[
     (writers::Input::Issue(&[0]), Ok(Count(1))),
     (writers::Input::Log, Ok(Count(4))),
@@ -308,11 +307,11 @@ const OPENED: &[writers::Row] = &[
     (writers::Input::Resend(4), Err(NoLogRecord)),
 ];
 
-/// Where rows aren't kept to by a recovery that has cut at 3, by the same once it was refused to open, and by the writer that it becomes;
-/// and why it was refused.
+/// The indexes of rows with another answer: of a recovery that has cut at 3, of the same after it was refused to open,
+/// and of the writer that it becomes; and the refusal.
 type Broken = ([Option<usize>; 3], Fault);
 
-/// A recovery opens too early, and again once four have installed.
+/// Opens a recovery too early, and again once four members have acknowledged its install.
 fn opening(alloc: Global) -> Result<Broken, Fault> {
     let (mut recovery, _) = born(alloc, SIX, &[ROOT])?;
     let cut = broken_by(alloc, &mut recovery, A_CUT_AT_3);
@@ -333,10 +332,11 @@ fn opens_once_installed(rt: HostRuntime) {
     assert_eq!(rt; opening(rt.alloc()), Ok(([None, None, None], NotReady)));
 }
 
-/// Of an Install its group, the membership epoch of its label, its number, of how many it is, and how many records it has.
+/// An Install: its group, the membership epoch of its label, the piece's number, the number of pieces, and the number
+/// of records.
 type Installed = (u8, u32, u16, u16, usize);
 
-/// Whether the message is such an Install.
+/// Returns whether the message is such an Install.
 fn is_install(message: &Message, expected: Installed) -> bool {
     let Message::Install(install) = message else {
         return false;
@@ -346,7 +346,7 @@ fn is_install(message: &Message, expected: Installed) -> bool {
     (install.group, label, install.piece, install.of, records) == expected
 }
 
-/// Whether the messages are these Installs, in order.
+/// Returns whether the messages are these Installs, in order.
 fn are_installs(messages: &[Message], expected: &[Installed]) -> bool {
     for (message, install) in messages.iter().zip(expected) {
         if !is_install(message, *install) {
@@ -356,14 +356,14 @@ fn are_installs(messages: &[Message], expected: &[Installed]) -> bool {
     messages.len() == expected.len()
 }
 
-/// The three groups of the plan say what they hold, of which the last has no record.
+/// The reports of the plan's three groups. The last group has no record.
 const OF_THREE_GROUPS: &[Row] = &[
     (Input::Report(0, 0, Log::OfTwo, 1, 257), Ok(Yes)),
     (Input::Report(1, 0, Log::OfTwo, 258, 857), Ok(Yes)),
     (Input::Report(2, 0, Log::OfTwo, 858, 857), Ok(Yes)),
 ];
 
-/// What is installed in the groups at their roots.
+/// The Installs of the groups at their roots.
 const AT_THE_ROOTS: &[Installed] = &[
     (0, 1, 0, 2, 256),
     (0, 1, 1, 2, 1),
@@ -373,10 +373,11 @@ const AT_THE_ROOTS: &[Installed] = &[
     (2, 1, 0, 1, 0),
 ];
 
-/// What is installed once more in the second group, which has moved.
+/// The Installs of the second group after it has moved.
 const AT_THE_CHILD: &[Installed] = &[(1, 2, 0, 3, 256), (1, 2, 1, 3, 256), (1, 2, 2, 3, 88)];
 
-/// Where the reports aren't taken, and whether what was found is installed in the groups and then once more in the second.
+/// Returns the index of the first report that isn't taken, and whether the Installs are right, for all groups and then
+/// for the second again.
 fn in_pieces(alloc: Global) -> Result<(Option<usize>, bool, bool), Fault> {
     let (mut recovery, _) = born(alloc, THREE, &[ROOT, ROOT, ROOT])?;
     let read = broken_by(alloc, &mut recovery, OF_THREE_GROUPS);
@@ -389,7 +390,7 @@ fn in_pieces(alloc: Global) -> Result<(Option<usize>, bool, bool), Fault> {
     ))
 }
 
-/// What was found is installed in order of group, then piece; of a group that has moved once more.
+/// The log found is installed in order of group, then piece, and again in a group that has moved.
 #[test]
 fn installs_in_pieces(rt: HostRuntime) {
     assert_eq!(rt; in_pieces(rt.alloc()), Ok((None, true, true)));

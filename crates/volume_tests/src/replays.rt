@@ -1,4 +1,4 @@
-//! Runs of the world, of which the writers' logs are compared record by record and the recoveries' lineages entry by entry.
+//! Tests of runs: the writers' logs are compared record by record, the recoveries' lineages entry by entry.
 
 use super::texts::{SIX, checked};
 use super::writers::changes;
@@ -8,7 +8,8 @@ use std::test::*;
 use volume_model::Fault::{self, BadTransaction, NotJoined};
 use world::{Event, Order, Outcome, run_orders};
 
-/// A line of a run: one event, or one for each of several members or messages. A line is named by its place, from 0.
+/// A line of a run: one event, or one for each of several members or messages. A line is identified by its index, from
+/// 0.
 #[derive(Clone, Copy)]
 enum Line {
     /// The authority assigns the next volume epoch.
@@ -17,9 +18,9 @@ enum Line {
     Grow,
     /// The authority makes a View for the client of a volume epoch.
     Refresh(u32),
-    /// A writer issues a transaction of a change of block 0 of each of these groups.
+    /// A writer issues a transaction with a change to block 0 of each of these groups.
     Issue(u32, &'static [u8]),
-    /// These members of a group each take a message, counted from 1, of the first event of a line.
+    /// These members of a group each take a message (from 1) of the first event of a line.
     Deliver(u8, &'static [u8], usize, u64),
     /// A client takes the first message of each event of a line.
     Take(u32, usize),
@@ -29,7 +30,7 @@ enum Line {
     Open(u32),
 }
 
-/// The members to which a write goes.
+/// The members that receive a Write.
 const FOUR: &[u8] = &[0, 1, 2, 3];
 
 /// Three bytes reach four of six members. Two bytes more reach one, and recovery 2 reads three others.
@@ -103,8 +104,8 @@ const FOURTH: &[Line] = &[
     Line::Cut(4),
 ];
 
-/// Two groups: a record of each, of which the second is held by one member. Recovery 2 reads it and is installed in all of the first
-/// group alone; recovery 3 reads others of the second group.
+/// Two groups with a record each; one member holds the second group's record. Recovery 2 reads it, and is installed on
+/// all members of the first group only. Recovery 3 reads other members of the second group.
 const IN_ONE_OF_TWO_GROUPS: &[Line] = &[
     Line::Issue(1, &[0, 1]),
     Line::Deliver(0, FOUR, 0, 1),
@@ -126,7 +127,7 @@ const IN_ONE_OF_TWO_GROUPS: &[Line] = &[
     Line::Cut(3),
 ];
 
-/// The second of two groups joins, and is written to before its install counts and after.
+/// The second of two groups joins, and is written to before its install has counted, and after.
 const A_GROUP_JOINS: &[Line] = &[
     Line::Issue(1, &[0]),
     Line::Issue(1, &[1]),
@@ -147,18 +148,17 @@ const GROUP: &[u8] =
 {\"rule\":\"clash\",\"left\":0,\"right\":0},{\"rule\":\"clash\",\"left\":0,\"right\":0},{\"rule\":\"clash\",\"left\":0,\"right\":0},\
 {\"rule\":\"clash\",\"left\":0,\"right\":0},{\"rule\":\"clash\",\"left\":0,\"right\":0},{\"rule\":\"clash\",\"left\":0,\"right\":0}]},\"step\":null}]}";
 
-/// Which plan a run is over.
+/// The plan of a run.
 #[derive(Clone, Copy)]
 enum Volume {
     /// One group of six.
     OneGroup,
-    /// Two groups of six, both there at birth.
+    /// Two groups of six, both at birth.
     TwoGroups,
-    /// Two groups of six, of which the second joins.
+    /// Two groups of six, of which the second joins later.
     OneOfTwo,
 }
 
-/// The text of a plan.
 fn text(alloc: Global, volume: Volume) -> Result<Vec<u8>, Fault> {
     let head: &[u8] = match volume {
         Volume::OneGroup => return Ok(Vec::from_slice(alloc, SIX)?),
@@ -173,7 +173,8 @@ fn text(alloc: Global, volume: Volume) -> Result<Vec<u8>, Fault> {
     Ok(text)
 }
 
-/// The index of the first event of a line, and how many events the line has; none of a line that isn't there yet.
+/// Returns the index of the first event of a line, and the number of its events; no events for a line that isn't there
+/// yet.
 fn events_of(firsts: &[usize], line: usize) -> (usize, usize) {
     match (firsts.get(line), firsts.get(line.saturating_add(1))) {
         (Some(first), Some(next)) => (*first, next.saturating_sub(*first)),
@@ -181,12 +182,12 @@ fn events_of(firsts: &[usize], line: usize) -> (usize, usize) {
     }
 }
 
-/// The index of an event, as orders name it.
+/// Returns the index of an event as orders have it.
 fn index(event: usize) -> u32 {
     u32::try_from(event).unwrap_or(u32::MAX)
 }
 
-/// An event of a line that names no message.
+/// Returns the event of a line that names no message.
 fn event(alloc: Global, line: Line) -> Result<Event, Fault> {
     Ok(match line {
         Line::Grow => Event::Grow,
@@ -230,7 +231,7 @@ fn push(alloc: Global, orders: &mut Vec<Order>, firsts: &[usize], line: Line) ->
     Ok(())
 }
 
-/// The outcome of lines, given in parts, over a plan.
+/// Returns the outcome of lines, given in parts, over a plan.
 fn outcome(alloc: Global, volume: Volume, parts: &[&[Line]]) -> Result<Outcome, Fault> {
     let mut orders = Vec::new(alloc);
     let mut firsts = vec![in alloc; 0usize]?;
@@ -244,7 +245,7 @@ fn outcome(alloc: Global, volume: Volume, parts: &[&[Line]]) -> Result<Outcome, 
     run_orders(alloc, &plan, orders)
 }
 
-/// The refusals of a run, in order.
+/// Returns the refusals of a run, in order.
 fn refusals(alloc: Global, outcome: &Outcome) -> Result<Vec<Fault>, Fault> {
     let mut refused = Vec::new(alloc);
     for result in &outcome.results {
@@ -255,7 +256,8 @@ fn refusals(alloc: Global, outcome: &Outcome) -> Result<Vec<Fault>, Fault> {
     Ok(refused)
 }
 
-/// The volume epoch of a record of a writer's log, and the numbers before it in the volume, in its group and on its block.
+/// Returns the volume epoch of a record of a writer's log, and the LSNs before it in the volume, in its group and on
+/// its block.
 fn record(outcome: &Outcome, volume: u32, lsn: u64) -> Option<(u32, u64, u64, u64)> {
     let writer = outcome.writers.iter().find(|it| it.volume == volume)?;
     let record = writer.log.record_at(lsn)?.record();
@@ -267,7 +269,7 @@ fn record(outcome: &Outcome, volume: u32, lsn: u64) -> Option<(u32, u64, u64, u6
     ))
 }
 
-/// Whether the lineage of a recovery has exactly these entries.
+/// Returns whether the lineage of a recovery has exactly these entries.
 fn has_lineage(
     alloc: Global,
     outcome: &Outcome,
@@ -289,12 +291,12 @@ fn has_lineage(
     Ok(false)
 }
 
-/// Whether an entry has this volume epoch, cut and start.
+/// Returns whether an entry has this volume epoch, cut and start.
 fn is(entry: &Entry, due: (u32, u64, u64)) -> bool {
     entry.volume_epoch == due.0 && entry.cut == due.1 && entry.start == due.2
 }
 
-/// The record of a recovered writer follows the log that was found, in the volume, in its group and on its block.
+/// The record of a recovered writer links to the log found, in the volume, in its group and on its block.
 fn recovered(alloc: Global) -> Result<(Vec<Fault>, Option<(u32, u64, u64, u64)>, bool), Fault> {
     let outcome = outcome(alloc, Volume::OneGroup, &[CUT_AT_3, OPENED])?;
     let lineage = has_lineage(alloc, &outcome, 2, &[(1, 0, 0), (2, 3, 13)])?;
@@ -309,7 +311,7 @@ fn a_recovered_writer_goes_on_from_what_was_found(rt: HostRuntime) -> Result<(),
     Ok(())
 }
 
-/// The parts of a run over a plan, a recovery, and its lineage.
+/// The parts of a run over a plan, one of its recoveries, and the expected lineage.
 type LineageRow = (
     Volume,
     &'static [&'static [Line]],
@@ -356,7 +358,7 @@ const LINEAGES: &[LineageRow] = &[
     ),
 ];
 
-/// Whether a run refuses nothing and a recovery of it has a lineage.
+/// Returns whether a run refuses nothing and the recovery has the lineage.
 fn keeps_to(alloc: Global, row: &LineageRow) -> Result<bool, Fault> {
     let (volume, parts, recovery, entries) = *row;
     let outcome = outcome(alloc, volume, parts)?;
@@ -370,7 +372,7 @@ fn lineages(rt: HostRuntime) {
     }
 }
 
-/// The first record of a group that joined follows the volume's log, and none of its group.
+/// The first record of a group that joined links to the volume's log, and to no record of its group.
 #[test]
 fn a_group_that_joined_begins_anew(rt: HostRuntime) -> Result<(), Fault> {
     let outcome = outcome(rt.alloc(), Volume::OneOfTwo, &[A_GROUP_JOINS])?;

@@ -1,35 +1,35 @@
-//! What the authority and clients answer.
+//! Answers of the authority and of clients.
 
 use wire::Message;
 
-/// What the authority or a client answers, by what of it matters.
+/// An answer of the authority or a client, in short.
 #[derive(Clone, Copy, PartialEq, Eq)]
 pub enum Said {
-    /// That it is so, or may be or was done.
+    /// It is so, or the call may be made or was made.
     Yes,
-    /// That it isn't so.
+    /// It isn't so.
     No,
-    /// How many messages it makes, or how many there are of what was asked for.
+    /// The number of messages or of what was asked for.
     Count(usize),
     /// An LSN.
     Point(u64),
     /// A step of a group: its configuration and the membership epoch.
     Step(u8, u8, u32),
-    /// A View: its volume epoch, how many groups it names, and the configuration and the membership epoch of the first.
+    /// A View: its volume epoch, the number of its groups, and the configuration and the membership epoch of the first.
     View(u32, usize, u8, u32),
-    /// An install in a group, alone.
+    /// A single Install of a group.
     Install(u8),
-    /// A record of a log: its LSN and the one before it in the volume.
+    /// A record of a log: its LSN, and the one before it in the volume.
     Record(u64, u64),
-    /// What a recovery has found: where it has cut, its start, and how many records.
+    /// The result of a cut: the cut, the start, and the number of records.
     Found(u64, u64, usize),
-    /// That it is a recovery.
+    /// The client is a recovery.
     Recovers,
-    /// That it is a writer.
+    /// The client is a writer.
     Writes,
 }
 
-/// What a message says: a step, a View, an install, the record of a Write, or the point of a question for a page.
+/// Returns a message in short: a step, a View, an Install, the record of a Write, or the point of a PageAsk.
 pub fn said_by(message: &Message) -> Said {
     match message {
         Message::StepTo(step) => {

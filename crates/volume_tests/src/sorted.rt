@@ -1,4 +1,4 @@
-//! Sets of records in sorted runs, whose records come in several orders.
+//! Tests of sorted runs, with records that come in several orders.
 
 use redo_record::{Payload, Record, RecordSet, SharedRecord};
 use segment_core::Runs;
@@ -7,7 +7,7 @@ use std::test::*;
 
 const COUNT: u64 = 10_000;
 
-// The packet of a record of this number on this block, without any before it.
+// Returns the record with this LSN on this block, without links.
 fn packet(alloc: Global, lsn: u64, block: u32) -> Result<SharedRecord, Fail> {
     let record = Record {
         lsn: lsn.clamp(1, 2 * COUNT),
@@ -24,7 +24,7 @@ fn packet(alloc: Global, lsn: u64, block: u32) -> Result<SharedRecord, Fail> {
     Ok(SharedRecord::pack(alloc, record)?)
 }
 
-// Takes a record up, and returns whether it is new.
+// Adds a record. Returns whether it is new.
 fn take(alloc: Global, runs: &mut Runs, packet: SharedRecord) -> Result<bool, AllocError> {
     let Some(place) = runs.place_for(&packet) else {
         return Ok(false);
@@ -34,7 +34,7 @@ fn take(alloc: Global, runs: &mut Runs, packet: SharedRecord) -> Result<bool, Al
     Ok(true)
 }
 
-// How many records have this number.
+// Returns the number of records with this LSN.
 fn count_of(runs: &Runs, lsn: u64) -> usize {
     let mut place = runs.first_at_least(lsn);
     let mut count: usize = 0;
@@ -48,7 +48,7 @@ fn count_of(runs: &Runs, lsn: u64) -> usize {
     count
 }
 
-// Takes up the records 1 to 10,000 in steps of so many, and returns whether they come in order again.
+// Adds the records 1 to 10,000 in steps of `step`. Returns whether the runs have them in order.
 fn is_sorted(alloc: Global, step: u64) -> Result<bool, Fail> {
     let mut runs = Runs::new(alloc);
     for k in 0..COUNT {
@@ -75,7 +75,7 @@ fn records_come_in_order_again(rt: HostRuntime) -> Result<(), Fail> {
     Ok(())
 }
 
-// The records 2, 4 to 1024, which fill a run.
+// Returns the records 2, 4 to 1024, which fill a run.
 fn evens(alloc: Global) -> Result<RecordSet, Fail> {
     let mut set = RecordSet::new(alloc);
     for k in 1..513 {
@@ -84,7 +84,7 @@ fn evens(alloc: Global) -> Result<RecordSet, Fail> {
     Ok(set)
 }
 
-// One more before the first, after each sixteenth, and so after the last.
+// A record is added before the first, after each sixteenth, and so after the last.
 #[test]
 fn a_full_run_takes_one_more(rt: HostRuntime) -> Result<(), Fail> {
     let set = evens(rt.alloc())?;

@@ -1,4 +1,4 @@
-//! Numbers that are spent: volume epochs, copies and LSNs.
+//! Tests of numbers that run out: volume epochs, copies and LSNs.
 
 use super::texts::{SIX, checked};
 use super::writers::changes;
@@ -13,13 +13,13 @@ use std::test::*;
 use volume_model::Fault::{self, EpochsSpent, LsnSpent, SeriesSpent};
 use wire::{Ack, Contents, CopyAsk, Label, Message, Place, Report, View};
 
-/// A group at its root.
+/// The place of a group at its root.
 const ROOT: Place = Place {
     configuration: 0,
     epoch: 1,
 };
 
-/// The label under which volume epoch 3 speaks.
+/// The label of volume epoch 3.
 const LABEL: Label = Label {
     volume: 3,
     member: 1,
@@ -28,7 +28,7 @@ const LABEL: Label = Label {
 /// The greatest LSN.
 const LAST_LSN: u64 = 1 << 62;
 
-/// Whether the authority may assign a volume epoch, and whether it does, once it has assigned this one.
+/// Returns whether the authority may assign a volume epoch, and whether it does, once it has assigned this one.
 fn assigned(alloc: Global, last_volume: u32) -> Result<[Result<(), Fault>; 2], Fault> {
     let snapshot = AuthoritySnapshot {
         last_volume,
@@ -52,7 +52,7 @@ fn the_last_volume_epoch(rt: HostRuntime) {
     );
 }
 
-/// How many messages a segment that has sent so many copies answers a question for copies with.
+/// Returns the number of messages that answer a CopyAsk, by a segment that has made this many copies.
 fn copied(alloc: Global, copied: u64) -> Result<usize, Fault> {
     let contents = Contents {
         lineage: Lineage::birth(alloc)?,
@@ -76,7 +76,8 @@ fn the_last_copy(rt: HostRuntime) {
     assert_eq!(rt; copied(rt.alloc(), LAST_LSN), Err(SeriesSpent));
 }
 
-/// A recovery of volume epoch 3 that has read three members that hold no record, whose lineage's last recovery started at this LSN.
+/// Returns a recovery of volume epoch 3 with reports of three members that hold no record; their lineage's start is
+/// this LSN.
 fn reading(alloc: Global, start: u64) -> Result<Recovery, Fault> {
     let view = Message::View(View {
         volume: 3,
@@ -104,7 +105,7 @@ fn reading(alloc: Global, start: u64) -> Result<Recovery, Fault> {
     Ok(recovery)
 }
 
-/// The start of the writer that a recovery becomes, and why it can't issue a record.
+/// Returns the start of the writer that a recovery becomes, and the refusal of an Issue.
 fn opened(alloc: Global, start: u64) -> Result<(u64, Option<Fault>), Fault> {
     let mut recovery = reading(alloc, start)?;
     recovery.cut(alloc)?;
@@ -123,7 +124,7 @@ fn opened(alloc: Global, start: u64) -> Result<(u64, Option<Fault>), Fault> {
     Ok((writer.start(), refused))
 }
 
-/// The plan's allowance is 10.
+/// The plan's LAL is 10.
 #[test]
 fn the_last_lsn(rt: HostRuntime) {
     assert_eq!(rt; opened(rt.alloc(), LAST_LSN - 11), Ok((LAST_LSN - 1, None)));

@@ -1,4 +1,4 @@
-//! Plans' texts that several tests read, and the plans that they spell.
+//! Plans for tests.
 
 use plan::{CheckedPlan, check_plan, read_plan};
 use std::alloc::Global;
@@ -13,12 +13,12 @@ pub const SIX: &[u8] =
 {\"rule\":\"clash\",\"left\":0,\"right\":0},{\"rule\":\"clash\",\"left\":0,\"right\":0},{\"rule\":\"clash\",\"left\":0,\"right\":0},\
 {\"rule\":\"clash\",\"left\":0,\"right\":0},{\"rule\":\"clash\",\"left\":0,\"right\":0},{\"rule\":\"clash\",\"left\":0,\"right\":0}]},\"step\":null}]}]}";
 
-/// Two groups of one member each, which reads and writes alone. The first is there at birth.
+/// Two groups of one member each, which reads and writes alone. The first exists at birth.
 pub const GROWING: &[u8] = b"{\"format\":3,\"lal\":10,\"born\":1,\"groups\":[\
 {\"configurations\":[{\"parent\":null,\"members\":[0],\"full\":[0],\"read\":0,\"write\":0,\"meets\":{\"rule\":\"clash\",\"left\":0,\"right\":0},\"step\":null}]},\
 {\"configurations\":[{\"parent\":null,\"members\":[0],\"full\":[0],\"read\":0,\"write\":0,\"meets\":{\"rule\":\"clash\",\"left\":0,\"right\":0},\"step\":null}]}]}";
 
-/// The plan that a text spells: `Malformed` where it is no plan, `Certificate` where the plan isn't certified.
+/// Returns the checked plan of a text: `Malformed` if it isn't a plan, `Certificate` if the plan isn't certified.
 pub fn checked(alloc: Global, text: &[u8]) -> Result<Arc<CheckedPlan>, Fault> {
     let Ok(plan) = read_plan(alloc, text) else {
         return Err(Fault::Malformed);

@@ -1,4 +1,4 @@
-//! Messages as bytes: each kind there and back, and bytes that spell none.
+//! Tests of messages as bytes: each kind is encoded and decoded, and bytes that encode none are refused.
 
 use super::packets::{FIRST, chained, packet, recovered};
 use lineage::Lineage;
@@ -13,24 +13,24 @@ use wire::{
     Page, PageAsk, Place, Report, StepTo, View, Write,
 };
 
-/// A label whose epochs differ in each of their bytes.
+/// A label whose epochs have different bytes.
 const LABEL: Label = Label {
     volume: 0x0102_0304,
     member: 0x0506_0708,
 };
 
-/// A place whose epoch differs in each of its bytes.
+/// A place whose epoch has different bytes.
 const PLACE: Place = Place {
     configuration: 9,
     epoch: 0x0a0b_0c0d,
 };
 
-/// The bytes of the record of number 1, which writes `a` at the beginning of block 0.
+/// The bytes of the record with LSN 1, which writes `a` at the beginning of block 0.
 const RECORD: &[u8] =
     b"\x00\x00\x00\x00\x00\x00\x00\x01\x00\x00\x00\x01\x00\x00\x00\x00\x00\x00\x00\x00\x00\x00\x00\x00\x00\x00\x00\x00\
 \x00\x00\x00\x00\x00\x00\x00\x00\x00\x00\x00\x00\x00\x00\x00\x01\x01a";
 
-/// Two entries and two records.
+/// Returns contents with two entries and two records.
 fn contents(alloc: Global) -> Result<Contents, Fault> {
     let mut records = RecordSet::new(alloc);
     records.insert(packet(alloc, FIRST)?)?;
@@ -41,7 +41,7 @@ fn contents(alloc: Global) -> Result<Contents, Fault> {
     })
 }
 
-/// A message of a kind, and the beginning of its bytes.
+/// The number of a kind, and the first bytes of its message.
 type Row = (u8, &'static [u8]);
 
 /// The version, the kind and the first fields of each kind of message.
@@ -87,7 +87,7 @@ const ROWS: &[Row] = &[
     ),
 ];
 
-/// A message of a kind that carries contents, from 4 on, or a record.
+/// Returns a message of a kind that carries contents, from 4 on, or a record.
 fn carrying(alloc: Global, kind: u8) -> Result<Message, Fault> {
     let (group, label, from) = (3, LABEL, 5);
     Ok(match kind {
@@ -131,7 +131,7 @@ fn carrying(alloc: Global, kind: u8) -> Result<Message, Fault> {
     })
 }
 
-/// A message of a kind.
+/// Returns a message of a kind.
 fn message(alloc: Global, kind: u8) -> Result<Message, Fault> {
     let (group, label, from, scl) = (3, LABEL, 5, 0x0102_0304_0506_0708);
     let block = PLACE.epoch;
@@ -178,11 +178,11 @@ fn message(alloc: Global, kind: u8) -> Result<Message, Fault> {
     })
 }
 
-/// How many bytes a message of each kind takes.
+/// The number of bytes of a message of each kind.
 const LENGTHS: [usize; 12] = [15, 8, 11, 152, 155, 57, 57, 20, 7, 160, 23, 536];
 
-/// Whether a message is spelled as is due, is read back with the same spelling, and each shorter text is refused as too short and a
-/// longer one as too long.
+/// Returns whether a message is encoded as expected, is decoded and encoded to the same bytes, and each shorter text is
+/// refused as too short and a longer one as too long.
 fn is_kept(alloc: Global, row: &Row, length: usize) -> Result<bool, Fault> {
     let (kind, front) = *row;
     let text = encode(alloc, &message(alloc, kind)?)?;
@@ -215,14 +215,14 @@ fn each_kind_there_and_back(rt: HostRuntime) {
     }
 }
 
-/// Bytes that spell no message, and the first fault.
+/// Bytes that encode no message, and the first fault.
 const SPOILT: &[(&[u8], Fault)] = &[
     (b"", Short),
     (b"\x02\x09\x03\x00\x00\x00\x01", BadField),
     (b"\x01", Short),
     (b"\x01\x00", BadField),
     (b"\x01\x0d", BadField),
-    // A View of volume epoch 0, and one of more groups than there are bytes.
+    // A View of volume epoch 0, and one with more groups than bytes.
     (b"\x01\x01\x00\x00\x00\x00\x00\x00\x00\x00", BadField),
     (b"\x01\x01\x00\x00\x00\x01\xff\xff\xff\xff", Short),
     // An entry whose cut is above its start.
@@ -233,7 +233,7 @@ const SPOILT: &[(&[u8], Fault)] = &[
     ),
 ];
 
-/// The fault of bytes, none where they spell a message.
+/// Returns the fault of bytes, `None` if they encode a message.
 fn fault(alloc: Global, bytes: &[u8]) -> Option<Fault> {
     decode(alloc, bytes).err()
 }
@@ -245,7 +245,7 @@ fn bytes_that_spell_no_message(rt: HostRuntime) {
     }
 }
 
-/// Whether a report of one entry whose records are this one twice is refused, and of it once isn't.
+/// Returns the refusal of a report that has its only record twice, and of the same report with the record once.
 fn twice_and_once(alloc: Global) -> Result<(Option<Fault>, Option<Fault>), Fault> {
     let mut once = encode(
         alloc,
@@ -283,7 +283,8 @@ fn a_record_stands_once(rt: HostRuntime) {
     assert_eq!(rt; twice_and_once(rt.alloc()), Ok((Some(BadField), None)));
 }
 
-/// The packet of a record: its bytes, what they are read as, and the faults of their beginnings, of one byte more, and of a point of 2.
+/// Returns whether a record's packet has the right bytes, is decoded from them, and is refused for each beginning of
+/// them; and the faults of one byte more and of a point of 2.
 fn packed(alloc: Global) -> Result<(bool, bool, bool, [Option<Fault>; 2]), Fault> {
     let record = packet(alloc, FIRST)?;
     let made = Packet::pack(record.record());

@@ -1,4 +1,4 @@
-//! What a writer does and answers.
+//! Tests of writers.
 
 use super::said::Said::{self, Count, Install, Point, Record, Yes};
 use super::said::said_by;
@@ -11,7 +11,7 @@ use volume_model::Fault::{
 use wire::{Ack, Label, Place, View};
 use writer_core::{Change, Writer};
 
-/// One group of seven members: three of either six read, and four of each of both sixes write.
+/// One group of seven members. Three of either six read, and four of each of both sixes write.
 const BOTH_SIXES: &[u8] =
     b"{\"format\":1,\"lal\":10,\"groups\":[{\"configurations\":[{\"parent\":null,\"members\":[0,1,2,3,4,5,6],\"full\":[0,1,2,3,4,5,6],\
 \"read\":{\"k\":1,\"of\":[{\"k\":3,\"of\":[0,1,2,3,4,5]},{\"k\":3,\"of\":[0,1,2,3,4,6]}]},\
@@ -25,8 +25,8 @@ const BOTH_SIXES: &[u8] =
 {\"rule\":\"clash\",\"left\":0,\"right\":1},{\"rule\":\"clash\",\"left\":0,\"right\":1},{\"rule\":\"clash\",\"left\":0,\"right\":1}]}]}},\
 \"step\":null}]}]}";
 
-/// The root of six members, of which three read and four write, and a child where member 6 joins: three of either six read there, and four
-/// of each of both sixes write.
+/// The root of six members, of which three read and four write, and a child that adds member 6: three of either six
+/// read, and four of each of both sixes write.
 const STEPS: &[u8] =
     b"{\"format\":1,\"lal\":10,\"groups\":[{\"configurations\":[{\"parent\":null,\"members\":[0,1,2,3,4,5],\"full\":[0,1,2,3,4,5],\"read\
 \":{\"k\":3,\"of\":\"all\"},\"write\":{\"k\":4,\"of\":\"all\"},\"meets\":{\"rule\":\"match\",\"left\":0,\"right\":0,\"pairs\":[[0,\
@@ -81,7 +81,6 @@ enum Plan {
     Growing,
 }
 
-/// Its text.
 fn text(plan: Plan) -> &'static [u8] {
     match plan {
         Plan::Six => SIX,
@@ -92,26 +91,26 @@ fn text(plan: Plan) -> &'static [u8] {
     }
 }
 
-/// What happens to a writer, and what it is asked.
+/// An action of a writer, or a question about it.
 #[derive(Clone, Copy)]
 pub enum Input {
-    /// At a membership epoch, a member of group 0 says up to which number it holds all records.
+    /// Take the acknowledgement of a complete point by a member of group 0, at a membership epoch.
     Ack(u32, u8, u64),
-    /// The same of a group's only member.
+    /// The same by a group's only member.
     AckOf(u8, u64),
-    /// Whether it would take this member's acknowledgement of number 1.
+    /// Whether it would take this member's acknowledgement of LSN 1.
     MayAck(u8),
-    /// It takes a View of the groups' places, of a volume epoch.
+    /// Take a View of the groups' places, of a volume epoch.
     View(u32, &'static [Place]),
     /// Whether it would take such a View.
     MayView(u32, &'static [Place]),
-    /// It issues a transaction of a change of block 0 of each of these groups.
+    /// Issue a transaction with a change to block 0 of each of these groups.
     Issue(&'static [u8]),
-    /// Whether it may issue it.
+    /// Whether it may issue that.
     MayIssue(&'static [u8]),
-    /// It sends the record of a number once more.
+    /// Send the record with an LSN again.
     Resend(u64),
-    /// It asks for block 0 of a group.
+    /// Request block 0 of a group.
     Read(u8),
     /// The point of a group.
     GroupPoint(u8),
@@ -119,34 +118,34 @@ pub enum Input {
     Complete,
     /// The durable point.
     Durable,
-    /// Whether the number is acknowledged.
+    /// Whether the LSN is acknowledged.
     Acknowledged(u64),
-    /// How many records its log has.
+    /// The number of records of its log.
     Log,
-    /// The record at this place of its log.
+    /// The record at this index of its log.
     LogRecord(usize),
     /// Its volume epoch.
     Volume,
-    /// The number after which its own records begin.
+    /// The LSN after which its own records begin.
     Start,
 }
 
-/// What happens to a writer, and what it answers or why it refuses.
+/// An action or a question, and the expected answer or refusal.
 pub type Row = (Input, Result<Said, Fault>);
 
-/// A group at its root.
+/// The place of a group at its root.
 const ROOT: Place = Place {
     configuration: 0,
     epoch: 1,
 };
 
-/// A group at the child of its root.
+/// The place of a group at the child of its root.
 const CHILD: Place = Place {
     configuration: 1,
     epoch: 2,
 };
 
-/// A change of block 0 of each of these groups.
+/// Returns a change to block 0 of each of these groups.
 pub fn changes(alloc: Global, groups: &[u8]) -> Result<Vec<Change>, Fault> {
     let mut changes = Vec::new(alloc);
     for group in groups {
@@ -155,7 +154,7 @@ pub fn changes(alloc: Global, groups: &[u8]) -> Result<Vec<Change>, Fault> {
     Ok(changes)
 }
 
-/// A member's acknowledgement to the writer of volume epoch 1.
+/// Returns a member's acknowledgement for the writer of volume epoch 1.
 fn ack(group: u8, member: u32, from: u8, scl: u64) -> Ack {
     Ack {
         group,
@@ -165,7 +164,7 @@ fn ack(group: u8, member: u32, from: u8, scl: u64) -> Ack {
     }
 }
 
-/// A View of a volume epoch, from 1 on.
+/// Returns a View of a volume epoch, from 1 on.
 fn view(alloc: Global, volume: u32, places: &[Place]) -> Result<View, Fault> {
     let mut copies = Vec::new(alloc);
     copies.extend_from_slice(places)?;
@@ -175,7 +174,7 @@ fn view(alloc: Global, volume: u32, places: &[Place]) -> Result<View, Fault> {
     })
 }
 
-/// What the writer answers to a View: how many messages, or of one what it is.
+/// Takes a View. Returns the number of messages, or a single one in short.
 fn viewed(alloc: Global, writer: &mut Writer, view: &View) -> Result<Said, Fault> {
     let made = writer.view(alloc, view)?;
     Ok(match made.as_slice() {
@@ -184,7 +183,7 @@ fn viewed(alloc: Global, writer: &mut Writer, view: &View) -> Result<Said, Fault
     })
 }
 
-/// What the writer answers to a question about its log.
+/// Returns the answer to a question about the log.
 fn logged(writer: &Writer, input: Input) -> Result<Said, Fault> {
     let log = writer.log();
     Ok(match input {
@@ -198,7 +197,7 @@ fn logged(writer: &Writer, input: Input) -> Result<Said, Fault> {
     })
 }
 
-/// What the writer answers to a question.
+/// Returns the answer to a question.
 fn shown(writer: &Writer, input: Input) -> Result<Said, Fault> {
     Ok(match input {
         Input::Read(group) => said_by(&writer.read(group, 0)?),
@@ -212,7 +211,7 @@ fn shown(writer: &Writer, input: Input) -> Result<Said, Fault> {
     })
 }
 
-/// What the writer answers to what happens to it.
+/// Returns the answer to an action or a question.
 fn answer(alloc: Global, writer: &mut Writer, input: Input) -> Result<Said, Fault> {
     match input {
         Input::Ack(member, from, scl) => writer.take_ack(&ack(0, member, from, scl))?,
@@ -230,7 +229,7 @@ fn answer(alloc: Global, writer: &mut Writer, input: Input) -> Result<Said, Faul
     Ok(Yes)
 }
 
-/// The place of the first row that the writer doesn't keep to, `None` where it keeps to all.
+/// Returns the index of the first row with another answer of the writer, `None` if there is none.
 pub fn broken_by(alloc: Global, writer: &mut Writer, rows: &[Row]) -> Option<usize> {
     for (place, (input, expected)) in rows.iter().enumerate() {
         if answer(alloc, writer, *input) != *expected {
@@ -240,13 +239,13 @@ pub fn broken_by(alloc: Global, writer: &mut Writer, rows: &[Row]) -> Option<usi
     None
 }
 
-/// The same of the writer of a new volume over a plan.
+/// The same for the writer of a new volume over a plan.
 fn broken(alloc: Global, plan: Plan, rows: &[Row]) -> Result<Option<usize>, Fault> {
     let mut writer = Writer::first(alloc, checked(alloc, text(plan))?)?;
     Ok(broken_by(alloc, &mut writer, rows))
 }
 
-/// The group's point is the greatest number that a write set holds.
+/// The group's point is the greatest complete point of a write quorum.
 const THE_POINT_OF_SIX: &[Row] = &[
     (Input::Ack(1, 0, 5), Ok(Yes)),
     (Input::Ack(1, 1, 3), Ok(Yes)),
@@ -258,7 +257,7 @@ const THE_POINT_OF_SIX: &[Row] = &[
     (Input::GroupPoint(1), Err(NoGroup)),
 ];
 
-/// Here it is one that write sets of both sixes hold.
+/// The group's point is the greatest complete point of write quorums of both sixes.
 const THE_POINT_OF_BOTH_SIXES: &[Row] = &[
     (Input::Ack(1, 0, 5), Ok(Yes)),
     (Input::Ack(1, 1, 3), Ok(Yes)),
@@ -272,8 +271,8 @@ const THE_POINT_OF_BOTH_SIXES: &[Row] = &[
     (Input::GroupPoint(0), Ok(Point(3))),
 ];
 
-/// Transactions of too many changes, of as many as the allowance has, and of one more; and what the writer knows before the records are
-/// acknowledged and after.
+/// Transactions with too many changes, with as many as the LAL, and with one more; and the writer's points before the
+/// records are acknowledged, and after.
 const TRANSACTIONS: &[Row] = &[
     (Input::Issue(&[0; 33]), Err(BadTransaction)),
     (Input::Issue(&[0; 10]), Ok(Count(10))),
@@ -295,7 +294,7 @@ const TRANSACTIONS: &[Row] = &[
     (Input::Read(1), Err(NoGroup)),
 ];
 
-/// A write set of the child acknowledges after its View.
+/// A write quorum of the child acknowledges after its View.
 const A_WRITE_SET_OF_THE_CHILD: &[Row] = &[
     (Input::Issue(&[0]), Ok(Count(1))),
     (Input::View(1, &[CHILD]), Ok(Count(0))),
@@ -306,7 +305,7 @@ const A_WRITE_SET_OF_THE_CHILD: &[Row] = &[
     (Input::Durable, Ok(Point(1))),
 ];
 
-/// A write set of the root alone acknowledges after the child's View, which is too late.
+/// Only a write quorum of the root acknowledges after the child's View, which is too late.
 const A_WRITE_SET_OF_THE_ROOT_LATE: &[Row] = &[
     (Input::Issue(&[0]), Ok(Count(1))),
     (Input::View(1, &[CHILD]), Ok(Count(0))),
@@ -317,7 +316,7 @@ const A_WRITE_SET_OF_THE_ROOT_LATE: &[Row] = &[
     (Input::Durable, Ok(Point(0))),
 ];
 
-/// The same before it.
+/// The same before the View.
 const A_WRITE_SET_OF_THE_ROOT_EARLY: &[Row] = &[
     (Input::Issue(&[0]), Ok(Count(1))),
     (Input::Ack(1, 0, 1), Ok(Yes)),
@@ -328,7 +327,7 @@ const A_WRITE_SET_OF_THE_ROOT_EARLY: &[Row] = &[
     (Input::Durable, Ok(Point(1))),
 ];
 
-/// What is said at a membership epoch that the writer doesn't know yet doesn't count.
+/// An acknowledgement at a membership epoch that the writer doesn't know yet doesn't count.
 const A_LATER_EPOCH: &[Row] = &[
     (Input::Issue(&[0]), Ok(Count(1))),
     (Input::Ack(2, 0, 1), Ok(Yes)),
@@ -339,13 +338,13 @@ const A_LATER_EPOCH: &[Row] = &[
     (Input::Durable, Ok(Point(0))),
 ];
 
-/// Views of a place that the plan doesn't have, and of another volume epoch.
+/// Views with a place that isn't in the plan, and of another volume epoch.
 const VIEWS_OF_OTHERS: &[Row] = &[
     (Input::View(1, &[CHILD]), Err(NotInPlan)),
     (Input::View(2, &[CHILD]), Err(NotAddressed)),
 ];
 
-/// What the writer says before it does it.
+/// The writer says what it would do before it does it.
 const JUDGES: &[Row] = &[
     (Input::MayIssue(&[0; 33]), Err(BadTransaction)),
     (Input::MayIssue(&[0]), Ok(Yes)),
@@ -364,7 +363,7 @@ const NOTHING_OF_THE_SECOND: &[Row] = &[
     (Input::Read(1), Ok(Point(0))),
 ];
 
-/// It holds a record less than it should for the first transaction.
+/// The second group lacks one record of the first transaction.
 const TOO_LITTLE_OF_THE_SECOND: &[Row] = &[
     (Input::Issue(&[0, 1, 1]), Ok(Count(3))),
     (Input::Issue(&[0, 0, 1]), Ok(Count(3))),
@@ -374,7 +373,7 @@ const TOO_LITTLE_OF_THE_SECOND: &[Row] = &[
     (Input::Read(1), Ok(Point(0))),
 ];
 
-/// Both hold the first transaction.
+/// Both groups hold the first transaction.
 const THE_FIRST_TRANSACTION: &[Row] = &[
     (Input::Issue(&[0, 1, 1]), Ok(Count(3))),
     (Input::Issue(&[0, 0, 1]), Ok(Count(3))),
@@ -384,7 +383,7 @@ const THE_FIRST_TRANSACTION: &[Row] = &[
     (Input::Read(1), Ok(Point(3))),
 ];
 
-/// The second holds all, the first only what the first transaction has.
+/// The second group holds all, the first only the first transaction.
 const TOO_LITTLE_OF_THE_FIRST: &[Row] = &[
     (Input::Issue(&[0, 1, 1]), Ok(Count(3))),
     (Input::Issue(&[0, 0, 1]), Ok(Count(3))),
@@ -394,7 +393,7 @@ const TOO_LITTLE_OF_THE_FIRST: &[Row] = &[
     (Input::Read(1), Ok(Point(3))),
 ];
 
-/// Both hold all.
+/// Both groups hold all.
 const BOTH_TRANSACTIONS: &[Row] = &[
     (Input::Issue(&[0, 1, 1]), Ok(Count(3))),
     (Input::Issue(&[0, 0, 1]), Ok(Count(3))),
@@ -404,7 +403,7 @@ const BOTH_TRANSACTIONS: &[Row] = &[
     (Input::Read(1), Ok(Point(6))),
 ];
 
-/// A group is installed before the writer writes to it.
+/// A group that joins is installed before the writer writes to it.
 const A_GROUP_JOINS: &[Row] = &[
     (Input::MayIssue(&[1]), Err(BadTransaction)),
     (Input::Read(1), Err(NoGroup)),
@@ -421,7 +420,7 @@ const A_GROUP_JOINS: &[Row] = &[
     (Input::Durable, Ok(Point(1))),
 ];
 
-/// What each table is of, its plan, and its rows.
+/// The name of each table, its plan, and its rows.
 const TABLES: &[(&str, Plan, &[Row])] = &[
     ("the point of six", Plan::Six, THE_POINT_OF_SIX),
     (

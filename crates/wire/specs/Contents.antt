@@ -5,10 +5,10 @@ use Rattle.lineage.specs.Lineage.{lineage_of}
 use Rattle.redo_record.specs.RecordSet.{records_of}
 use Rattle.wire.specs.declared.contents.Contents.{Contents}
 
--- the contents of the model that contents are
+-- the contents of the model for contents
 abbrev pub contents_of : Contents → model.Contents
 contents_of contents = record { lineage = lineage_of contents.lineage; records = records_of contents.records }
 
--- the piece of a number, of so many
+-- piece `piece` of `of`
 abbrev pub piece_in : ℕ → ℕ → Piece
 piece_in piece of = record { number = piece; of = of }

@@ -1,10 +1,10 @@
--- The messages that a step made, as a list.
+-- The messages of a step as a list.
 use Rattle.std.specs.Prelude.{List, [], ◌∷◌}
 use Rattle.wire.specs.declared.message.Message.{Message}
 use Rattle.wire.specs.declared.messages.Messages.{Messages}
 use Rattle.wire.specs.declared.messages.Messages.TheVariants.{Empty, One, Many}
 
--- those messages, in their order
+-- the messages, in order
 abbrev pub listed : Messages → List Message
 listed Empty = []
 listed (One m) = m ∷ []

@@ -8,15 +8,15 @@ use Rattle.wire.specs.declared.message.Message.{Message}
 use Rattle.wire.specs.declared.message.Message.TheVariants.{View, StepTo, Fence, Report, Install, Write, Gossip, Ack, CopyAsk, CopyReport, PageAsk, Page}
 use Rattle.wire.specs.Contents.{contents_of, piece_in}
 
--- the label of the model that a label is
+-- the label of the model for a label
 abbrev pub label_of : Label → model.Label
 label_of label = record { volume = label.volume; member = label.member }
 
--- the place of the model that a place is
+-- the place of the model for a place
 abbrev pub place_of : Place → model.Place
 place_of place = record { configuration = place.configuration; epoch = place.epoch }
 
--- the message of the model that a message is
+-- the message of the model for a message
 abbrev pub message_of : Message → model.Message
 message_of (View m) = model.Message.View m.volume (map place_of m.places.value.items)
 message_of (StepTo m) = model.Message.StepTo m.group (place_of m.place)
@@ -34,6 +34,6 @@ message_of (PageAsk m) = model.Message.PageAsk m.group (label_of m.label) m.bloc
 message_of (Page m) = model.Message.Page m.group (label_of m.label) m.from m.image.value.block m.image.value.point
     m.image.value.bytes
 
--- the messages of the model that these are, in their order
+-- the messages of the model for messages, in order
 abbrev pub messages_of : List Message → List model.Message
 messages_of = map message_of

@@ -1,4 +1,4 @@
-//! Records that an actor lends for sending.
+//! Borrowed records for messages.
 
 ghost use Rattle.std.specs.Prelude.{◌≡◌, IfOk};
 ghost use Rattle.volume_model.specs.Message as model;
@@ -10,7 +10,7 @@ use crate::message::{Gossip, Message, Write};
 use redo_record::SharedRecord;
 use std::alloc::AllocError;
 
-/// A record that an actor lends for sending, with the message's group and label.
+/// A record that an actor lends for a message, with the message's group and label.
 #[derive(Clone, Copy)]
 pub struct Carried<'a> {
     /// The group.

@@ -9,34 +9,34 @@ use lineage::Lineage;
 use redo_record::{MOST_IN_PIECE, RecordSet};
 use std::alloc::AllocError;
 
-/// Of how many pieces contents may be.
+/// The most pieces of contents.
 pub const MOST_PIECES: u16 = 4096;
 
-/// The contents of a segment: what it holds, reports, or is to hold.
+/// What a segment holds, what a report says that it holds, or what an Install replaces it with.
 #[derive(Drop)]
 pub struct Contents {
     /// The lineage.
     pub lineage: Lineage,
-    /// Its records.
+    /// The records.
     pub records: RecordSet,
 }
 
 impl Contents {
-    /// Returns whether each of the records is one of the group.
+    /// Returns whether all records are of the group.
     pub fn is_of(&self, group: u8) -> bool
         ensures { result ≡ in_group group (contents_of self.now) }
     {
         self.records.is_of(group)
     }
 
-    /// Returns how many pieces it is cut into: one at least, none of them of more than 256 records.
+    /// Returns the number of pieces of at most 256 records; at least one.
     pub fn pieces(&self) -> usize
         ensures { result ≡ pieces_of (length (contents_of self.now).records) }
     {
         self.records.pieces()
     }
 
-    /// Returns the piece of this number, counted from 0. Fails only with `NoMemory`.
+    /// Returns the piece with this number, from 0. Fails only with `NoMemory`.
     pub fn piece(&self, number: usize) -> Result<Contents, AllocError>
         ensures { IfOk result (λ piece. contents_of piece ≡ piece_of (contents_of self.now) number) }
     {
@@ -47,8 +47,8 @@ impl Contents {
         })
     }
 
-    /// Returns whether it can be the piece of this number of this many: there are 1 to 4,096, the number is below
-    /// that, and it has no more than 256 records.
+    /// Returns whether this can be piece `piece` of `of`: `of` is 1 to 4,096, `piece` is less, and there are at most
+    /// 256 records.
     pub fn is_piece(&self, piece: u16, of: u16) -> bool
         ensures { result ≡ is_piece (piece_in piece of) (contents_of self.now) }
     {

@@ -1,18 +1,18 @@
 //! Labels of messages, and places of groups.
 
-/// The epochs of a message: its client's volume epoch and the membership epoch that the client knows of the group.
+/// The epochs of a message: the client's volume epoch, and the group's membership epoch as the client knows it.
 #[derive(Clone, Copy, Debug, PartialEq, Eq)]
 pub struct Label {
     /// The client's volume epoch.
     pub volume: u32,
-    /// The membership epoch that the client knows of the group.
+    /// The group's membership epoch as the client knows it.
     pub member: u32,
 }
 
-/// A group's place: its configuration and membership epoch.
+/// A group's configuration and membership epoch.
 #[derive(Clone, Copy, Debug, PartialEq, Eq)]
 pub struct Place {
-    /// Its configuration.
+    /// The configuration's number.
     pub configuration: u8,
     /// The membership epoch of that configuration.
     pub epoch: u32,

@@ -18,7 +18,7 @@ pub struct StepTo {
     pub place: Place,
 }
 
-/// A recovery's fence of a group's nodes: it asks each for its promise and its report.
+/// A recovery's fence of a group's nodes. It asks each for a promise and a report.
 #[derive(Clone, Copy, Debug, PartialEq, Eq)]
 pub struct Fence {
     /// The group.
@@ -34,13 +34,13 @@ pub struct Report {
     pub group: u8,
     /// The label of the fence.
     pub label: Label,
-    /// The member that holds the segment.
+    /// The sender, a member of the group.
     pub from: u8,
-    /// What it holds, shared with later reports until that changes.
+    /// What the sender holds. Later reports share it until that changes.
     pub contents: Arc<Contents>,
 }
 
-/// A piece of what a recovery installs on a group's nodes.
+/// A piece of the contents that a recovery installs on a group's nodes.
 #[derive(Drop)]
 pub struct Install {
     /// The group.
@@ -49,7 +49,7 @@ pub struct Install {
     pub label: Label,
     /// The number of the piece, from 0.
     pub piece: u16,
-    /// How many pieces there are.
+    /// The number of pieces.
     pub of: u16,
     /// The piece's contents.
     pub contents: Box<Contents>,
@@ -77,20 +77,20 @@ pub struct Gossip {
     pub packet: SharedRecord,
 }
 
-/// An acknowledgement: a node's complete point, for the client whose message it answers.
+/// A node's complete point, for the client whose message it acknowledges.
 #[derive(Clone, Copy, Debug, PartialEq, Eq)]
 pub struct Ack {
     /// The group.
     pub group: u8,
-    /// The label of the message that it answers.
+    /// The label of the acknowledged message.
     pub label: Label,
-    /// The member that holds the segment.
+    /// The sender, a member of the group.
     pub from: u8,
     /// The segment's complete point.
     pub scl: u64,
 }
 
-/// A request for copies by a node that isn't whole.
+/// A request for copies from a node that isn't whole.
 #[derive(Clone, Copy, Debug, PartialEq, Eq)]
 pub struct CopyAsk {
     /// The group.
@@ -104,22 +104,22 @@ pub struct CopyAsk {
 pub struct CopyReport {
     /// The group.
     pub group: u8,
-    /// The member that holds the segment.
+    /// The sender, a member of the group.
     pub from: u8,
     /// The number of the piece, from 0.
     pub piece: u16,
-    /// How many pieces there are.
+    /// The number of pieces.
     pub of: u16,
-    /// The membership epoch of both.
+    /// The membership epoch of both nodes.
     pub epoch: u32,
-    /// The copy that it is a piece of, and its contents.
+    /// The copy's number, and the piece's contents.
     pub part: Box<CopyPart>,
 }
 
-/// The copy that a piece belongs to, and the piece's contents.
+/// A copy's number, and a piece's contents.
 #[derive(Drop)]
 pub struct CopyPart {
-    /// The copy's number: how many copies the member has made, this one included.
+    /// The copy's number: 1 for the first copy that the sender makes.
     pub series: u64,
     /// The piece's contents.
     pub contents: Contents,
@@ -134,7 +134,7 @@ pub struct PageAsk {
     pub label: Label,
     /// The block.
     pub block: u32,
-    /// The LSN up to which its records count.
+    /// The LSN up to which the page has the block's records.
     pub point: u64,
 }
 
@@ -143,26 +143,26 @@ pub struct PageAsk {
 pub struct Page {
     /// The group.
     pub group: u8,
-    /// The member that holds the segment.
+    /// The sender, a member of the group.
     pub from: u8,
     /// The label of the request.
     pub label: Label,
-    /// The block at a point.
+    /// The block and its bytes.
     pub image: Box<Image>,
 }
 
-/// A block at a point.
+/// The bytes of a block up to an LSN.
 #[derive(Clone, Copy)]
 pub struct Image {
     /// The block.
     pub block: u32,
-    /// The LSN up to which its records count.
+    /// The LSN up to which the page has the block's records.
     pub point: u64,
     /// The bytes.
     pub bytes: [u8; 512],
 }
 
-/// A message between actors. A run keeps all messages, so what is large lies behind a pointer.
+/// A message between actors. A run keeps all messages, so large parts are boxed.
 #[derive(Drop)]
 pub enum Message {
     /// The places of the groups, for a client.
@@ -177,7 +177,7 @@ pub enum Message {
     Install(Install),
     /// A record of a writer's log.
     Write(Write),
-    /// A record that another node holds.
+    /// A record that a node holds, for the others.
     Gossip(Gossip),
     /// An acknowledgement.
     Ack(Ack),
@@ -194,7 +194,7 @@ pub enum Message {
 const _: () = prove!(size_of::<Message>() <= 32);
 
 impl Write {
-    /// Returns whether it is for the nodes of the group: it speaks of the group, and its record is one of the group.
+    /// Returns whether the message is for the nodes of the group: it names the group, and its record is the group's.
     pub fn is_for(&self, group: u8) -> bool
         ensures { result ≡ (self.now.group == group && (shared_redo self.now.packet).group == group) }
     {
@@ -203,7 +203,7 @@ impl Write {
 }
 
 impl Gossip {
-    /// Returns whether it is for the nodes of the group: it speaks of the group, and its record is one of the group.
+    /// Returns whether the message is for the nodes of the group: it names the group, and its record is the group's.
     pub fn is_for(&self, group: u8) -> bool
         ensures { result ≡ (self.now.group == group && (shared_redo self.now.packet).group == group) }
     {
@@ -215,8 +215,8 @@ impl Install {
     ghost use Rattle.volume_model.specs.Node.{in_group};
     ghost use Rattle.wire.specs.Contents.{contents_of};
 
-    /// Returns whether it is for the nodes of the group: it speaks of the group, and the records of the piece are
-    /// those of the group.
+    /// Returns whether the message is for the nodes of the group: it names the group, and the piece's records are the
+    /// group's.
     pub fn is_for(&self, group: u8) -> bool
         ensures { result ≡ (self.now.group == group && in_group group (contents_of self.now.contents.value)) }
     {
@@ -229,8 +229,8 @@ impl CopyReport {
     ghost use Rattle.volume_model.specs.Node.{in_group};
     ghost use Rattle.wire.specs.Contents.{contents_of};
 
-    /// Returns whether it is for the nodes of the group: it speaks of the group, the records of the piece are those
-    /// of the group, and its sender is a member.
+    /// Returns whether the message is for the nodes of the group: it names the group, the piece's records are the
+    /// group's, and the sender is a member (below 64).
     pub fn is_for(&self, group: u8) -> bool
         ensures { result ≡ (self.now.group == group && in_group group (contents_of self.now.part.value.contents) &&
             nat_lt self.now.from 64) }
@@ -243,8 +243,8 @@ impl Report {
     ghost use Rattle.volume_model.specs.ClientMessages.{is_for};
     ghost use Rattle.wire.specs.Message.{message_of};
 
-    /// Returns whether it is for the client of this volume epoch, over this many groups: it speaks of one of them,
-    /// its records are those of the group, and its sender is a member.
+    /// Returns whether the message is for the client of this volume epoch, which has `groups` groups: it names one of
+    /// these, its records are that group's, and the sender is a member (below 64).
     pub fn is_to(&self, volume: u32, groups: u8) -> bool
         ensures { result ≡ is_for volume groups (message_of (Message.Report self.now)) }
     {
@@ -259,8 +259,8 @@ impl Ack {
     ghost use Rattle.volume_model.specs.ClientMessages.{is_for};
     ghost use Rattle.wire.specs.Message.{message_of};
 
-    /// Returns whether it is for the client of this volume epoch, over this many groups: it speaks of one of them,
-    /// and its sender is a member.
+    /// Returns whether the message is for the client of this volume epoch, which has `groups` groups: it names one of
+    /// these, and the sender is a member (below 64).
     pub fn is_to(&self, volume: u32, groups: u8) -> bool
         ensures { result ≡ is_for volume groups (message_of (Message.Ack self.now)) }
     {
@@ -272,8 +272,8 @@ impl Page {
     ghost use Rattle.volume_model.specs.ClientMessages.{is_for};
     ghost use Rattle.wire.specs.Message.{message_of};
 
-    /// Returns whether it is for the client of this volume epoch, over this many groups: it speaks of one of them,
-    /// and its sender is a member.
+    /// Returns whether the message is for the client of this volume epoch, which has `groups` groups: it names one of
+    /// these, and the sender is a member (below 64).
     pub fn is_to(&self, volume: u32, groups: u8) -> bool
         ensures { result ≡ is_for volume groups (message_of (Message.Page self.now)) }
     {

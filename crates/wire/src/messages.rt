@@ -5,19 +5,19 @@ ghost use Rattle.wire.specs.Listed.{listed};
 
 use crate::message::Message;
 
-/// The messages that one step made, in their order. None and one of them take no list.
+/// The messages of one step, in order. No message and one message need no list.
 #[derive(Drop)]
 pub enum Messages {
-    /// There are none.
+    /// No message.
     Empty,
-    /// There is one.
+    /// One message.
     One(Message),
-    /// There are those of the list.
+    /// A list of messages.
     Many(Vec<Message>),
 }
 
 impl Messages {
-    /// Returns those of a list.
+    /// Returns the messages of a list.
     pub fn of(list: Vec<Message>) -> Messages
         ensures { listed result ≡ list.items }
     {
@@ -31,7 +31,7 @@ impl Messages {
         }
     }
 
-    /// Returns how many there are.
+    /// Returns the number of messages.
     pub fn len(&self) -> usize
         ensures { result ≡ length (listed self.now) }
     {
@@ -42,7 +42,7 @@ impl Messages {
         }
     }
 
-    /// Returns the one at a place.
+    /// Returns the message at an index.
     pub fn at(&self, index: usize) -> &Message
         requires { index < length (listed self.now) }
         ensures { slice_get (listed self.now) index ≡ Some result.now }
@@ -54,7 +54,7 @@ impl Messages {
         }
     }
 
-    /// Adds them to others, among which there is room for them.
+    /// Appends the messages to a list that has room for them.
     pub fn append_to(self, messages: &mut Vec<Message>)
         requires { vec_len messages.old + length (listed self) ≤ vec_capacity messages.old }
         ensures { messages.new.items ≡ messages.old.items ++ listed self }

@@ -9,7 +9,7 @@ use crate::label::Place;
 pub struct View {
     /// The volume epoch, from 1 on.
     pub volume: u32,
-    /// The place of each group, in their order: behind a pointer, so that no message is larger for them.
+    /// The place of each group, in order. Boxed, so that other messages aren't larger for it.
     pub places: Box<Vec<Place>>,
     pub ghost assigned: { 1 ≤ volume },
 }

@@ -1,4 +1,4 @@
--- The world that a program's actors are.
+-- The world of the model for a program's actors.
 use Rattle.std.specs.Prelude.{◌≡◌, ℕ, ◌≤◌, Bool, false, List, [], length, Result, Ok, Err}
 use Rattle.volume_model.specs.declared.fault.Fault.{Fault}
 use Rattle.volume_model.specs.Answer.{never_after_growth, AnswersAfterGrowth}
@@ -19,7 +19,7 @@ use Rattle.world.specs.Clients.{clients_of, AreClients}
 use Rattle.world.specs.Worlds.{world_with}
 use Rattle.world.specs.declared.actors.Actors.{Actors}
 
--- the plan that the actors are made over
+-- the plan of the actors
 abbrev pub plan_of : Actors → Plan
 plan_of a = authority_plan a.authority
 
@@ -27,39 +27,38 @@ plan_of a = authority_plan a.authority
 abbrev pub messages_in : Actors → List model.Message
 messages_in a = added (messages_of a.messages.items) []
 
--- the world that they are
+-- the world of the model for the actors
 abbrev pub world_of : Actors → World
 world_of a = world_with (authority_of a.authority) (node_at (plan_of a) (nodes_of a.nodes.items))
     (clients_of a.clients.items) (messages_in a)
 
--- The actors are those of their plan. No member has a number that isn't below 64.
+-- The actors are those of their plan, and all members are below 64.
 pub record AreActors (a : Actors) : Type 0 where
   pub plan : checked_model (arc_value a.plan) ≡ plan_of a
   pub homes : AreHomes (plan_of a) a.nodes.items
   pub low : (group member : ℕ) → members ≤ member → is_named (plan_of a) group member ≡ false
   pub clients : AreClients (plan_of a) a.clients.items
 
--- the result of a step of the world, and the world after it
+-- the number of messages that a step of the world makes, and the world after it
 pub record Moved : Type 0 where
   pub count : ℕ
   pub world : World
 
--- the number of messages that a step makes, and the world that it leaves
+-- the same for a step that is defined
 abbrev pub moved_of : Result Step Fault → Result Moved Fault
 moved_of (Err fault) = Err fault
 moved_of (Ok step) = Ok (record { count = length step.made; world = step.world })
 
--- so many messages were made, and the world is now this
+-- this many messages were made, and this is the world
 abbrev pub moved : ℕ → World → Moved
 moved count world = record { count = count; world = world }
 
--- The result of a step is the number of messages that the defined step makes, or its refusal, and the world is then
--- what the definition leaves. Running out of memory leaves the world as it was, and comes after all refusals except
--- those that need a growth.
+-- The result of a step is the number of messages that the defined step makes, or its refusal, and the world is the
+-- defined one. If memory runs out the world is unchanged; that comes after all refusals except late ones.
 abbrev pub Steps : (Fault → Bool) → Result Step Fault → World → Result ℕ Fault → World → Type 0
 Steps late defined old result new = AnswersAfterGrowth late moved (moved_of defined) old result new
 
--- the refusals that may come after a growth was refused: what is found only once records were gathered
+-- the refusals that may come after a failed allocation, since records are gathered first
 abbrev pub event_after_growth : Event → Fault → Bool
 event_after_growth (Hydrate group member) = is_full
 event_after_growth (Cut volume) = is_spent

@@ -1,4 +1,4 @@
--- The nodes that a run leaves.
+-- The nodes at the end of a run.
 use Rattle.std.specs.Prelude.{ℕ, suc, Bool, ◌*◌, ◌/◌, ◌%◌, List, [], ◌∷◌, Option, Some, None, length}
 use Rattle.volume_model.specs.Lists.{each_below}
 use Rattle.volume_model.specs.Plan.{Plan, is_named}
@@ -10,7 +10,7 @@ use Rattle.segment_core.specs.Segment.{node_of}
 use Rattle.world.specs.Slots.{members}
 use Rattle.world.specs.declared.node_states.NodeState.{NodeState}
 
--- what is listed of the node of a member of a group
+-- the listed state of a node
 abbrev pub node_state : ℕ → ℕ → Node → NodeState
 node_state group member node = record {
   group = group;
@@ -22,19 +22,19 @@ node_state group member node = record {
   records = length node.contents.records;
 }
 
--- the slot is that of a member that the plan names
+-- the plan names the member of this slot
 abbrev pub names_slot : Plan → ℕ → Bool
 names_slot plan slot = is_named plan (slot / members) (slot % members)
 
--- what is listed of the node in a slot
+-- the listed state of the node in a slot
 abbrev pub state_in_slot : World → ℕ → NodeState
 state_in_slot world slot = node_state (slot / members) (slot % members) (world.nodes (slot / members) (slot % members))
 
--- the nodes of a world that the plan names, by group and member
+-- the states of the nodes that the plan names, by group and member
 abbrev pub nodes_in : Plan → World → List NodeState
 nodes_in plan world = each_below (plan.groups * members) (names_slot plan) (state_in_slot world)
 
--- the same of segments, from a slot on
+-- the same for segments, of which the first is in this slot
 abbrev pub states_from : ℕ → List (Option Segment) → List NodeState
 states_from slot [] = []
 states_from slot (None ∷ rest) = states_from (suc slot) rest

@@ -1,4 +1,4 @@
--- What a program's outcome says.
+-- A program's outcome of a run.
 use Rattle.std.specs.Prelude.{◌≡◌, ℕ, suc, ◌<◌, Bool, true, not, ◌&&◌, nat_le, List, ◌++◌, ◌∷◌, Ok, map}
 use Rattle.volume_model.specs.Plan.{Plan}
 use Rattle.volume_model.specs.Lists.{IsIn, IsBeginningOf, each_below}
@@ -21,11 +21,11 @@ use Rattle.world.specs.declared.outcome.RecoveryOutcome.{RecoveryOutcome}
 use Rattle.world.specs.declared.outcome.WriterOutcome.{WriterOutcome}
 use Rattle.world.specs.declared.outcome.Outcome.{Outcome}
 
--- the opened writer that this is
+-- the opened writer of the model for an outcome
 abbrev pub opened_of : WriterOutcome → model.Opened
 opened_of w = record { volume = w.volume; start = w.start; log = log_in w.log; durable = w.durable }
 
--- the recovery that this is
+-- the recovery of the model for an outcome
 abbrev pub find_of : RecoveryOutcome → model.Find
 find_of f = record {
   volume = f.volume;
@@ -44,13 +44,13 @@ abbrev pub readers_in : World → List ℕ
 readers_in world =
     each_below (suc world.authority.last_volume) (λ volume. is_reading (world.clients volume).stage) (λ volume. volume)
 
--- What was acknowledged after some of the events stays so to their end, with the same log before it, and no opened
--- writer's durable point has fallen.
+-- What was acknowledged after some of the events stays acknowledged to their end, with the same log before it, and no
+-- opened writer's durable point falls.
 abbrev pub KeepsAcknowledgements : Plan → List Event → Type 0
 KeepsAcknowledgements plan events = (earlier later : List Event) → earlier ++ later ≡ events
     → StaysSo (run plan (opening plan) earlier) (run plan (opening plan) events)
 
--- A client that has cut after some of the events stays so to their end, with the same lineage and the same log found.
+-- A client that has cut after some of the events keeps its lineage and its log found to their end.
 abbrev pub KeepsFinds : Plan → List Event → Type 0
 KeepsFinds plan events =
     (earlier later : List Event) (volume : ℕ) → earlier ++ later ≡ events
@@ -58,15 +58,15 @@ KeepsFinds plan events =
     → StaysFound ((run plan (opening plan) earlier).clients volume) ((run plan (opening plan) events).clients
     volume)
 
--- Each client that opens among the events, and isn't refused, has its cut as its durable point then.
+-- Each client that opens among the events has its cut as its durable point then.
 abbrev pub OpenAtTheirCuts : Plan → List Event → Type 0
 OpenAtTheirCuts plan events =
     (earlier later : List Event) (volume : ℕ) (opened : Step) → earlier ++ Open volume ∷ later ≡ events
     → step plan (run plan (opening plan) earlier) (Open volume) ≡ Ok opened
     → IsAtItsCut (opened.world.clients volume)
 
--- The outcome is exactly the model's run of these events: the result of each event, and of the world after them the
--- opened writers and the recoveries that have cut. Its actors are those of the model's world.
+-- The outcome is that of the model's run of these events: the result of each event, and at the end the opened writers
+-- and the recoveries that have cut. Its actors are those of the model's world.
 pub record IsOutcomeOfRun (plan : Plan) (events : List Event) (outcome : Outcome) : Type 0 where
   pub results_are : outcome.results.items ≡ results plan (opening plan) events
   pub writers_are : map opened_of outcome.writers.items ≡ writers_in (run plan (opening plan) events)
@@ -75,40 +75,39 @@ pub record IsOutcomeOfRun (plan : Plan) (events : List Event) (outcome : Outcome
   pub plan_is : plan_of outcome.actors ≡ plan
   pub world_is : world_of outcome.actors ≡ run plan (opening plan) events
 
--- Of the run of these events every promise of the volume holds.
+-- Every promise of the volume holds for the run of these events.
 pub record KeepsPromises (plan : Plan) (events : List Event) : Type 0 where
-  -- every commit that any writer acknowledges stands, with the whole log before it, in the log found by every recovery
-  -- of a later volume epoch, and no two records are acknowledged under one LSN
+  -- each commit that any writer acknowledges, and the whole log before it, is in the log found by every recovery of a
+  -- later volume epoch, and no two different records are acknowledged under one LSN
   pub commits : KeepsCommits (run plan (opening plan) events)
-  -- every page that any node made is that of its writer's log at the point asked
+  -- each page that any node made is the page of its writer's log at the requested point
   pub pages : SaysTruePages (run plan (opening plan) events)
-  -- what was acknowledged stays so
+  -- what was acknowledged stays acknowledged
   pub acknowledgements_last : KeepsAcknowledgements plan events
-  -- what was found stays so
+  -- a log found never changes
   pub finds_last : KeepsFinds plan events
-  -- no two lineages with one last volume epoch differ
+  -- two lineages with the same last volume epoch are equal
   pub one_lineage_an_epoch : HasOneLineageAnEpoch (run plan (opening plan) events)
-  -- who opens has its cut as its durable point
+  -- a client's durable point is its cut when it opens
   pub opens_at_its_cut : OpenAtTheirCuts plan events
-  -- each lineage's epochs grow, and each record's links fall
+  -- the epochs of each lineage grow, and the links of each record lead to smaller LSNs
   pub orderly : IsOrderly (run plan (opening plan) events)
 
--- the same, of every list of events
+-- the same for every list of events
 abbrev pub PromisesRuns : Plan → Type 0
 PromisesRuns plan = (events : List Event) → KeepsPromises plan events
 
--- The writer has acknowledged the commit of this number: it is that of a consistency point of its log, and at most its
--- durable point.
+-- The writer has acknowledged this commit: it is a consistency point of the writer's log up to its durable point.
 abbrev pub HasAcknowledged : WriterOutcome → ℕ → Type 0
 HasAcknowledged writer n = (is_consistency_point n (log_in writer.log) && nat_le n writer.durable) ≡ true
 
--- what an acknowledged commit covers: the writer's log up to it
+-- the records that an acknowledged commit n covers: the writer's log up to n
 abbrev pub covered_by : WriterOutcome → ℕ → List Redo
 covered_by writer n = up_to n (log_in writer.log)
 
--- The promise said of what was returned alone: each commit that a returned writer has acknowledged stands, with its
--- whole log before it, in the log of each returned find of a later volume epoch, and no two different records were
--- acknowledged by returned writers under one LSN.
+-- The promise for what a run returns: each commit that a returned writer has acknowledged, and the whole log before it,
+-- is in the log found by each returned recovery of a later volume epoch, and returned writers acknowledged no two
+-- different records under one LSN.
 pub record KeepsReturned (outcome : Outcome) : Type 0 where
   pub found_later : (writer : WriterOutcome) (find : RecoveryOutcome) (n : ℕ) → IsIn writer outcome.writers.items
       → IsIn find outcome.finds.items → writer.volume < find.volume → HasAcknowledged writer n → IsBeginningOf

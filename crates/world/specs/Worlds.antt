@@ -5,7 +5,7 @@ use Rattle.volume_model.specs.Node.{Node}
 use Rattle.volume_model.specs.Client.{Client}
 use Rattle.volume_model.specs.World.{Authority, World}
 
--- the world of this authority, these nodes and clients, and these messages, newest first
+-- the world with this authority, these nodes and clients, and these messages, newest first
 abbrev pub world_with : Authority → (ℕ → ℕ → Node) → (ℕ → Client) → List model.Message → World
 world_with authority nodes clients messages = record {
   authority = authority;

@@ -15,14 +15,15 @@ use std::sync::Arc;
 use volume_model::Fault;
 use wire::Message;
 
-/// All actors, and all messages ever made, in the order of making.
+/// All actors, and all messages ever made, oldest first.
 #[derive(Drop)]
 pub struct Actors {
     pub(crate) plan: Arc<CheckedPlan>,
     pub(crate) authority: Authority,
     pub(crate) nodes: Vec<Option<Segment>>,
-    /// The client of each volume epoch at its place, and none where no View has reached it. The authority assigns volume epochs one after the
-    /// other, from 1 on, and a client is born only of a View of its own, so the table has at most one place an event beside its first two.
+    /// The client of each volume epoch at its place; none until the client takes a View. The authority assigns volume
+    /// epochs one by one, from 1 on, and a client is born only of a View of its own epoch. So the table has at most two
+    /// more places than there were events.
     pub(crate) clients: Vec<Option<Box<Client>>>,
     messages: Vec<Message>,
 }
@@ -43,7 +44,7 @@ impl Actors {
     ghost use Rattle.world.specs.Clients.{client_in};
     ghost use Rattle.world.specs.Events.{event_of};
 
-    /// Returns all actors before any event.
+    /// Makes all actors as they are before any event.
     pub fn open(alloc: Global, plan: &Arc<CheckedPlan>) -> Result<Actors, Fault>
         ensures world { IfOk result (λ a. world_of a ≡ opening (checked_model (arc_value plan.now))) }
         ensures plan { IfOk result (λ a. plan_of a ≡ checked_model (arc_value plan.now)) }
@@ -73,7 +74,7 @@ impl Actors {
         authority_step::act(alloc, &mut self.authority, &mut self.messages, action)
     }
 
-    /// Performs a node's action. `NoActor` if its group hasn't joined, or the plan doesn't name it.
+    /// Performs a node's action. `NoActor` if its group hasn't joined, or the plan doesn't name the member.
     fn node_step(
         &mut self,
         alloc: Global,
@@ -102,7 +103,7 @@ impl Actors {
     }
 
     /// Delivers the message with this number to a node. `NoActor` if its group hasn't joined, or the plan doesn't name
-    /// it.
+    /// the member.
     pub(crate) fn deliver(
         &mut self,
         alloc: Global,
@@ -128,7 +129,7 @@ impl Actors {
         }
     }
 
-    /// Performs a client's action. `NoActor` if it isn't there, unless it takes a View.
+    /// Performs a client's action. An unborn client is refused as `NoActor` unless it takes a View.
     fn client_step(
         &mut self,
         alloc: Global,
@@ -152,7 +153,7 @@ impl Actors {
         }
     }
 
-    /// Performs an action of a client that isn't there: it is born by a View, and anything else is refused.
+    /// Performs an action of an unborn client: a View makes it a recovery, anything else is refused.
     fn absent_step(
         &mut self,
         alloc: Global,
@@ -188,7 +189,7 @@ impl Actors {
         self.client_step(alloc, volume, ClientAction::Take { message })
     }
 
-    /// Makes an event happen, and answers how many messages it made; or refuses it, and nothing has changed.
+    /// Performs an event. Returns the number of messages that it made, or its refusal; then nothing has changed.
     pub fn step(&mut self, alloc: Global, event: &Event) -> Result<u64, Fault>
         requires { AreActors self.old }
         ensures steps { Steps (event_after_growth (event_of event.now)) (step (plan_of self.old) (world_of self.old)
@@ -210,10 +211,10 @@ impl Actors {
         }
     }
 
-    /// Makes room for this many more messages.
+    /// Reserves room for this many more messages.
     ///
     /// # Errors
-    /// `AllocError` if there is no memory; then nothing has changed.
+    /// `AllocError` if memory runs out. Nothing has changed.
     pub(crate) fn reserve(&mut self, messages: usize) -> Result<(), AllocError>
         ensures world { world_of self.new ≡ world_of self.old }
         ensures good { AreActors self.old → AreActors self.new }
@@ -222,7 +223,7 @@ impl Actors {
         self.messages.reserve(messages)
     }
 
-    /// Returns how many messages were made so far.
+    /// Returns the number of messages made so far.
     pub fn made(&self) -> u64
         ensures { result ≡ length (messages_in self.now) }
     {

@@ -1,4 +1,4 @@
-//! Which messages are for a client.
+//! Checks which client a message is for.
 
 ghost use Rattle.std.specs.Prelude.{◌≡◌, true, false, MatchResult};
 ghost use Rattle.volume_model.specs.declared.fault.Fault.TheVariants.{NotAddressed};
@@ -8,8 +8,8 @@ ghost use Rattle.wire.specs.Message.{message_of};
 use volume_model::Fault;
 use wire::Message;
 
-/// Checks whether a message is for the client of a volume epoch, over this many groups: a View of its volume epoch,
-/// or a report, an acknowledgement or a page for it. `NotAddressed` if it is for another, or for none.
+/// Checks that a message is for the client of a volume epoch, which has `groups` groups: a View of its volume epoch, or
+/// a report, an acknowledgement or a page for it. `NotAddressed` if it isn't.
 pub fn addressed(volume: u32, groups: u8, message: &Message) -> Result<(), Fault>
     ensures { MatchResult result (λ _. is_for volume groups (message_of message.now) ≡ true)
         (λ fault. (is_for volume groups (message_of message.now) ≡ false) × (fault ≡ NotAddressed)) }

@@ -1,4 +1,4 @@
-//! What the authority does.
+//! Steps of the authority.
 
 ghost use Rattle.std.specs.Prelude.{◌≡◌, []};
 ghost use Rattle.volume_model.specs.Answer.{refusal_of, Answers, AnswersAlways};
@@ -15,13 +15,12 @@ use volume_model::Fault;
 use wire::Message;
 
 impl AuthorityAction {
-    /// Checks whether the authority would do it: exactly the refusal of [`AuthorityAction::done_by`], without acting.
-    /// Takes no memory.
+    /// Returns the refusal of [`AuthorityAction::done_by`], if any, without acting. Allocates nothing.
     ///
     /// # Errors
-    /// `EpochsSpent` if no volume epoch is left to assign; `NoGroup` if there is no such group, and `NotInPlan` if
-    /// the configuration isn't a child of the group's own; `Superseded` if the client's volume epoch isn't the last
-    /// one assigned; `AllGrown` if every group has joined.
+    /// `EpochsSpent` if no volume epoch is left to assign; `NoGroup` if there is no such group; `NotInPlan` if the
+    /// configuration isn't a child of the group's own; `Superseded` if the client's volume epoch isn't the last one
+    /// assigned; `AllGrown` if every group has joined.
     pub fn admitted_by(self, authority: &Authority) -> Result<(), Fault>
         ensures { result ≡ refusal_of (authority_acted (authority_plan authority.now) (authority_of authority.now)
             self) }
@@ -37,10 +36,11 @@ impl AuthorityAction {
         }
     }
 
-    /// Performs the action and returns its message, if it makes one. On error the authority is unchanged.
+    /// Performs the action. Returns its message, if it makes one. On error the authority is unchanged.
     ///
     /// # Errors
-    /// Those of [`AuthorityAction::admitted_by`]; `NoMemory`, except of an advance, which takes no memory.
+    /// Those of [`AuthorityAction::admitted_by`]; `NoMemory` if memory runs out, except for `Advance`, which allocates
+    /// nothing.
     pub fn done_by(self, alloc: Global, authority: &mut Authority) -> Result<Option<Message>, Fault>
         ensures answers { Answers spoken (authority_acted (authority_plan authority.old) (authority_of authority.old)
             self) (authority_of authority.old) result (authority_of authority.new) }
@@ -63,8 +63,8 @@ impl AuthorityAction {
     }
 }
 
-/// Lets the authority act, and adds the message that it makes, if it makes one, to the others, for which it makes
-/// room before the authority changes. On error nothing has changed.
+/// Performs an action of the authority and appends its message, if it makes one. Reserves room for it first. On error
+/// nothing has changed.
 pub fn act(
     alloc: Global,
     authority: &mut Authority,

@@ -1,4 +1,4 @@
-//! How a client begins.
+//! The birth of a client.
 
 ghost use Rattle.std.specs.Prelude.{◌≡◌, ◌≢◌, IfErr, IfOk};
 ghost use Rattle.std.specs.Arc.{arc_value};
@@ -21,9 +21,9 @@ use std::sync::Arc;
 use volume_model::Fault;
 use wire::Message;
 
-/// Checks whether a client that isn't there would become a recovery by a message: by a View of its volume epoch, at
-/// places of the plan (else `NotInPlan`). `NoMessage` if none was found. Any other message is refused: `NotAddressed`
-/// if it isn't for the client, else `NoActor`, as there is none to take it.
+/// Checks whether an unborn client would become a recovery by a message. `NoMessage` if there is no message,
+/// `NotAddressed` if it isn't for the client, `NotInPlan` for a View with places that aren't the plan's, `NoActor` for
+/// any other message than a View.
 fn admits_birth(plan: &CheckedPlan, volume: u32, found: Option<&Message>) -> Result<(), Fault>
     ensures refusal { result ≡ refusal_of (take (checked_model plan.now) volume unborn (message_found found.entry)) }
     ensures own { IfErr result (λ fault. fault ≢ NoMemory) }
@@ -38,7 +38,7 @@ fn admits_birth(plan: &CheckedPlan, volume: u32, found: Option<&Message>) -> Res
     }
 }
 
-/// Checks whether a client that no View has reached would act: by a View alone.
+/// Returns the refusal of an unborn client's action, if any. Only a View isn't refused.
 pub fn admits(
     plan: &CheckedPlan,
     volume: u32,
@@ -58,7 +58,7 @@ pub fn admits(
     }
 }
 
-/// Returns the recovery of a View of its volume epoch, and the messages that it makes.
+/// Makes the recovery of a View, and its messages.
 fn begin_by_view(
     alloc: Global,
     plan: &Arc<CheckedPlan>,
@@ -72,8 +72,7 @@ fn begin_by_view(
     Recovery::new(alloc, plan.clone()?, message)
 }
 
-/// Returns the recovery that a client which isn't there becomes by a View of its volume epoch, and the messages that it
-/// makes. Refused as [`admits_birth`] says.
+/// Makes the recovery that an unborn client becomes by a View, and its messages. Refused as in [`admits_birth`].
 fn begin(
     alloc: Global,
     plan: &Arc<CheckedPlan>,
@@ -95,7 +94,7 @@ fn begin(
     }
 }
 
-/// Lets a client act that no View has reached: it becomes a recovery by a View, and anything else is refused.
+/// Performs an action of an unborn client: a View makes it a recovery, anything else is refused.
 pub fn act(
     alloc: Global,
     plan: &Arc<CheckedPlan>,

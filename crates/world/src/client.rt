@@ -12,23 +12,23 @@ use volume_model::{Fault, steps_are_few};
 use wire::{Message, Messages};
 use writer_core::Writer;
 
-/// How far a client has come.
+/// The stage of a client.
 #[derive(Drop)]
 pub enum ClientState {
-    /// No View has reached it.
+    /// It has taken no View.
     Unborn,
-    /// It reads or installs.
+    /// It is a recovery.
     Recovery(Recovery),
-    /// It is open.
+    /// It is an open writer.
     Writer(Writer),
 }
 
-/// The client of a volume epoch over a plan: none yet, then a recovery, and then the writer that it becomes.
+/// The client of a volume epoch over a plan: unborn, then a recovery, and then the writer that the recovery becomes.
 #[derive(Drop)]
 pub struct Client {
-    /// The plan that it is born over.
+    /// The plan over which it is born.
     plan: Arc<CheckedPlan>,
-    /// The volume epoch that it is born with.
+    /// The volume epoch with which it is born.
     volume: u32,
     state: ClientState,
 }
@@ -48,7 +48,7 @@ impl Client {
     ghost use Rattle.world.specs.Actions.{client_acted, client_after_growth, message_found, ButForCut, OfOpening};
     ghost use Rattle.world.specs.Clients.{client_plan, client_volume, seen_client, seen_state, IsClientOf, IsSameClient};
 
-    /// Returns the client of a volume epoch that no View has reached.
+    /// Makes the unborn client of a volume epoch.
     pub fn unborn(plan: Arc<CheckedPlan>, volume: u32) -> Client
         ensures client { seen_client result ≡ unborn }
         ensures own { IsClientOf (checked_model (arc_value plan)) volume result }
@@ -60,8 +60,7 @@ impl Client {
         }
     }
 
-    /// Returns the client of volume epoch 1, which is the writer that a volume is born with. Fails only with
-    /// `NoMemory`.
+    /// Makes the client of volume epoch 1, which is the writer with which a volume is born. Fails only with `NoMemory`.
     pub fn first(alloc: Global, plan: Arc<CheckedPlan>) -> Result<Client, Fault>
         ensures client { AnswersNew seen_client (Ok (first_writer (checked_model (arc_value plan)))) result }
         ensures own { IfOk result (IsClientOf (checked_model (arc_value plan)) 1) }
@@ -74,7 +73,7 @@ impl Client {
         })
     }
 
-    /// Returns how far it has come.
+    /// Returns the stage of the client.
     pub fn state(&self) -> &ClientState
         ensures { seen_state result.now ≡ seen_client self.now }
     {
@@ -92,7 +91,7 @@ impl Client {
         }
     }
 
-    /// Returns how many groups its volume has.
+    /// Returns the number of groups of its volume.
     pub fn groups(&self) -> u8
         ensures { result ≡ (client_plan self.now).groups }
     {
@@ -103,8 +102,8 @@ impl Client {
         }
     }
 
-    /// Returns a bound on the messages that taking a message makes: one a group, and one for each 256 records of the
-    /// log found.
+    /// Returns the most messages that taking a message makes: one a group, and one for each 256 records of the log
+    /// found.
     pub(crate) fn most_taken(&self) -> usize
         ensures { (message : model.Message) → Few result (taken (client_plan self.now) (client_volume self.now)
             (seen_client self.now) message) }
@@ -121,8 +120,7 @@ impl Client {
         }
     }
 
-    /// Returns a bound on the messages that its cut makes: one a group, and one for each 256 records that its reports
-    /// hold.
+    /// Returns the most messages that its cut makes: one a group, and one for each 256 records of its reports.
     pub(crate) fn most_cut(&self) -> usize
         ensures { Few result (cut_client (client_plan self.now) (client_volume self.now) (seen_client self.now)) }
     {
@@ -136,16 +134,16 @@ impl Client {
         }
     }
 
-    /// Checks whether it would perform an action, with the message that was found if it takes one: exactly the refusal
-    /// of [`Client::act`], without acting. A cut is judged by finding the log, which takes memory; nothing else does.
+    /// Returns the refusal of [`Client::act`], if any, without acting. `found` is the message that was looked up for
+    /// `Take`. Only `Cut` allocates, since its refusal depends on the log found.
     ///
     /// # Errors
-    /// `NoMessage` for a message that wasn't found. Where no View has reached the client: `NotAddressed` for a message
-    /// that isn't for it, `NotInPlan` for a View of places that the plan doesn't have, and `NoActor` for all but a
-    /// View. Else `NotAddressed` and `NotInPlan` of messages, and: of a recovery `NotOpen` for what a writer alone
-    /// does, for a cut `AlreadyDone`, `NotReady` until the reports are a read set of each group, or `LsnSpent`, and for
-    /// an opening `NotReady` until the members of a write set of each group have acknowledged what it installed; of a
-    /// writer `AlreadyDone` for a cut and an opening, and what [`Writer`] answers to an issue, a resend or a read.
+    /// `NoMessage` if the message wasn't found. An unborn client: `NotAddressed` for a message that isn't for it,
+    /// `NotInPlan` for a View with places that aren't the plan's, `NoActor` for all but a View. A recovery:
+    /// `NotAddressed` and `NotInPlan` for messages; `NotOpen` for the actions of writers; for `Cut` `AlreadyDone`,
+    /// `NotReady` until the reports are a read quorum of each group, or `LsnSpent`; for `Open` `NotReady` until a write
+    /// quorum of each group has acknowledged the install. A writer: `AlreadyDone` for `Cut` and `Open`, else those of
+    /// [`Writer`].
     pub fn admits(
         &self,
         alloc: Global,
@@ -165,11 +163,11 @@ impl Client {
         }
     }
 
-    /// Performs an action, with the message that was found if it takes one, and returns its messages. An opening turns
-    /// the recovery into a writer. On error the client is unchanged.
+    /// Performs an action. Returns its messages. `found` is the message that was looked up for `Take`. `Open` turns the
+    /// recovery into a writer. On error the client is unchanged.
     ///
     /// # Errors
-    /// Those of [`Client::admits`]; `NoMemory`, but not of an opening, which takes no memory.
+    /// Those of [`Client::admits`]; `NoMemory` if memory runs out, except for `Open`, which allocates nothing.
     #[inline(always)]
     pub fn act(
         &mut self,
@@ -190,8 +188,8 @@ impl Client {
         self.act_early(alloc, action, found)
     }
 
-    /// Performs an action of a client that isn't a writer yet. Out of line, since recoveries take much more stack
-    /// than writers.
+    /// Performs an action of a client that isn't a writer yet. Out of line, since recoveries take much more stack than
+    /// writers.
     #[inline(never)]
     fn act_early(
         &mut self,
@@ -227,7 +225,7 @@ impl Client {
         }
     }
 
-    /// Turns the recovery into a writer. Takes no memory, and makes no message.
+    /// Turns the recovery into a writer. Allocates nothing, and makes no message.
     fn open(&mut self) -> Result<Messages, Fault>
         ensures answers { AnswersAfterGrowth never_after_growth answered
             (opened (client_plan self.old) (seen_client self.old)) (seen_client self.old) result

@@ -1,4 +1,4 @@
-//! A client's step, among all messages.
+//! Steps of clients.
 
 ghost use Rattle.std.specs.Prelude.{◌≡◌, []};
 ghost use Rattle.volume_model.specs.Lists.{added};
@@ -14,7 +14,7 @@ use std::alloc::Global;
 use volume_model::{Fault, steps_are_few};
 use wire::Message;
 
-/// Returns the message that an action names, among these.
+/// Returns the message that an action names, if there is one.
 pub fn named<'a>(action: ClientAction<'_>, messages: &'a [Message]) -> Option<&'a Message>
     ensures { message_found result ≡ named_in (added (messages_of messages.entry.now) []) action.entry }
 {
@@ -24,7 +24,7 @@ pub fn named<'a>(action: ClientAction<'_>, messages: &'a [Message]) -> Option<&'
     }
 }
 
-/// Returns a bound on the messages that the client makes of an action.
+/// Returns the most messages that the client makes in an action.
 fn most_made(client: &Client, action: ClientAction<'_>) -> usize
     ensures { MakesAtMost (client_plan client.now) (client_volume client.now) (seen_client client.now) action.entry
         result }
@@ -40,8 +40,7 @@ fn most_made(client: &Client, action: ClientAction<'_>) -> usize
     }
 }
 
-/// Performs a client's action and appends the messages that it makes, for which it makes room before the client
-/// changes. On error nothing has changed.
+/// Performs a client's action and appends its messages. Reserves room for them first. On error nothing has changed.
 pub fn act(
     alloc: Global,
     client: &mut Client,

@@ -1,4 +1,4 @@
-//! The clients of a world, each at the place of its volume epoch.
+//! The clients of a world, by volume epoch.
 
 ghost use Rattle.std.specs.Prelude.{◌≡◌, ◌<◌, length, IfErr, IfOk, MatchOption};
 ghost use Rattle.volume_model.specs.Client.{unborn};
@@ -7,7 +7,7 @@ ghost use Rattle.world.specs.Clients.{clients_of, seen_client, HasSameClients, I
 use crate::client::Client;
 use std::alloc::AllocError;
 
-/// Returns the client of a volume epoch, where it is there.
+/// Returns the client of a volume epoch, if it is born.
 pub fn client_at(clients: &[Option<Box<Client>>], volume: u32) -> Option<&Client>
     ensures { MatchOption result (clients_of clients.now volume ≡ unborn) (λ client. clients_of clients.now volume
         ≡ seen_client client.now) }
@@ -22,12 +22,12 @@ pub fn client_at(clients: &[Option<Box<Client>>], volume: u32) -> Option<&Client
     }
 }
 
-/// Returns how many clients there are.
+/// Returns the number of clients.
 pub fn count(clients: &[Option<Box<Client>>]) -> usize {
     clients.iter().filter(|client| client.is_some()).count()
 }
 
-/// Fills a table up to the place of a volume epoch. The clients stay, also if there is no memory.
+/// Extends the table to the place of a volume epoch. The clients are unchanged, even on error.
 fn fill_up(clients: &mut Vec<Option<Box<Client>>>, volume: u32) -> Result<(), AllocError>
     ensures same { HasSameClients clients.old.items clients.new.items }
     ensures room { IfOk result (λ _. volume < length clients.new.items) }
@@ -43,10 +43,10 @@ fn fill_up(clients: &mut Vec<Option<Box<Client>>>, volume: u32) -> Result<(), Al
     Ok(())
 }
 
-/// Keeps a client at the place of its volume epoch.
+/// Puts a client at the place of its volume epoch.
 ///
 /// # Errors
-/// Where a growth was refused; then the clients are what they were.
+/// `AllocError` if memory runs out. The clients are unchanged.
 pub fn keep(
     clients: &mut Vec<Option<Box<Client>>>,
     volume: u32,

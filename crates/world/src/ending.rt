@@ -1,4 +1,4 @@
-//! The outcome of a run, from its actors.
+//! Makes the outcome of a run from its actors.
 
 ghost use Rattle.std.specs.Prelude.{◌≡◌, ◌++◌, ◌∷◌, [], ◌&&◌, IfOk, Some, None, if◌then◌else◌, map, nat_lt, option_map};
 ghost use Rattle.volume_model.specs.Client.{has_cut, is_open};
@@ -99,7 +99,7 @@ impl Actors {
         Ok(ends)
     }
 
-    /// Adds the outcome of the client of a volume epoch as a recovery, if it has cut. Writer 1 was no recovery.
+    /// Adds the outcome of the client of a volume epoch as a recovery, if it has cut. Writer 1 was never a recovery.
     fn add_find(&self, volume: u32, ends: &mut Vec<RecoveryOutcome>) -> Result<(), AllocError>
         ensures { IfOk result (λ _. map find_of ends.new.items ≡ map find_of ends.old.items
             ++ (if nat_lt 1 volume && has_cut (clients_of self.now.clients.items volume).stage then found_client volume

@@ -1,56 +1,56 @@
-//! What may happen to a volume.
+//! The events of a volume.
 
 use std::alloc::AllocError;
 use writer_core::Change;
 
-/// What may happen next, to one actor. A lost message is one that no event names. Messages are numbered from 1 in the order of
-/// making.
+/// An event, which happens to one actor. A lost message is one that no event delivers. Messages are numbered from 1 in
+/// the order in which they were made.
 #[derive(Drop)]
 pub enum Event {
     /// The authority assigns the next volume epoch.
     Assign,
-    /// The authority leads a group to a child of its configuration.
+    /// The authority advances a group to a child of its configuration.
     Advance { group: u8, configuration: u32 },
     /// The authority makes a View of the groups' places for the client of the last volume epoch.
     Refresh { volume: u32 },
     /// The authority lets the next group join.
     Grow,
-    /// A writer gives a transaction's changes their records.
+    /// A writer makes the records of a transaction's changes.
     Issue { volume: u32, changes: Vec<Change> },
     /// A client takes the message with this number.
     Take { volume: u32, message: u64 },
-    /// A recovery that has read enough finds the log, and begins to install it.
+    /// A recovery with enough reports finds the log, and begins to install it.
     Cut { volume: u32 },
-    /// A recovery that has installed enough becomes a writer.
+    /// A recovery with enough acknowledgements becomes a writer.
     Open { volume: u32 },
-    /// A writer sends a record of its log once more.
+    /// A writer sends a record of its log again.
     Resend { volume: u32, lsn: u64 },
-    /// A writer asks for a block's bytes at its durable point.
+    /// A writer requests a block's page at its durable point.
     Read { volume: u32, group: u8, block: u32 },
     /// A node of a group takes the message with this number.
     Deliver { group: u8, member: u8, message: u64 },
-    /// A node becomes whole from the copies that it was sent.
+    /// A node becomes whole from the copies that it received.
     Hydrate { group: u8, member: u8 },
-    /// A node starts again.
+    /// A node restarts.
     Restart { group: u8, member: u8 },
     /// A node offers a record that it holds to the others of its group.
     Offer { group: u8, member: u8, lsn: u64 },
 }
 
-/// An event whose message may be named by the event that made it. Most are deliveries and takings, and there may be many, so another
-/// event lies behind a pointer.
+/// An event that may name its message by the event that made it. Most orders deliver or take a message, and there may
+/// be many, so other events are boxed.
 #[derive(Drop)]
 pub enum Order {
-    /// An event as it is.
+    /// Any event.
     Event(Box<Event>),
-    /// A node of a group takes the message that was made as the `place`-th, from 1, by the event with this index.
+    /// A node of a group takes the `place`-th message (from 1) that the event with this index made.
     DeliverFrom {
         group: u8,
         member: u8,
         event: u32,
         place: u64,
     },
-    /// A client takes the message that was made as the `place`-th, from 1, by the event with this index.
+    /// A client takes the `place`-th message (from 1) that the event with this index made.
     TakeFrom {
         volume: u32,
         event: u32,

@@ -1,4 +1,4 @@
-//! The world of a volume: all actors, all messages ever made, and what a list of events leads to.
+//! The world of a volume: all actors and all messages, and runs of events over them.
 #![tactic(auto)]
 
 mod actions;

@@ -1,4 +1,4 @@
-//! The nodes that a run leaves.
+//! The nodes at the end of a run.
 
 ghost use Rattle.std.specs.Prelude.{◌≡◌, IfOk};
 ghost use Rattle.segment_core.specs.Segment.{node_of};
@@ -10,44 +10,42 @@ use crate::nodes::MEMBERS;
 use segment_core::Segment;
 use std::alloc::{AllocError, Global};
 
-/// A node of a group, as a run leaves it.
+/// A node of a group at the end of a run.
 #[derive(Clone, Copy)]
 pub struct NodeState {
     /// The group of the node.
     pub group: u8,
-    /// The number of the node's member.
+    /// The member whose node it is.
     pub member: u8,
-    /// The volume epoch that it has promised.
+    /// The volume epoch that the node has promised.
     pub volume_epoch: u32,
-    /// The membership epoch of the last step that it took, 0 before the first.
+    /// The membership epoch of the node's last membership step, 0 before the first.
     pub membership_epoch: u32,
-    /// Whether it is whole.
+    /// Whether the node is whole.
     pub is_whole: bool,
     /// Its segment complete point: the greatest LSN up to which it holds all records of its group.
     pub complete_point: u64,
-    /// How many records it holds.
+    /// The number of records that it holds.
     pub records: usize,
 }
 
-/// Returns the state of a node. It takes the memory of a snapshot for the time of the call.
-fn state_of(alloc: Global, group: u8, member: u8, segment: Segment) -> Result<NodeState, AllocError>
-    ensures { IfOk result (λ state. state ≡ node_state group member (node_of segment)) }
+/// Returns the state of a node.
+fn state_of(group: u8, member: u8, segment: Segment) -> NodeState
+    ensures { result ≡ node_state group member (node_of segment) }
 {
-    let mut segment = segment;
-    let complete_point = segment.scl();
-    let snapshot = segment.snapshot(alloc)?;
-    Ok(NodeState {
+    let status = segment.status();
+    NodeState {
         group,
         member,
-        volume_epoch: snapshot.volume,
-        membership_epoch: snapshot.place.epoch,
-        is_whole: snapshot.whole,
-        complete_point,
-        records: snapshot.contents.records.len(),
-    })
+        volume_epoch: status.volume_epoch,
+        membership_epoch: status.membership_epoch,
+        is_whole: status.is_whole,
+        complete_point: status.complete_point,
+        records: status.records,
+    }
 }
 
-/// Returns the states of the nodes that the plan names, by group and member.
+/// Returns the states of the nodes that the plan names, by group and member. Fails only with `NoMemory`.
 pub fn states_of(alloc: Global, actors: Actors) -> Result<Vec<NodeState>, AllocError>
     requires { AreActors actors }
     ensures { IfOk result (λ states. states.items ≡ nodes_in (plan_of actors) (world_of actors)) }
@@ -60,7 +58,7 @@ pub fn states_of(alloc: Global, actors: Actors) -> Result<Vec<NodeState>, AllocE
         if let Some(segment) = place {
             let group = (slot / MEMBERS) as u8;
             let member = (slot % MEMBERS) as u8;
-            states.push(state_of(alloc, group, member, segment)?)?;
+            states.push(state_of(group, member, segment))?;
         }
         slot += 1;
     }

@@ -1,4 +1,4 @@
-//! A node's step, among all messages.
+//! Steps of nodes.
 
 ghost use Rattle.std.specs.Prelude.{◌≡◌, Bool, [], Ok};
 ghost use Rattle.volume_model.specs.Lists.{added};
@@ -15,7 +15,7 @@ use std::alloc::Global;
 use volume_model::Fault;
 use wire::Message;
 
-/// Applies a prepared step of a segment and appends its messages, for which it makes room first. On error nothing has
+/// Applies a prepared step of a segment and appends its messages. Reserves room for them first. On error nothing has
 /// changed.
 #[inline(always)]
 fn take(
@@ -34,7 +34,7 @@ fn take(
     Ok(enter(messages, made))
 }
 
-/// Does what [`deliver`] says, out of line so that the write path keeps a small stack frame.
+/// The general case of [`deliver`], out of line so that the write path keeps a small stack frame.
 #[inline(never)]
 fn deliver_any(
     alloc: Global,
@@ -50,8 +50,8 @@ fn deliver_any(
     take(segment, messages, prepared)
 }
 
-/// Delivers the message with this number to a segment and appends the answers, for which it makes room before the
-/// segment changes. `NoMessage` if none has the number. On error nothing has changed.
+/// Delivers the message with this number to a segment and appends the answers. Reserves room for them first.
+/// `NoMessage` if there is no such message. On error nothing has changed.
 pub fn deliver(
     alloc: Global,
     segment: &mut Segment,
@@ -61,8 +61,7 @@ pub fn deliver(
     ensures moves { Delivers number segment.old segment.new messages.old.items messages.new.items result }
     ensures actor { IsSameActor segment.old segment.new }
 {
-    // Most messages are Writes. Without this path, and its own call of a segment, scripts of Writes take 11 to 16 %
-    // more instructions.
+    // Most messages are Writes. Without this path scripts of Writes take 11 to 16 % more instructions.
     if let Message::Write(write) = named(messages.as_slice(), number)? {
         let prepared = segment.prepare_write(alloc, write)?;
         return take(segment, messages, prepared);
@@ -70,8 +69,7 @@ pub fn deliver(
     deliver_any(alloc, segment, messages, number)
 }
 
-/// Performs a segment's action and appends its messages, for which it makes room before the segment changes. On error
-/// nothing has changed.
+/// Performs a segment's action and appends its messages. Reserves room for them first. On error nothing has changed.
 pub fn act(
     alloc: Global,
     segment: &mut Segment,

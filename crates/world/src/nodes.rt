@@ -1,4 +1,4 @@
-//! The nodes that a plan names, one slot a member of a group.
+//! The nodes that a plan names, in slots: one for each member of each group.
 
 ghost use Rattle.std.specs.Prelude.{◌≡◌, IfOk, IfErr, option_map};
 ghost use Rattle.std.specs.Arc.{arc_value};
@@ -18,7 +18,7 @@ use volume_model::Fault;
 /// The most members of a group.
 pub const MEMBERS: usize = 64;
 
-/// Returns the slot of a member of a group, where there is one among this many.
+/// Returns the slot of a member of a group among `slots` slots, if there is one.
 pub fn slot(slots: usize, group: u8, member: u8) -> Option<usize>
     ensures { FindsSlot result slots group member }
 {
@@ -30,7 +30,7 @@ pub fn slot(slots: usize, group: u8, member: u8) -> Option<usize>
     }
 }
 
-/// Returns the segment of a member as it is born, or none where the plan doesn't name the member.
+/// Returns a member's newborn segment, or `None` if the plan doesn't name the member.
 fn born(
     alloc: Global,
     plan: &Arc<CheckedPlan>,
@@ -48,7 +48,7 @@ fn born(
     Ok(Some(Segment::new(alloc, plan.clone()?, group, member)?))
 }
 
-/// Returns all nodes as they are born.
+/// Returns all newborn nodes.
 pub fn all_born(alloc: Global, plan: &Arc<CheckedPlan>) -> Result<Vec<Option<Segment>>, Fault>
     ensures homes { IfOk result (λ slots. AreHomes (checked_model (arc_value plan.now)) slots.items) }
     ensures nodes { IfOk result (λ slots. node_at (checked_model (arc_value plan.now)) (nodes_of slots.items)

@@ -1,4 +1,4 @@
-//! The messages that were made, in the order of making.
+//! The messages that were made, by number.
 
 ghost use Rattle.std.specs.Prelude.{◌≡◌, ◌+◌, ◌≤◌, ◌++◌, [], None, Some, length, vec_capacity, vec_len, MatchResult};
 ghost use Rattle.volume_model.specs.declared.fault.Fault.TheVariants.{NoMessage};
@@ -10,7 +10,7 @@ ghost use Rattle.world.specs.Actions.{message_found};
 use volume_model::Fault;
 use wire::{Message, Messages};
 
-/// Returns the message with a number, counted from 1 in the order of making.
+/// Returns the message with a number. Messages are numbered from 1 in the order in which they were made.
 pub fn message_at(messages: &[Message], number: u64) -> Option<&Message>
     ensures { message_found result ≡ numbered (added (messages_of messages.now) []) number }
 {
@@ -20,10 +20,10 @@ pub fn message_at(messages: &[Message], number: u64) -> Option<&Message>
     Some(&messages[(number - 1) as usize])
 }
 
-/// Returns the message that an order names.
+/// Returns the message with a number.
 ///
 /// # Errors
-/// `NoMessage` if none has that number.
+/// `NoMessage` if there is no such message.
 pub fn named(messages: &[Message], number: u64) -> Result<&Message, Fault>
     ensures { MatchResult result (λ m. numbered (added (messages_of messages.now) []) number ≡ Some (message_of m.now))
         (λ fault. (fault ≡ NoMessage) × (numbered (added (messages_of messages.now) []) number ≡ None)) }
@@ -34,7 +34,7 @@ pub fn named(messages: &[Message], number: u64) -> Result<&Message, Fault>
     }
 }
 
-/// Adds the messages that a step made to the others, among which there is room for them, and answers how many they are.
+/// Appends the messages of a step to a list that has room for them. Returns their number.
 #[inline(always)]
 pub fn enter(messages: &mut Vec<Message>, made: Messages) -> u64
     requires { vec_len messages.old + length (listed made) ≤ vec_capacity messages.old }

@@ -1,4 +1,4 @@
-//! Events whose messages are named by the events that made them.
+//! Orders: events that may name a message by the event that made it.
 
 ghost use Rattle.std.specs.Prelude.{◌≡◌};
 ghost use Rattle.volume_model.specs.World.{step};
@@ -10,7 +10,7 @@ use crate::event::Order;
 use std::alloc::Global;
 use volume_model::Fault;
 
-/// Returns how many messages an event made, 0 if it was refused.
+/// Returns the number of messages that an event made, 0 if it was refused.
 fn made_by(event_result: &Result<u32, Fault>) -> u32
     ensures { result ≡ made_by event_result.now }
 {
@@ -20,8 +20,8 @@ fn made_by(event_result: &Result<u32, Fault>) -> u32
     }
 }
 
-/// Returns the number of the message that was made as the `place`-th, from 1, by the event with an index; 0, which no
-/// message has, where it made fewer. `firsts` has how many messages were made before each event.
+/// Returns the number of the `place`-th message (from 1) that an event made, or 0, which no message has, if it made
+/// fewer. `firsts` has the number of messages made before each event.
 fn number_of(firsts: &[u32], results: &[Result<u32, Fault>], event: usize, place: u64) -> u64
     requires { firsts.now ≡ firsts_of 0 results.now }
     ensures { result ≡ number_from 0 results.now event place }
@@ -36,7 +36,7 @@ fn number_of(firsts: &[u32], results: &[Result<u32, Fault>], event: usize, place
     u64::from(firsts[event]) + place
 }
 
-/// Makes the event happen that an order is after these results. The memory of the order is given back then.
+/// Performs the event of an order, after these results. Frees the order's memory.
 pub fn follow(
     alloc: Global,
     actors: &mut Actors,

@@ -10,22 +10,22 @@ use writer_core::Log;
 /// An opened writer at the end of a run.
 #[derive(Drop)]
 pub struct WriterOutcome {
-    /// Returns the client's volume epoch.
+    /// The writer's volume epoch.
     pub volume: u32,
-    /// The LSN after which its own records begin.
+    /// The LSN after which the writer's own records begin.
     pub start: u64,
-    /// Its log, in growing LSN.
+    /// The writer's log, in order of LSN.
     pub log: Log,
-    /// Its durable point.
+    /// The writer's durable point.
     pub durable: u64,
 }
 
 /// A recovery that has cut, at the end of a run.
 #[derive(Drop)]
 pub struct RecoveryOutcome {
-    /// Returns the client's volume epoch.
+    /// The recovery's volume epoch.
     pub volume: u32,
-    /// The log that it found, where it cut, and its lineage.
+    /// The log found, the cut, and the lineage.
     pub found: Found,
 }
 
@@ -34,13 +34,13 @@ const _: () = prove!(size_of::<Result<u32, Fault>>() <= 8);
 /// The outcome of a run.
 #[derive(Drop)]
 pub struct Outcome {
-    /// For each event the number of messages that it made, or why it was refused. There may be many.
+    /// For each event the number of messages that it made, or its refusal.
     pub results: Vec<Result<u32, Fault>>,
     /// The opened writers, in growing volume epoch.
     pub writers: Vec<WriterOutcome>,
-    /// The recoveries that have cut, in growing volume epoch. One that has become a writer is both.
+    /// The recoveries that have cut, in growing volume epoch. One that became a writer is in both lists.
     pub finds: Vec<RecoveryOutcome>,
-    /// The actors as the run left them, and all messages: their memory is given back with the outcome, whenever that is.
+    /// The actors at the end of the run, and all messages.
     pub(crate) actors: Actors,
 }
 
@@ -57,8 +57,8 @@ impl Outcome {
         self.actors.readers(alloc)
     }
 
-    /// Returns the nodes that the plan names, by group and member. It takes the memory of one node's snapshot at a
-    /// time. The actors are those of a run, as the contract of [`run`](crate::run) says.
+    /// Returns the nodes that the plan names, by group and member. The actors are those of a run, as the contract of
+    /// [`run`](crate::run) says.
     pub fn into_nodes(self, alloc: Global) -> Result<Vec<NodeState>, AllocError>
         requires { AreActors self.actors }
         ensures { IfOk result (λ nodes. nodes.items ≡ nodes_in (plan_of self.actors) (world_of self.actors)) }

@@ -1,4 +1,4 @@
-//! What a recovery does.
+//! Steps of recoveries.
 
 ghost use Rattle.std.specs.Prelude.{◌≡◌, ◌≢◌, Err};
 ghost use Rattle.volume_model.specs.Answer.{refusal_of, Answers, AnswersAfterGrowth};
@@ -16,8 +16,8 @@ use std::alloc::Global;
 use volume_model::Fault;
 use wire::Message;
 
-/// Checks whether a recovery would take a message. `NoMessage` if none was found, `NotAddressed` if it isn't for it,
-/// `NotInPlan` for a View of other places.
+/// Checks whether a recovery would take a message. `NoMessage` if there is none, `NotAddressed` if it isn't for the
+/// recovery, `NotInPlan` for a View with places that aren't the plan's.
 fn admits_message(recovery: &Recovery, found: Option<&Message>) -> Result<(), Fault>
     ensures { result ≡ refusal_of (take (recovery_plan recovery.now) (recovery_volume recovery.now)
         (client_of recovery.now) (message_found found.entry)) }
@@ -31,14 +31,14 @@ fn admits_message(recovery: &Recovery, found: Option<&Message>) -> Result<(), Fa
     }
 }
 
-/// Returns the answer of a recovery to what a writer alone does.
+/// Returns the refusal of a recovery to an action of writers.
 fn not_open<T>() -> Result<T, Fault>
     ensures { result ≡ Err NotOpen }
 {
     Err(Fault::NotOpen)
 }
 
-/// Checks whether a recovery would act. `NotOpen` if a writer alone could.
+/// Returns the refusal of a recovery's action, if any. `NotOpen` for an action of writers.
 pub fn admits(
     alloc: Global,
     recovery: &Recovery,
@@ -61,7 +61,7 @@ pub fn admits(
     }
 }
 
-/// Lets a recovery take a message, and returns the messages that it makes.
+/// Takes a message. Returns the messages that the recovery makes.
 fn take(
     alloc: Global,
     recovery: &mut Recovery,
@@ -84,7 +84,7 @@ fn take(
     Ok(Vec::new(alloc))
 }
 
-/// Lets a recovery act, but not open, by which it becomes a writer. `NotOpen` if a writer alone could.
+/// Performs a recovery's action except `Open`, which makes it a writer. `NotOpen` for an action of writers.
 pub fn act(
     alloc: Global,
     recovery: &mut Recovery,

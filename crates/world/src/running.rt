@@ -1,4 +1,4 @@
-//! Whole runs.
+//! Runs of events.
 
 ghost use Rattle.std.specs.Prelude.{◌≡◌, ◌≢◌, IfOk, IfErr};
 ghost use Rattle.std.specs.Arc.{arc_value};
@@ -20,8 +20,7 @@ use volume_model::{
 };
 use writer_core::MOST_CHANGES;
 
-/// Returns a number of messages. More than it can count are as if memory ran out, as these would take more of it than
-/// is there.
+/// Returns a number of messages as a `u32`. Reports a greater one as out of memory: so many messages wouldn't fit.
 fn count_of(messages: u64) -> Result<u32, Fault>
     ensures same { IfOk result (λ count. count ≡ messages) }
     ensures memory { IfErr result (λ e. e ≡ NoMemory) }
@@ -32,7 +31,7 @@ fn count_of(messages: u64) -> Result<u32, Fault>
     Ok(messages as u32)
 }
 
-/// Returns the result of an event; running out of memory ends the run.
+/// Returns the result of an event. Running out of memory ends the run.
 fn event_result(step: Result<u64, Fault>) -> Result<Result<u32, Fault>, Fault>
     ensures same { IfOk result (λ event_result. event_result ≡ step) }
     ensures some { IfOk result (λ event_result. event_result ≢ Err NoMemory) }
@@ -45,7 +44,7 @@ fn event_result(step: Result<u64, Fault>) -> Result<Result<u32, Fault>, Fault>
     }
 }
 
-/// Proves every promise that the volume makes of runs, of every list of events over the plan. It does nothing.
+/// Proves every promise of the volume for the runs of all lists of events over the plan. It does nothing.
 pub fn promised(plan: &CheckedPlan)
     ensures { PromisesRuns (checked_model plan.now) }
 {
@@ -59,7 +58,7 @@ pub fn promised(plan: &CheckedPlan)
     runs_are_orderly();
 }
 
-/// Returns how many messages an event mostly makes.
+/// Returns the number of messages that an event usually makes.
 fn usual_messages(event: &Event) -> usize {
     match event {
         Event::Issue { changes, .. } if changes.len() <= MOST_CHANGES => changes.len(),
@@ -67,7 +66,7 @@ fn usual_messages(event: &Event) -> usize {
     }
 }
 
-/// Returns the outcome of events that happen one after the other.
+/// Performs events one after the other. Returns the outcome.
 fn outcome_of(alloc: Global, plan: &Arc<CheckedPlan>, events: &[Event]) -> Result<Outcome, Fault>
     ensures is_run { IfOk result (IsOutcomeOfRun (checked_model (arc_value plan.now)) (events_of events.now)) }
     ensures memory { IfErr result (λ e. e ≡ NoMemory) }
@@ -89,7 +88,7 @@ fn outcome_of(alloc: Global, plan: &Arc<CheckedPlan>, events: &[Event]) -> Resul
     })
 }
 
-/// Returns how many messages orders mostly make together.
+/// Returns the number of messages that orders usually make together.
 fn usual_messages_of(orders: &[Order]) -> usize {
     let mut count = 0usize;
     for order in orders {
@@ -102,8 +101,7 @@ fn usual_messages_of(orders: &[Order]) -> usize {
     count
 }
 
-/// Returns the outcome of orders that are followed one after the other, the memory of each of which is given back
-/// once it was followed.
+/// Performs orders one after the other. Returns the outcome. Frees each order's memory once it was performed.
 fn outcome_of_orders(
     alloc: Global,
     plan: &Arc<CheckedPlan>,
@@ -145,14 +143,15 @@ fn outcome_of_orders(
 /// # Errors
 /// `NoMemory` ends the run.
 pub fn run(alloc: Global, plan: &Arc<CheckedPlan>, events: &[Event]) -> Result<Outcome, Fault>
-    // The outcome is exactly that of the model.
+    // The outcome is that of the model's run.
     ensures is_run { IfOk result (IsOutcomeOfRun (checked_model (arc_value plan.now)) (events_of events.now)) }
 
-    // Whatever the events: every commit that a returned writer has acknowledged stands, with the whole log before it, in the log of every
-    // returned find of a later volume epoch, and no two records are acknowledged under one LSN.
+    // For any events: each commit that a returned writer has acknowledged, and the whole log before it, is in the log
+    // found by each returned recovery of a later volume epoch, and no two different records are acknowledged under one
+    // LSN.
     ensures returned { IfOk result KeepsReturned }
 
-    // The same holds of all clients in the world of the run, with all else that the volume promises of a run.
+    // The same holds for all clients in the world of the run, and so does every other promise of the volume.
     ensures promises { KeepsPromises (checked_model (arc_value plan.now)) (events_of events.now) }
     ensures memory { IfErr result (λ e. e ≡ NoMemory) }
 {
@@ -160,8 +159,8 @@ pub fn run(alloc: Global, plan: &Arc<CheckedPlan>, events: &[Event]) -> Result<O
     outcome_of(alloc, plan, events)
 }
 
-/// Runs orders, whose messages may be named by the events that made them, as [`run`] does. The memory of an order is
-/// freed once it was followed.
+/// Runs orders, which may name a message by the event that made it, as [`run`] runs events. Frees each order's memory
+/// once it was performed.
 ///
 /// # Errors
 /// `NoMemory` ends the run.

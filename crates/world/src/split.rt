@@ -1,4 +1,4 @@
-//! Events, as an actor and its action.
+//! Splits events into an actor and its action.
 
 ghost use Rattle.std.specs.Prelude.{◌≡◌, true, IfOk};
 ghost use Rattle.world.specs.Actions.{action_event, authority_event, client_event, node_event};
@@ -11,7 +11,7 @@ use segment_core::NodeAction;
 use std::alloc::{AllocError, Global};
 
 impl Event {
-    /// Returns the actor and what it is asked to do.
+    /// Returns the actor of the event and its action.
     pub fn split(&self) -> ActorAction<'_>
         ensures { action_event result ≡ event_of self.now }
     {
@@ -53,7 +53,7 @@ impl Event {
         }
     }
 
-    /// Returns the action of an event of the authority.
+    /// Returns the action of the authority's event.
     fn authority_action(&self) -> AuthorityAction
         requires { is_of_authority (event_of self.now) ≡ true }
         ensures { authority_event result ≡ event_of self.now }
@@ -73,7 +73,7 @@ impl Event {
         }
     }
 
-    /// Returns the volume epoch and the action of an event of a client.
+    /// Returns the volume epoch and the action of a client's event.
     fn client_action(&self) -> (u32, ClientAction<'_>)
         requires { is_of_client (event_of self.now) ≡ true }
         ensures { client_event result.0 result.1 ≡ event_of self.now }
@@ -101,7 +101,7 @@ impl Event {
         }
     }
 
-    /// Returns the event that the authority performs an action.
+    /// Returns the event of the authority's action.
     pub fn of_authority(action: AuthorityAction) -> Event
         ensures { event_of result ≡ authority_event action }
     {
@@ -119,8 +119,7 @@ impl Event {
         }
     }
 
-    /// Returns the event that the client of a volume epoch performs an action, with a copy of the changes that it
-    /// issues. Fails only for lack of memory for these.
+    /// Returns the event of a client's action, with a copy of its changes. Fails only if memory runs out.
     pub fn of_client(
         alloc: Global,
         volume: u32,
@@ -145,7 +144,7 @@ impl Event {
         }
     }
 
-    /// Returns the event that a member of a group performs an action.
+    /// Returns the event of a node's action.
     pub fn of_node(group: u8, member: u8, action: NodeAction) -> Event
         ensures { event_of result ≡ node_event group member action }
     {

@@ -1,4 +1,4 @@
-//! What a writer does.
+//! Steps of writers.
 
 ghost use Rattle.std.specs.Prelude.{◌≡◌};
 ghost use Rattle.volume_model.specs.Answer.{refusal_of, Answers, AnswersAfterGrowth};
@@ -14,8 +14,8 @@ use volume_model::Fault;
 use wire::{Message, Messages};
 use writer_core::Writer;
 
-/// Checks whether a writer would take a message. `NoMessage` if none was found, `NotAddressed` if it isn't for it,
-/// `NotInPlan` for a View of other places.
+/// Checks whether a writer would take a message. `NoMessage` if there is none, `NotAddressed` if it isn't for the
+/// writer, `NotInPlan` for a View with places that aren't the plan's.
 fn admits_message(writer: &Writer, found: Option<&Message>) -> Result<(), Fault>
     ensures { result ≡ refusal_of (take (writer_plan writer.now) (writer_volume writer.now) (client_of writer.now)
         (message_found found.entry)) }
@@ -29,7 +29,7 @@ fn admits_message(writer: &Writer, found: Option<&Message>) -> Result<(), Fault>
     }
 }
 
-/// Checks whether a writer would act. `AlreadyDone` if it is to cut or to open.
+/// Returns the refusal of a writer's action, if any. `AlreadyDone` for `Cut` and `Open`.
 pub fn admits(
     writer: &Writer,
     action: ClientAction<'_>,
@@ -56,7 +56,7 @@ pub fn admits(
     }
 }
 
-/// Lets a writer take a message, and returns the messages that it makes.
+/// Takes a message. Returns the messages that the writer makes.
 fn take(alloc: Global, writer: &mut Writer, found: Option<&Message>) -> Result<Messages, Fault>
     ensures answers { Answers answered (take (writer_plan writer.old) (writer_volume writer.old) (client_of writer.old)
         (message_found found.entry)) (client_of writer.old) result (client_of writer.new) }
@@ -79,7 +79,7 @@ fn take(alloc: Global, writer: &mut Writer, found: Option<&Message>) -> Result<M
     Ok(Messages::Empty)
 }
 
-/// Lets a writer act. `AlreadyDone` if it is to cut or to open.
+/// Performs a writer's action. `AlreadyDone` for `Cut` and `Open`.
 pub fn act(
     alloc: Global,
     writer: &mut Writer,

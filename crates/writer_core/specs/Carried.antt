@@ -1,9 +1,9 @@
--- A record that a writer lends, as the message that carries it.
+-- A record that a writer lends, as a message.
 use Rattle.volume_model.specs.Message as model
 use Rattle.redo_record.specs.SharedRecord.{shared_redo}
 use Rattle.wire.specs.declared.carried.Carried.{Carried}
 use Rattle.wire.specs.Message.{label_of}
 
--- the Write that carries it
+-- the Write of the record
 abbrev pub carried_write : Carried → model.Message
 carried_write carried = model.Message.Write carried.group (label_of carried.label) (shared_redo carried.packet.now)

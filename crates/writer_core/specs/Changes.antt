@@ -7,11 +7,11 @@ use Rattle.writer_core.specs.declared.change.Form.{Form}
 use Rattle.writer_core.specs.declared.change.Form.TheVariants.{Few, Many}
 use Rattle.writer_core.specs.declared.change.Change.{Change}
 
--- the bytes that stand in place
+-- the bytes that are stored inline
 abbrev pub few_bytes : FewBytes → List ℕ
 few_bytes few = take few.length few.place
 
--- the change that has this form
+-- the change in this form
 abbrev pub change_in : Form → model.Change
 change_in (Few group offset block bytes) = record {
   group = group;
@@ -28,10 +28,10 @@ change_in (Many group offset block bytes) = record {
       payload_bytes bytes.value;
 }
 
--- the change that a program's change is
+-- the change of the model for a program's change
 abbrev pub change_of : Change → model.Change
 change_of change = change_in change.form
 
--- the changes that a transaction asks for
+-- the changes of a transaction
 abbrev pub changes_of : List Change → List model.Change
 changes_of changes = map change_of changes

@@ -1,4 +1,4 @@
--- How far a log is covered by the points of its groups.
+-- How much of a log is covered by the points of its groups.
 use Rattle.std.specs.Prelude.{◌≡◌, ℕ, ◌+◌, ◌<◌, ◌≤◌, Bool, true, nat_le, if◌then◌else◌, List, length, take, slice_index, slice_set}
 use Rattle.volume_model.specs.Lists.{every}
 use Rattle.volume_model.specs.Redo.{Redo, last_lsn, last_of_group}
@@ -12,8 +12,8 @@ use Rattle.writer_core.specs.declared.durability.DurabilityTracker.{DurabilityTr
 abbrev pub is_covered : (ℕ → ℕ) → Redo → Bool
 is_covered points r = nat_le r.lsn (points r.group)
 
--- so many records from the first on are covered, and these are the numbers of the last of them and of its last
--- consistency point, and by group the last of them and the last one up to that point
+-- the first records, as many as the tracker says, are covered. It has the LSN of the last of them and of their last
+-- consistency point, and for each group the last LSN among them and the last one up to that point
 pub record CoversPrefix (durability : DurabilityTracker) (points : ℕ → ℕ) (records : List SharedRecord) : Type 0 where
   pub within : durability.records ≤ length records
   pub all : every (is_covered points) (log_of (take durability.records records)) ≡ true
@@ -25,11 +25,11 @@ pub record CoversPrefix (durability : DurabilityTracker) (points : ℕ → ℕ) 
   pub durable_lasts : (group : ℕ) → group < 16 → slice_index durability.durable_lasts group ≡ last_of_group_below group
       durability.durable (log_of (take durability.records records))
 
--- no record is covered yet, of whatever log
+-- the tracker covers no record, whatever the log
 abbrev pub CoversNone : DurabilityTracker → Type 0
 CoversNone durability = (points : ℕ → ℕ) (records : List SharedRecord) → CoversPrefix durability points records
 
--- one record more is covered
+-- one more record is covered
 pub record Covers (old new : DurabilityTracker) (r : Redo) : Type 0 where
   pub counted : new.records ≡ old.records + 1
   pub complete : new.complete ≡ r.lsn
@@ -37,8 +37,8 @@ pub record Covers (old new : DurabilityTracker) (r : Redo) : Type 0 where
   pub last_lsns : new.last_lsns ≡ slice_set old.last_lsns r.group r.lsn
   pub durable_lasts : new.durable_lasts ≡ (if r.point then new.last_lsns else old.durable_lasts)
 
--- the records from the first on are covered as far as they go: their numbers are the log's complete point, its durable
--- point, and by group the last number up to that
+-- all records from the first on are covered that can be: the tracker has the log's complete point, its durable point,
+-- and for each group the last LSN up to that
 pub record CoversLog (durability : DurabilityTracker) (points : ℕ → ℕ) (records : List SharedRecord) : Type 0 where
   pub front : CoversPrefix durability points records
   pub complete : durability.complete ≡ complete_of points (log_of records)

@@ -1,4 +1,4 @@
--- What a client keeps of its groups, as the model's client keeps it.
+-- A client's state of its groups, as the model's client has it.
 use Rattle.std.specs.Prelude.{ℕ, ◌<◌, List, length, map, slice_set}
 use Rattle.std.specs.Arc.{arc_value}
 use Rattle.volume_model.specs.Plan.{Plan}
@@ -13,7 +13,7 @@ use Rattle.hydration.specs.Copies.{copies_in}
 use Rattle.writer_core.specs.declared.group_state.GroupState.{GroupState}
 use Rattle.writer_core.specs.Counts.{counts_of}
 
--- what a client keeps of a group
+-- the state of a group
 abbrev pub group_at : GroupState → ClientGroup
 group_at s = record {
   place = place_of s.place;
@@ -23,31 +23,31 @@ group_at s = record {
   joined = s.joined;
 }
 
--- what a client keeps of its groups
+-- the states of all groups
 abbrev pub groups_of : List GroupState → List ClientGroup
 groups_of group_states = map group_at group_states
 
--- each group stands at one of its configurations
+-- the place of each group is one of its configurations
 abbrev pub ArePlaced : Plan → List ClientGroup → Type 0
 ArePlaced plan groups = (group : ℕ) → group < length groups → (model.place_of groups group).configuration
     < plan.configurations group
 
--- a group with an acknowledgement counted
+-- a group after an acknowledgement is counted
 abbrev pub counted_group : ClientGroup → ℕ → ℕ → ClientGroup
 counted_group group sender reached = record group { counts = with_count sender reached group.counts }
 
--- what is kept of a report: what its sender holds
+-- a report as it is kept: its sender and contents
 abbrev pub report_of : Report → From
 report_of report = record { sender = report.from; contents = contents_of (arc_value report.contents) }
 
--- a group with a report kept, the first of each sender
+-- a group after a report is kept; the first of each sender is
 abbrev pub reported_group : ClientGroup → From → ClientGroup
 reported_group group report = record group { reports = with_first report group.reports }
 
--- the groups with an acknowledgement of one of them counted
+-- the groups after an acknowledgement of one of them is counted
 abbrev pub counted_in : List ClientGroup → ℕ → ℕ → ℕ → List ClientGroup
 counted_in groups group sender reached = slice_set groups group (counted_group (group_of groups group) sender reached)
 
--- the groups with a report of one of them kept
+-- the groups after a report of one of them is kept
 abbrev pub reported_in : List ClientGroup → ℕ → From → List ClientGroup
 reported_in groups group report = slice_set groups group (reported_group (group_of groups group) report)

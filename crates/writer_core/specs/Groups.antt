@@ -1,4 +1,4 @@
--- What a client keeps of the groups of its plan.
+-- A client's state of the groups of its plan.
 use Rattle.std.specs.Prelude.{List}
 use Rattle.std.specs.Arc.{arc_value}
 use Rattle.volume_model.specs.Plan.{Plan}
@@ -7,14 +7,14 @@ use Rattle.plan.specs.CheckedModel.{checked_model}
 use Rattle.writer_core.specs.declared.group_states.GroupStates.{GroupStates}
 use Rattle.writer_core.specs.GroupStates.{groups_of}
 
--- the groups as the model's client keeps them
+-- the groups of the model for the states
 abbrev pub groups_in : GroupStates → List ClientGroup
 groups_in s = groups_of s.list.items
 
--- the plan whose groups they are
+-- the plan of the groups
 abbrev pub group_states_plan : GroupStates → Plan
 group_states_plan s = checked_model (arc_value s.plan)
 
--- a client that keeps these of its groups
+-- a client with this state of its groups
 abbrev pub keeping : List ClientGroup → Client
 keeping groups = record unborn { groups = groups }

@@ -1,4 +1,4 @@
--- A log of a program, as the model's.
+-- A program's log as one of the model.
 use Rattle.std.specs.Prelude.{ℕ, List, ◌++◌, ◌-◌, vec_len, vec_capacity}
 use Rattle.volume_model.specs.Redo.{Redo}
 use Rattle.redo_record.specs.declared.shared_record.SharedRecord.{SharedRecord}
@@ -7,18 +7,18 @@ use Rattle.redo_record.specs.RecordSet.{packets_of}
 use Rattle.writer_core.specs.Logs.{log_of}
 use Rattle.writer_core.specs.declared.log.Log.{Log}
 
--- the records that it began with
+-- the records with which the log began
 abbrev pub found_of : Log → RecordSet
 found_of log = log.found
 
--- the packets of a log: those that it began with, and behind them those that were issued
+-- the packets of a log: those with which it began, then those that were issued
 abbrev pub packets_in : Log → List SharedRecord
 packets_in log = packets_of log.found ++ log.issued.items
 
--- the log of the model that it is
+-- the log of the model for a log
 abbrev pub log_in : Log → List Redo
 log_in log = log_of (packets_in log)
 
--- for how many records more there is room
+-- the number of records for which there is room
 abbrev pub room_in : Log → ℕ
 room_in log = vec_capacity log.issued - vec_len log.issued

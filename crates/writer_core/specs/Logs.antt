@@ -7,15 +7,15 @@ use Rattle.redo_record.specs.declared.record_set.RecordSet.{RecordSet}
 use Rattle.redo_record.specs.SharedRecord.{shared_redo}
 use Rattle.redo_record.specs.RecordSet.{records_of}
 
--- the log that a list of packets is
+-- the log of the model for a list of packets
 abbrev pub log_of : List SharedRecord → List Redo
 log_of packets = added (map shared_redo packets) []
 
--- the log that a set of records is
+-- the log of the model for a set of records
 abbrev pub log_of_set : RecordSet → List Redo
 log_of_set set = added (records_of set) []
 
--- each record's number is above those of the records before it
+-- each record's LSN is above those of the records before it
 abbrev pub is_growing : List Redo → Bool
 is_growing [] = true
 is_growing (r ∷ older) = nat_lt (last_lsn older) r.lsn && is_growing older

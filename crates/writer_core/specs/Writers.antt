@@ -1,4 +1,4 @@
--- What a writer is, as the model's client, and what it answers.
+-- The client of the model for a writer, and a writer's answers.
 use Rattle.std.specs.Prelude.{◌≡◌, ℕ, ◌+◌, ◌^◌, ◌≤◌, true, List, [], ◌∷◌, length, max}
 use Rattle.std.specs.Prelude.{Vec}
 use Rattle.std.specs.Global.{Global}
@@ -20,15 +20,15 @@ use Rattle.writer_core.specs.Log.{found_of, log_in}
 use Rattle.writer_core.specs.Groups.{groups_in, group_states_plan}
 use Rattle.writer_core.specs.declared.writer.Writer.{Writer}
 
--- the plan that it was made over
+-- the plan of a writer
 abbrev pub writer_plan : Writer → Plan
 writer_plan w = group_states_plan w.group_states
 
--- its volume epoch
+-- the volume epoch of a writer
 abbrev pub writer_volume : Writer → ℕ
 writer_volume w = w.volume
 
--- the client that it is
+-- the client of the model for a writer
 abbrev pub client_of : Writer → Client
 client_of w = record {
   stage = Writing;
@@ -39,7 +39,7 @@ client_of w = record {
   log = log_in w.log;
 }
 
--- a recovery that has cut, with what it keeps of its groups, its lineage and the log that it found
+-- a recovery that has cut, with this state of its groups, this lineage, and this log found
 abbrev pub installing : List ClientGroup → Lineage → List Redo → Client
 installing groups lineage log = record {
   stage = Installing;
@@ -50,27 +50,27 @@ installing groups lineage log = record {
       log;
 }
 
--- a transaction for which there are log sequence numbers
+-- a valid transaction for which there are LSNs
 pub record CanIssue (plan : Plan) (client : Client) (changes : List Change) : Type 0 where
   pub good : is_transaction (length client.groups) changes ≡ true
   pub room : max (last_lsn client.log) (last_start client.lineage) + length changes ≤ 2 ^ 62
 
--- the step of a client that makes these messages and becomes this
+-- the step that makes these messages and leaves the client
 abbrev pub acted : Vec Message Global → Client → ClientStep
 acted messages client = record { made = messages_of messages.items; client = client }
 
--- the same, of messages that may be no list
+-- the same for messages that may need no list
 abbrev pub answered : Messages → Client → ClientStep
 answered messages client = record { made = messages_of (listed messages); client = client }
 
--- the step of a client that makes no message and becomes this
+-- the step that makes no message and leaves the client
 abbrev pub silent : Unit {0} → Client → ClientStep
 silent u client = record { made = []; client = client }
 
--- the step of a client that makes this message and becomes this
+-- the step that makes this message and leaves the client
 abbrev pub asked : Message → Client → ClientStep
 asked message client = record { made = message_of message ∷ []; client = client }
 
--- the step of a client that sends the Write of this record and becomes this
+-- the step that makes the Write of this record and leaves the client
 abbrev pub sent : Carried → Client → ClientStep
 sent carried client = record { made = carried_write carried ∷ []; client = client }

@@ -1,10 +1,10 @@
-//! What a transaction asks for.
+//! Changes, of which a transaction consists.
 
 use crate::few_bytes::{FewBytes, MOST_FEW};
 use redo_record::Payload;
 use std::alloc::{AllocError, Global};
 
-/// A change, with few bytes in place or more behind a pointer.
+/// A change. Short bytes are inline, longer ones are boxed.
 #[derive(Drop)]
 enum Form {
     Few {
@@ -21,8 +21,8 @@ enum Form {
     },
 }
 
-/// A change of a block that a transaction asks for: the bytes, 1 to 64, that stand in a block of a protection group from an offset on. There
-/// may be many.
+/// A change that a transaction makes: 1 to 64 bytes, written from an offset of a block on. Kept small, since there may
+/// be many.
 #[derive(Drop)]
 pub struct Change {
     form: Form,
@@ -35,7 +35,7 @@ impl Change {
     ghost use Rattle.redo_record.specs.Payload.{payload_bytes, HasRoom};
     ghost use Rattle.writer_core.specs.Changes.{change_of};
 
-    /// Returns a change to these bytes, from the offset on. Fails only with `NoMemory`.
+    /// Returns a change that writes these bytes from the offset on. Fails only with `NoMemory`.
     #[inline(always)]
     pub fn new(
         alloc: Global,
@@ -99,7 +99,7 @@ impl Change {
         }
     }
 
-    /// Returns the first byte of the block that is changed.
+    /// Returns the offset of the first byte that is written.
     #[inline(always)]
     pub fn offset(&self) -> u16
         ensures { result ≡ (change_of self.now).offset }
@@ -110,7 +110,7 @@ impl Change {
         }
     }
 
-    /// Returns the bytes that stand there from then on.
+    /// Returns the bytes that are written.
     #[inline(always)]
     pub fn bytes(&self) -> &[u8]
         ensures value { result.now ≡ (change_of self.now).bytes }
@@ -122,7 +122,7 @@ impl Change {
         }
     }
 
-    /// Returns the same, as a record has them.
+    /// Returns the bytes as a record's payload.
     #[inline(always)]
     pub fn payload(&self) -> Payload
         ensures { payload_bytes result ≡ (change_of self.now).bytes }

@@ -23,8 +23,8 @@ pub fn reaching(counts: &[Count], limit: u64) -> MemberSet
     members
 }
 
-/// Returns the greatest of `least` and the counted numbers that a set of members has reached which satisfies the
-/// expression.
+/// Returns the greatest counted number that a set of members satisfying the expression has reached, or `least` if that
+/// is greater.
 pub fn best_from(write: &Expr<Global>, counts: &[Count], least: u64) -> u64
     ensures { result ≡ max least (best (formula_of write.now) (counts_of counts.now) (counts_of counts.now)) }
 {
@@ -35,7 +35,7 @@ pub fn best_from(write: &Expr<Global>, counts: &[Count], least: u64) -> u64
             if holds(write, reaching(counts, reached)) {
                 best = reached;
             } else {
-                // The members that have reached more are some of these.
+                // Fewer members have reached more.
                 most = reached - 1;
             }
         }
@@ -43,7 +43,7 @@ pub fn best_from(write: &Expr<Global>, counts: &[Count], least: u64) -> u64
     best
 }
 
-/// Returns the place of a sender's count, where there is one.
+/// Returns the place of a sender's count, if there is one.
 fn place_of(counts: &[Count], sender: u8) -> Option<usize>
     ensures { MatchOption result (IsNew sender counts.now) (IsPlaceOf sender counts.now) }
 {
@@ -55,7 +55,7 @@ fn place_of(counts: &[Count], sender: u8) -> Option<usize>
     None
 }
 
-/// Counts an acknowledgement: the greatest complete point of its sender is kept.
+/// Counts an acknowledgement. The greatest complete point of each sender is kept.
 pub fn add(counts: &mut Vec<Count>, sender: u8, reached: u64) -> Result<(), AllocFailed<Count>>
     requires { sender < 64 }
     ensures counted { OnOk result (counts_of counts.new.items ≡ with_count sender reached

@@ -7,18 +7,18 @@ use crate::last_lsns::GROUPS;
 use crate::log::Log;
 use redo_record::Record;
 
-/// Tracks how much of a log is covered. A record is covered if its LSN isn't above the point of its group.
+/// Tracks how much of a log is covered. A record is covered if its LSN is at most the point of its group.
 #[derive(Clone, Copy)]
 pub struct DurabilityTracker {
-    /// How many records of the log are covered, from the first on.
+    /// The number of covered records, which are the first ones of the log.
     pub records: usize,
-    /// The LSN of the last of them, 0 where there is none.
+    /// The LSN of the last covered record, 0 if there is none.
     pub complete: u64,
-    /// The LSN of the last consistency point among them, 0 where there is none.
+    /// The LSN of the last covered consistency point, 0 if there is none.
     pub durable: u64,
-    /// By group, the LSN of its last record among them, 0 where it has none.
+    /// By group, the LSN of its last covered record, 0 if it has none.
     last_lsns: [u64; GROUPS],
-    /// By group, the LSN of its last record that is not above `durable`, 0 where it has none.
+    /// By group, the LSN of its last record up to `durable`, 0 if it has none.
     durable_lasts: [u64; GROUPS],
     ghost each_last: { length last_lsns ≡ 16 },
     ghost each_durable_last: { length durable_lasts ≡ 16 },
@@ -32,7 +32,7 @@ impl DurabilityTracker {
     ghost use Rattle.writer_core.specs.Groups.{groups_in};
     ghost use Rattle.writer_core.specs.DurabilityTracker.{CoversNone, Covers, CoversPrefix, CoversLog};
 
-    /// Makes the tracker that covers no record yet.
+    /// Makes a tracker that covers no record.
     pub fn none() -> DurabilityTracker
         ensures { CoversNone result }
     {
@@ -45,8 +45,7 @@ impl DurabilityTracker {
         }
     }
 
-    /// Returns the LSN of a group's last record that is not above the last consistency point covered, 0 where it has
-    /// none.
+    /// Returns the LSN of a group's last record up to the last covered consistency point, 0 if it has none.
     pub fn durable_last(&self, group: u8) -> u64
         requires { group < 16 }
         ensures { result ≡ slice_index self.now.durable_lasts group }
@@ -54,7 +53,7 @@ impl DurabilityTracker {
         self.durable_lasts[usize::from(group)]
     }
 
-    /// Covers the records after those covered, up to the first that can't be.
+    /// Covers more records, up to the first that isn't covered.
     pub fn follow(&mut self, log: &Log, group_states: &GroupStates)
         requires { CoversPrefix self.old (group_point_of (groups_in group_states.now)) (packets_in log.now) }
         ensures { CoversLog self.new (group_point_of (groups_in group_states.now)) (packets_in log.now) }

@@ -1,13 +1,13 @@
-//! A few bytes.
+//! Short byte strings, stored inline.
 
 ghost use Rattle.std.specs.Prelude.{◌≤◌};
 
 use redo_record::Payload;
 
-/// How many bytes are few.
+/// The most bytes that are stored inline.
 pub const MOST_FEW: usize = 7;
 
-/// 1 to 7 bytes, in place.
+/// 1 to 7 bytes, stored inline.
 #[derive(Clone, Copy)]
 pub struct FewBytes {
     length: u8,
@@ -49,7 +49,7 @@ impl FewBytes {
         &self.place[..self.length as usize]
     }
 
-    /// Returns the bytes, as a record has them.
+    /// Returns the bytes as a record's payload.
     pub fn payload(&self) -> Payload
         ensures { payload_bytes result ≡ few_bytes self.now }
     {

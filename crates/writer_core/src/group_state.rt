@@ -11,16 +11,16 @@ use wire::{Place, Report};
 /// A client's state of one group.
 #[derive(Drop)]
 pub struct GroupState {
-    /// The group's configuration and membership epoch, as far as the client knows.
+    /// The group's configuration and membership epoch, as the client knows them.
     pub place: Place,
-    /// The first report of each member. They no longer matter after a recovery's cut.
+    /// The first report of each member. They aren't used after the recovery's cut.
     pub copies: Vec<Copied>,
     /// The acknowledgements counted.
     pub counts: Vec<Count>,
     /// The LSN up to which the group is acknowledged.
     pub point: u64,
-    /// Whether the group has joined the writer: it was there at the volume's birth, or a write set has acknowledged its install at a
-    /// moment since the writer opened.
+    /// Whether the group has joined the writer: it existed at the volume's birth, or a write quorum has acknowledged
+    /// its install since the writer opened.
     pub joined: bool,
 }
 
@@ -35,7 +35,7 @@ impl GroupState {
     ghost use Rattle.wire.specs.Message.{place_of};
     ghost use Rattle.writer_core.specs.GroupStates.{group_at, counted_group, report_of, reported_group};
 
-    /// Makes the state of a client that finds the group at this place.
+    /// Makes the state of a group at this place, with no reports and acknowledgements.
     pub(crate) fn at(alloc: Global, place: Place) -> GroupState
         ensures { group_at result ≡ newly_at (place_of place) }
     {
@@ -48,7 +48,7 @@ impl GroupState {
         }
     }
 
-    /// Makes the first writer's state of a group that is there at birth.
+    /// Makes the first writer's state of a group that exists at birth.
     pub(crate) fn born(alloc: Global) -> GroupState
         ensures { group_at result ≡ born_group }
     {
@@ -72,7 +72,7 @@ impl GroupState {
         GroupState::at(alloc, nowhere)
     }
 
-    /// Counts an acknowledgement. On error nothing has changed.
+    /// Counts an acknowledgement. On error the state is unchanged.
     pub(crate) fn count(&mut self, sender: u8, reached: u64) -> Result<(), AllocFailed<Count>>
         requires { sender < 64 }
         ensures counted { OnOk result (group_at self.new ≡ counted_group (group_at self.old) sender reached) }
@@ -82,7 +82,7 @@ impl GroupState {
         add(&mut self.counts, sender, reached)
     }
 
-    /// Keeps a copy of a report, where it is the member's first report. On error nothing has changed.
+    /// Keeps a report if it is the member's first. On error the state is unchanged.
     pub(crate) fn keep(&mut self, report: &Report) -> Result<(), AllocError>
         requires { report.now.from < 64 }
         ensures kept { OnOk result (group_at self.new ≡ reported_group (group_at self.old) (report_of report.now)) }
@@ -100,7 +100,8 @@ impl GroupState {
         Ok(())
     }
 
-    /// Raises the point to what the counted acknowledgements satisfy now. The group has joined where they satisfy the write expression.
+    /// Raises the point to what the counted acknowledgements satisfy now. The group joins if they satisfy the write
+    /// expression.
     pub(crate) fn raise(&mut self, plan: &CheckedPlan, group: u8)
         requires group { group < (checked_model plan.now).groups }
         requires configuration { self.old.place.configuration < (checked_model plan.now).configurations group }
@@ -114,7 +115,7 @@ impl GroupState {
         }
     }
 
-    /// Moves to a place if its epoch is later.
+    /// Moves to a place if that is of a later epoch.
     pub(crate) fn follow(&mut self, place: Place)
         ensures { group_at self.new ≡ later_group (group_at self.old) (place_of place) }
     {
@@ -123,7 +124,7 @@ impl GroupState {
         }
     }
 
-    /// Moves to a place if its epoch is later, and then drops the reports.
+    /// Moves to a place if that is of a later epoch, and drops the reports then.
     pub(crate) fn reread(&mut self, place: Place)
         ensures { group_at self.new ≡ reread_group (group_at self.old) (place_of place) }
     {
@@ -133,7 +134,7 @@ impl GroupState {
         }
     }
 
-    /// Returns whether the senders of its reports are a read set.
+    /// Returns whether the senders of the reports are a read quorum.
     pub(crate) fn has_read(&self, plan: &CheckedPlan, group: u8) -> bool
         requires group { group < (checked_model plan.now).groups }
         requires configuration { self.now.place.configuration < (checked_model plan.now).configurations group }
@@ -146,7 +147,7 @@ impl GroupState {
         }
     }
 
-    /// Returns whether the members whose acknowledgement is counted are a write set.
+    /// Returns whether the members with a counted acknowledgement are a write quorum.
     pub(crate) fn has_installed(&self, plan: &CheckedPlan, group: u8) -> bool
         requires group { group < (checked_model plan.now).groups }
         requires configuration { self.now.place.configuration < (checked_model plan.now).configurations group }

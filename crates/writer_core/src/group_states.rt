@@ -1,4 +1,4 @@
-//! A client's state of the groups of its view.
+//! A client's state of the groups of its View.
 
 ghost use Rattle.std.specs.Prelude.{◌≡◌, ◌≤◌, length};
 ghost use Rattle.std.specs.Arc.{arc_value};
@@ -13,7 +13,7 @@ use std::alloc::{AllocError, AllocFailed, Global};
 use std::sync::Arc;
 use wire::{Ack, Label, Place, Report};
 
-/// A client's state of the groups of its view, which are the first ones of its plan.
+/// A client's state of the groups of its View, which are the first ones of its plan.
 #[derive(Drop)]
 pub struct GroupStates {
     plan: Arc<CheckedPlan>,
@@ -34,10 +34,10 @@ impl GroupStates {
     ghost use Rattle.writer_core.specs.Raised.{raised_in};
     ghost use Rattle.writer_core.specs.Groups.{groups_in, group_states_plan, keeping};
 
-    /// Makes the first writer's state: each group that is there at birth, at its root.
+    /// Makes the first writer's state: each group that exists at birth, at its root.
     ///
     /// # Errors
-    /// `AllocError` if there is no memory.
+    /// `AllocError` if memory runs out.
     pub fn at_roots(alloc: Global, plan: Arc<CheckedPlan>) -> Result<GroupStates, AllocError>
         ensures groups { IfOk result (λ s. groups_in s ≡ replicate (checked_model (arc_value plan)).born born_group) }
         ensures plan { IfOk result (λ s. group_states_plan s ≡ checked_model (arc_value plan)) }
@@ -50,10 +50,10 @@ impl GroupStates {
         Ok(GroupStates { plan, list })
     }
 
-    /// Makes the state of a client that finds the groups at these places.
+    /// Makes the state of a client whose groups are at these places.
     ///
     /// # Errors
-    /// `AllocError` if there is no memory.
+    /// `AllocError` if memory runs out.
     pub fn at_places(
         alloc: Global,
         plan: Arc<CheckedPlan>,
@@ -77,12 +77,12 @@ impl GroupStates {
         &self.plan
     }
 
-    /// Returns the allocator of what it keeps.
+    /// Returns the allocator of the lists.
     pub(crate) fn alloc(&self) -> Global {
         *self.list.allocator()
     }
 
-    /// Returns how many groups the view has.
+    /// Returns the number of groups.
     pub fn groups(&self) -> u8
         ensures groups { result ≡ length (groups_in self.now) }
         ensures within { result ≤ (group_states_plan self.now).groups }
@@ -90,7 +90,7 @@ impl GroupStates {
         self.list.len() as u8
     }
 
-    /// Returns what is kept of each group, in their order.
+    /// Returns the state of each group, in order.
     pub fn as_slice(&self) -> &[GroupState]
         ensures groups { groups_of result.now ≡ groups_in self.now }
         ensures many { length result.now ≤ (group_states_plan self.now).groups }
@@ -98,7 +98,7 @@ impl GroupStates {
         self.list.as_slice()
     }
 
-    /// Returns what is kept of a group, and none where the view has no such group.
+    /// Returns the state of a group, or `None` if the View has no such group.
     pub fn get(&self, group: u8) -> Option<&GroupState>
         ensures { MatchOption result (length (groups_in self.now) ≤ group) (λ s. (group < length (groups_in self.now))
             × (group_of (groups_in self.now) group ≡ group_at s.now)) }
@@ -106,7 +106,7 @@ impl GroupStates {
         self.list.get(usize::from(group))
     }
 
-    /// Returns the LSN up to which a group is acknowledged, and 0 where the view has no such group.
+    /// Returns the LSN up to which a group is acknowledged, 0 if the View has no such group.
     pub fn point(&self, group: u8) -> u64
         ensures { result ≡ group_point_of (groups_in self.now) group }
     {
@@ -115,7 +115,7 @@ impl GroupStates {
             .map_or(0, |group_state| group_state.point)
     }
 
-    /// Returns the membership epoch of a group, as far as the client knows, and 0 where the view has no such group.
+    /// Returns the membership epoch of a group, as the client knows it, 0 if the View has no such group.
     pub fn epoch(&self, group: u8) -> u32
         ensures { result ≡ (client.place_of (groups_in self.now) group).epoch }
     {
@@ -124,8 +124,8 @@ impl GroupStates {
             .map_or(0, |group_state| group_state.place.epoch)
     }
 
-    /// Returns whether a group has joined the writer: it was there at the volume's birth, or a write set has
-    /// acknowledged its install at a moment since the writer opened. None has that isn't in the view.
+    /// Returns whether a group has joined the writer: it existed at the volume's birth, or a write quorum has
+    /// acknowledged its install since the writer opened. False for a group that the View doesn't have.
     pub fn has_joined(&self, group: u8) -> bool
         ensures { result ≡ (group_of (groups_in self.now) group).joined }
     {
@@ -134,7 +134,7 @@ impl GroupStates {
             .map_or(false, |group_state| group_state.joined)
     }
 
-    /// Returns the label under which a client of this volume epoch speaks to a group.
+    /// Returns the label that a client of this volume epoch puts on messages to a group.
     pub fn label(&self, volume: u32, group: u8) -> Label
         ensures { label_of result ≡ client.label_of volume (client.place_of (groups_in self.now)) group }
     {
@@ -144,8 +144,8 @@ impl GroupStates {
         }
     }
 
-    /// Counts an acknowledgement of a group: the greatest complete point of its sender is kept. No point is raised
-    /// yet. One of a group outside the view changes nothing. On error nothing has changed.
+    /// Counts an acknowledgement; the greatest complete point of each sender is kept. Raises no point. Ignores a group
+    /// that the View doesn't have. On error the states are unchanged.
     pub fn count(&mut self, ack: &Ack) -> Result<(), AllocFailed<Count>>
         requires sender { ack.now.from < 64 }
         ensures counted { OnOk result (groups_in self.new ≡ counted_in (groups_in self.old) ack.now.group ack.now.from
@@ -159,8 +159,8 @@ impl GroupStates {
         }
     }
 
-    /// Keeps a member's report of a group if it is the member's first. One of a group outside the view changes
-    /// nothing. On error nothing has changed.
+    /// Keeps a member's report of a group if it is the member's first. Ignores a group that the View doesn't have. On
+    /// error the states are unchanged.
     pub fn keep(&mut self, report: &Report) -> Result<(), AllocError>
         requires sender { report.now.from < 64 }
         ensures kept { OnOk result (groups_in self.new ≡ reported_in (groups_in self.old) report.now.group
@@ -182,7 +182,7 @@ impl GroupStates {
         raise(&self.plan, self.list.as_mut_slice());
     }
 
-    /// Raises the point of one group of the view to what its counted acknowledgements satisfy now. A point never falls.
+    /// Raises the point of one group to what its counted acknowledgements satisfy now. A point never falls.
     pub fn raise_group(&mut self, group: u8)
         ensures groups { groups_in self.new ≡ raised_in (group_states_plan self.old) (groups_in self.old) group }
         ensures plan { group_states_plan self.new ≡ group_states_plan self.old }
@@ -192,16 +192,16 @@ impl GroupStates {
         }
     }
 
-    /// Returns whether these are places of the plan's first groups, of all that are there at birth at least, in their
-    /// order, each at one of its configurations.
+    /// Returns whether there is a place for each group of the birth, for no more groups than the plan has, and each
+    /// place is a configuration of its group.
     pub fn are_places(&self, places: &[Place]) -> bool
         ensures { result ≡ are_places (group_states_plan self.now) (map place_of places.now) }
     {
         are_places(&self.plan, places)
     }
 
-    /// Moves each group to its place, where that is one of a later epoch, and takes up those that are new. On error
-    /// nothing has changed.
+    /// Moves each group to its place if that is of a later epoch, and adds new groups. On error the states are
+    /// unchanged.
     pub fn follow(&mut self, places: &[Place]) -> Result<(), AllocError>
         requires { are_places (group_states_plan self.old) (map place_of places.now) ≡ true }
         ensures groups { OnOk result (groups_in self.new ≡ with_places later_group (groups_in self.old)
@@ -214,8 +214,8 @@ impl GroupStates {
         Ok(())
     }
 
-    /// Moves each group to its place, where that is one of a later epoch, and then drops the group's reports; takes
-    /// up those that are new. On error nothing has changed.
+    /// Moves each group to its place if that is of a later epoch, and drops its reports then; adds new groups. On error
+    /// the states are unchanged.
     pub fn reread(&mut self, places: &[Place]) -> Result<(), AllocError>
         requires { are_places (group_states_plan self.old) (map place_of places.now) ≡ true }
         ensures groups { OnOk result (groups_in self.new ≡ with_places reread_group (groups_in self.old)
@@ -228,7 +228,7 @@ impl GroupStates {
         Ok(())
     }
 
-    /// Returns whether in each group the senders of the kept reports are a read set.
+    /// Returns whether in each group the senders of the kept reports are a read quorum.
     pub fn has_read(&self) -> bool
         ensures { result ≡ has_read (group_states_plan self.now) (keeping (groups_in self.now)) }
     {
@@ -240,7 +240,7 @@ impl GroupStates {
         true
     }
 
-    /// Returns whether in each group the members whose acknowledgement is counted are a write set.
+    /// Returns whether in each group the members with a counted acknowledgement are a write quorum.
     pub fn has_installed(&self) -> bool
         ensures { result ≡ has_installed (group_states_plan self.now) (keeping (groups_in self.now)) }
     {

@@ -1,4 +1,4 @@
-//! What a client installs in groups.
+//! The Installs of a client.
 
 ghost use Rattle.std.specs.Prelude.{◌≡◌, ◌≤◌, [], length, map, IfOk};
 ghost use Rattle.volume_model.specs.Message as model;
@@ -21,7 +21,7 @@ use redo_record::RecordSet;
 use std::alloc::{AllocError, Global};
 use wire::{Contents, Install, Label, Message, Place};
 
-/// Returns the label under which a client of this volume epoch speaks to a group that stands at a place.
+/// Returns the label that a client of this volume epoch puts on messages to a group at this place.
 pub fn label_at(volume: u32, place: Place) -> Label
     ensures { wire.label_of result ≡ record { volume = volume; member = place.epoch } }
 {
@@ -31,7 +31,7 @@ pub fn label_at(volume: u32, place: Place) -> Label
     }
 }
 
-/// Returns the records of a log that are of a group: the log's own list where all are.
+/// Returns the records of a log that are of a group: the log's own list if all are.
 fn of_group(alloc: Global, group: u8, log: &RecordSet) -> Result<RecordSet, AllocError>
     ensures { IfOk result (λ set. records_of set ≡ of_group group (log_of_set log.now)) }
 {
@@ -47,7 +47,7 @@ fn of_group(alloc: Global, group: u8, log: &RecordSet) -> Result<RecordSet, Allo
     Ok(set)
 }
 
-/// Returns how many pieces the contents make. More than a message can number are as if memory ran out.
+/// Returns the number of pieces of the contents. Reports a number that doesn't fit a message as out of memory.
 fn pieces_in(contents: &Contents) -> Result<u16, AllocError>
     ensures { IfOk result (λ of. of ≡ pieces_of (length (contents_of contents.now).records)) }
 {
@@ -57,7 +57,7 @@ fn pieces_in(contents: &Contents) -> Result<u16, AllocError>
     }
 }
 
-/// Returns the Installs of a log found, under a lineage, for the nodes of a group: one a piece, in growing order.
+/// Returns the Installs of a log found, with a lineage, for the nodes of a group: one for each piece, in order.
 pub fn group_installs(
     alloc: Global,
     group: u8,
@@ -86,8 +86,8 @@ pub fn group_installs(
     Ok(messages)
 }
 
-/// Returns the Installs, with no records, of each group that these places raise and that hasn't joined, in order of
-/// group.
+/// Returns an Install without records for each group whose new place is of a later epoch and that hasn't joined, in
+/// order of group.
 pub(crate) fn unjoined_installs(
     alloc: Global,
     volume: u32,

@@ -1,4 +1,4 @@
-//! The records of a transaction, and the messages that carry them.
+//! Makes the records of a transaction, and their messages.
 
 ghost use Rattle.std.specs.Prelude.{◌≡◌, ◌+◌, ◌^◌, ◌<◌, ◌≤◌, ◌++◌, ◌∷◌, [], true, length, max, take, IfOk, IfErr, OnOk, OnErr};
 ghost use Rattle.volume_model.specs.declared.fault.Fault.TheVariants.{NoMemory};
@@ -35,8 +35,8 @@ pub struct Span {
     pub ghost assigned: { 1 ≤ volume },
 }
 
-/// Returns the record of a change after the end of a log, of which the last LSNs are known; `point` makes it a
-/// consistency point. They then know the record too, and where memory runs out they don't.
+/// Makes the record of a change, to be appended to a log; `point` makes it a consistency point. `last_lsns` must have
+/// all records of the log; the new one is entered too, unless memory runs out.
 #[inline(always)]
 fn next_packet(
     alloc: Global,
@@ -81,7 +81,7 @@ fn next_packet(
     }
 }
 
-/// Returns a record as a writer of this volume epoch carries it to the nodes of its group.
+/// Lends a record for a message to the nodes of its group, with a label of this volume epoch.
 pub fn carry<'a>(volume: u32, group_states: &GroupStates, packet: &'a SharedRecord) -> Carried<'a>
     ensures { carried_write result ≡ model.Message.Write (shared_redo packet.now).group
         (label_of volume (place_of (groups_in group_states.now)) (shared_redo packet.now).group)
@@ -95,7 +95,7 @@ pub fn carry<'a>(volume: u32, group_states: &GroupStates, packet: &'a SharedReco
     }
 }
 
-/// Makes room for this many messages. Room for one takes no memory.
+/// Reserves room for this many messages. Room for one needs no list.
 #[inline(always)]
 pub fn room_for(alloc: Global, messages: usize) -> Result<Messages, AllocError>
     ensures { IfOk result (λ made. listed made ≡ []) }
@@ -106,7 +106,7 @@ pub fn room_for(alloc: Global, messages: usize) -> Result<Messages, AllocError>
     Ok(Messages::Many(Vec::with_capacity(alloc, messages)?))
 }
 
-/// Adds a message to others. The first takes no memory.
+/// Adds a message. The first one needs no list.
 #[inline(always)]
 fn add(alloc: Global, messages: &mut Messages, message: Message) -> Result<(), AllocError>
     ensures { OnOk result (listed messages.new ≡ listed messages.old ++ message ∷ []) }
@@ -124,8 +124,8 @@ fn add(alloc: Global, messages: &mut Messages, message: Message) -> Result<(), A
     Ok(())
 }
 
-/// Adds the records of a transaction's changes to a log, and their messages to others. The last LSNs of the log follow it. Where
-/// memory runs out the log has only grown, by records that name the last LSNs before them.
+/// Appends the records of a transaction's changes to a log, and their Writes to `messages`. `last_lsns` follows the
+/// log. If memory runs out the log may have grown by some of these records.
 pub fn append(
     alloc: Global,
     span: Span,

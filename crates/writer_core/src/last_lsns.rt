@@ -11,8 +11,7 @@ use std::mem;
 /// The most groups that a volume has.
 pub const GROUPS: usize = 16;
 
-/// Puts a number for a block, and answers the one that stood there, 0 where there was none. On error nothing has
-/// changed.
+/// Sets the LSN of a block. Returns the one before it, 0 if there was none. On error nothing has changed.
 #[inline(always)]
 fn put(blocks: &mut BTreeMap<(u32, u8), u64>, place: (u32, u8), lsn: u64) -> Result<u64, AllocError>
     ensures before { IfOk result (λ before. before ≡ kept_in blocks.old place.1 place.0) }
@@ -26,12 +25,12 @@ fn put(blocks: &mut BTreeMap<(u32, u8), u64>, place: (u32, u8), lsn: u64) -> Res
     Ok(0)
 }
 
-/// The last LSN of each group and of each block in the front of a log.
+/// The last LSN of each group and of each block, in a prefix of a log.
 #[derive(Drop)]
 pub struct LastLsns {
-    /// How many records of the log are entered.
+    /// The number of records that are entered, which are the first ones of the log.
     entered: usize,
-    /// By group, 0 where it has no record.
+    /// By group, 0 if it has no record.
     groups: [u64; GROUPS],
     /// By block and group.
     blocks: BTreeMap<(u32, u8), u64>,
@@ -43,7 +42,7 @@ impl LastLsns {
     ghost use Rattle.writer_core.specs.Log.{packets_in};
     ghost use Rattle.writer_core.specs.LastLsns.{kept_of_group, kept_of_block, AreLasts, AreLastsOfAll, AreLastLsnsOfPrefix, AreLinkedFrom, Enters, EntersNone, Leaves};
 
-    /// Makes the numbers of no record. Takes no memory.
+    /// Makes the table of no records. Allocates nothing.
     pub fn new(alloc: Global) -> LastLsns
         ensures last_lsns { AreLasts result [] }
         ensures none { result.entered ≡ 0 }
@@ -55,7 +54,7 @@ impl LastLsns {
         }
     }
 
-    /// Returns the last LSN of a group, 0 where there is none.
+    /// Returns the last LSN of a group, 0 if there is none.
     pub fn of_group(&self, group: u8) -> u64
         requires { group < 16 }
         ensures { result ≡ kept_of_group self.now group }
@@ -63,8 +62,8 @@ impl LastLsns {
         self.groups[usize::from(group)]
     }
 
-    /// Enters the log's next record, one of this number on a block of a group, and answers the last LSN on the block before it. Where memory
-    /// runs out nothing is entered.
+    /// Enters the log's next record, with this LSN, on a block of a group. Returns the last LSN on the block before it.
+    /// If memory runs out nothing is entered.
     #[inline(always)]
     pub fn enter(&mut self, group: u8, block: u32, lsn: u64) -> Result<u64, AllocError>
         requires group { group < 16 }
@@ -79,7 +78,7 @@ impl LastLsns {
         Ok(before)
     }
 
-    /// Enters what the log has behind the records that are entered. Where memory runs out some of it may be.
+    /// Enters the records of the log that aren't entered yet. If memory runs out some of them may be.
     pub fn follow(&mut self, log: &Log) -> Result<(), AllocError>
         requires { AreLastLsnsOfPrefix self.old (packets_in log.now) }
         ensures ok { OnOk result (AreLastsOfAll self.new (packets_in log.now)) }
@@ -92,8 +91,8 @@ impl LastLsns {
         Ok(())
     }
 
-    /// Removes the record that was entered last: the LSNs that it names are the last ones again. Out of line, since
-    /// it is called only when memory ran out.
+    /// Removes the record that was entered last: its links are the last LSNs again. Out of line, since this is called
+    /// only when memory ran out.
     #[inline(never)]
     pub fn leave(&mut self, group: u8, block: u32, prev_group: u64, prev_block: u64)
         requires group { group < 16 }
@@ -104,14 +103,14 @@ impl LastLsns {
         if prev_block == 0 {
             self.blocks.remove(&place);
         } else {
-            // The block is there, so this takes no memory.
+            // The map has the block, so this allocates nothing.
             let _ = self.blocks.insert(place, prev_block);
         }
         self.groups[usize::from(group)] = prev_group;
         self.entered -= 1;
     }
 
-    /// Takes records out again, the last first, until at most this many of the log are entered. Takes no memory.
+    /// Removes records, the last first, until at most `records` are entered. Allocates nothing.
     pub fn go_back(&mut self, log: &Log, records: usize)
         requires front { AreLastLsnsOfPrefix self.old (packets_in log.now) }
         requires linked { AreLinkedFrom records (packets_in log.now) }

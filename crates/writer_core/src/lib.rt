@@ -1,4 +1,4 @@
-//! The writer of a volume epoch: it numbers redo records and tracks how far the log is durable.
+//! The writer of a volume epoch, which numbers redo records and tracks how far the log is durable.
 #![tactic(auto)]
 
 mod change;

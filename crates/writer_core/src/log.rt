@@ -1,4 +1,4 @@
-//! A log, whose records stand in growing LSN.
+//! A log, in order of LSN.
 
 ghost use Rattle.std.specs.Prelude.{◌≡◌, ◌^◌, ◌<◌, ◌++◌, true, length};
 ghost use Rattle.redo_record.specs.RecordSet.{packets_of};
@@ -8,11 +8,11 @@ use crate::reading::{last_lsn, record_at};
 use redo_record::{RecordSet, SharedRecord};
 use std::alloc::{AllocError, Global};
 
-/// A log, in growing LSN: what was found, which clones share, and behind it what was issued since.
+/// A log in order of LSN: the records found, which clones share, followed by those issued since.
 #[derive(Drop)]
 pub struct Log {
     found: RecordSet,
-    /// How many records were found.
+    /// The number of records found.
     begun: usize,
     issued: Vec<SharedRecord>,
     ghost counted: { begun ≡ length (packets_of found) },
@@ -29,7 +29,7 @@ impl Log {
     ghost use Rattle.writer_core.specs.Logs.{log_of_set};
     ghost use Rattle.writer_core.specs.Log.{found_of, packets_in, log_in, room_in};
 
-    /// Returns the log that was found, with no record behind it. Takes no memory.
+    /// Makes a log of the records found. Allocates nothing.
     pub fn begin(alloc: Global, found: RecordSet) -> Log
         requires { is_growing (log_of_set found) ≡ true }
         ensures packets { packets_in result ≡ packets_of found }
@@ -43,7 +43,7 @@ impl Log {
         }
     }
 
-    /// Returns how many records there are.
+    /// Returns the number of records.
     pub fn len(&self) -> usize
         ensures { result ≡ length (packets_in self.now) }
     {
@@ -57,7 +57,7 @@ impl Log {
         &self.found
     }
 
-    /// Returns the record at this place, counted from the first.
+    /// Returns the record at this index.
     pub fn packet(&self, place: usize) -> &SharedRecord
         requires { place < length (packets_in self.now) }
         ensures { result.now ≡ slice_index_or (packets_in self.now) place result.now }
@@ -69,7 +69,7 @@ impl Log {
         }
     }
 
-    /// Returns the last LSN, 0 where there is none.
+    /// Returns the last LSN, 0 if there is none.
     pub fn last_lsn(&self) -> u64
         ensures { result ≡ last_lsn (log_in self.now) }
     {
@@ -80,7 +80,7 @@ impl Log {
         }
     }
 
-    /// Returns the record of an LSN, where there is one.
+    /// Returns the record with this LSN, if there is one.
     pub fn record_at(&self, lsn: u64) -> Option<&SharedRecord>
         ensures { option_map shared_redo (option_copied result) ≡ record_at (log_in self.now) lsn }
     {
@@ -90,7 +90,7 @@ impl Log {
         }
     }
 
-    /// Returns whether a record of this LSN is a consistency point.
+    /// Returns whether the record with this LSN is a consistency point.
     pub fn is_point(&self, lsn: u64) -> bool
         ensures { result ≡ is_consistency_point lsn (log_in self.now) }
     {
@@ -100,7 +100,7 @@ impl Log {
         }
     }
 
-    /// Makes room for this many records more. The log stays what it is.
+    /// Reserves room for `more` records. The log is unchanged.
     pub(crate) fn reserve(&mut self, more: usize) -> Result<(), AllocError>
         ensures packets { packets_in self.new ≡ packets_in self.old }
         ensures found { found_of self.new ≡ found_of self.old }
@@ -109,7 +109,7 @@ impl Log {
         self.issued.reserve(more)
     }
 
-    /// Adds a record behind all others, for which there is room.
+    /// Appends a record for which there is room.
     pub(crate) fn push_reserved(&mut self, packet: SharedRecord)
         requires room { 0 < room_in self.old }
         requires above { last_lsn (log_in self.old) < (shared_redo packet).lsn }
@@ -120,7 +120,7 @@ impl Log {
         self.issued.push_reserved(packet);
     }
 
-    /// Leaves this many records, of which none is left out that was found.
+    /// Keeps the first `records` records. Removes none of those found.
     pub(crate) fn truncate(&mut self, records: usize)
         requires { length (packets_of (found_of self.old)) ≤ records }
         ensures packets { packets_in self.new ≡ take records (packets_in self.old) }

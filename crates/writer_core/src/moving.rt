@@ -1,4 +1,4 @@
-//! Where the groups of a plan stand, and what a client keeps of them there.
+//! The places of a client's groups, and how they change.
 
 ghost use Rattle.std.specs.Prelude.{◌≡◌, ◌≤◌, ◌-◌, ◌++◌, length, map, replicate, OnErr, OnOk};
 ghost use Rattle.volume_model.specs.Client.{no_group};
@@ -13,8 +13,8 @@ use plan::CheckedPlan;
 use std::alloc::AllocError;
 use wire::Place;
 
-/// Returns whether these are places of the plan's first groups, of all that are there at birth at least, in their
-/// order, each at one of its configurations.
+/// Returns whether there is a place for each group of the birth, for no more groups than the plan has, and each place
+/// is a configuration of its group.
 pub fn are_places(plan: &CheckedPlan, places: &[Place]) -> bool
     ensures { result ≡ are_places (checked_model plan.now) (map place_of places.now) }
 {
@@ -42,7 +42,7 @@ pub fn raise(plan: &CheckedPlan, group_states: &mut [GroupState])
     }
 }
 
-/// Takes up groups that stand nowhere yet, up to this many. On error nothing has changed.
+/// Adds groups without a place, up to this many. On error nothing has changed.
 pub fn extend(group_states: &mut Vec<GroupState>, groups: usize) -> Result<(), AllocError>
     ensures more { OnOk result (groups_of group_states.new.items ≡ groups_of group_states.old.items
         ++ replicate (groups - length group_states.old.items) no_group) }
@@ -59,7 +59,7 @@ pub fn extend(group_states: &mut Vec<GroupState>, groups: usize) -> Result<(), A
     Ok(())
 }
 
-/// Moves each group that has a place to it, where that is one of a later epoch.
+/// Moves each group to its place, if that is of a later epoch.
 pub fn follow(group_states: &mut [GroupState], places: &[Place])
     requires { length places.now ≤ length group_states.old }
     ensures moved { groups_of group_states.new ≡ with_places later_group (groups_of group_states.old)
@@ -71,7 +71,7 @@ pub fn follow(group_states: &mut [GroupState], places: &[Place])
     }
 }
 
-/// Moves each group that has a place to it, where that is one of a later epoch, and then drops the group's reports.
+/// Moves each group to its place, if that is of a later epoch, and drops its reports then.
 pub fn reread(group_states: &mut [GroupState], places: &[Place])
     requires { length places.now ≤ length group_states.old }
     ensures moved { groups_of group_states.new ≡ with_places reread_group (groups_of group_states.old)

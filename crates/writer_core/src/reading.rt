@@ -1,4 +1,4 @@
-//! What is read off records that stand in growing LSN.
+//! Looks up records in a list in order of LSN.
 
 ghost use Rattle.std.specs.Prelude.{◌≡◌, true, option_copied, option_map};
 ghost use Rattle.volume_model.specs.Redo.{last_lsn, record_at};
@@ -7,14 +7,14 @@ ghost use Rattle.writer_core.specs.Logs.{log_of, is_growing};
 
 use redo_record::SharedRecord;
 
-/// Returns the last LSN, 0 where there is none.
+/// Returns the last LSN, 0 if there is none.
 pub fn last_lsn(log: &[SharedRecord]) -> u64
     ensures { result ≡ last_lsn (log_of log.now) }
 {
     log.last().map_or(0, |packet| packet.lsn())
 }
 
-/// Returns the record of an LSN, where there is one.
+/// Returns the record with this LSN, if there is one.
 pub fn record_at(log: &[SharedRecord], lsn: u64) -> Option<&SharedRecord>
     requires { is_growing (log_of log.now) ≡ true }
     ensures { option_map shared_redo (option_copied result) ≡ record_at (log_of log.now) lsn }

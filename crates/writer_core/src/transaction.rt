@@ -1,4 +1,4 @@
-//! Which transactions are good ones.
+//! Checks transactions.
 
 ghost use Rattle.std.specs.Prelude.{◌≡◌};
 ghost use Rattle.volume_model.specs.ClientWriter.{have_joined, is_change, is_transaction};
@@ -11,10 +11,10 @@ use crate::group_states::GroupStates;
 /// The bytes of a block.
 const BLOCK: usize = 512;
 
-/// The most changes that a transaction asks for.
+/// The most changes of a transaction.
 pub const MOST_CHANGES: usize = 32;
 
-/// Returns whether a change is one of a group that there is, within a block.
+/// Returns whether a change is to one of the groups and lies within a block.
 fn is_change(groups: usize, change: &Change) -> bool
     ensures { result ≡ is_change groups (change_of change.now) }
 {
@@ -22,7 +22,7 @@ fn is_change(groups: usize, change: &Change) -> bool
         && usize::from(change.offset()) + change.bytes().len() <= BLOCK
 }
 
-/// Returns whether there are 1 to 32 changes, each of them a good one.
+/// Returns whether there are 1 to 32 changes, all of them valid.
 pub fn is_transaction(groups: usize, changes: &[Change]) -> bool
     ensures { result ≡ is_transaction groups (changes_of changes.now) }
 {
@@ -37,7 +37,7 @@ pub fn is_transaction(groups: usize, changes: &[Change]) -> bool
     true
 }
 
-/// Returns whether each group that is changed has joined the writer.
+/// Returns whether each group that the changes name has joined the writer.
 pub fn have_joined(group_states: &GroupStates, changes: &[Change]) -> bool
     ensures { result ≡ have_joined (groups_in group_states.now) (changes_of changes.now) }
 {

@@ -25,16 +25,16 @@ use std::sync::Arc;
 use volume_model::Fault;
 use wire::{Ack, Carried, Message, Messages, PageAsk, View};
 
-/// The writer of a volume epoch: the log that it began with, and what it has issued since.
+/// The writer of a volume epoch: the log with which it began, and the records issued since.
 #[derive(Drop)]
 pub struct Writer {
     group_states: GroupStates,
     volume: u32,
     lineage: Lineage,
     log: Log,
-    /// The last LSN of each group and block, of the log's front; a transaction enters the rest before it asks.
+    /// The last LSN of each group and block in the log's prefix. A transaction enters the rest of the log first.
     last_lsns: LastLsns,
-    /// How far the log is covered by the points of its groups.
+    /// How much of the log is covered by the points of its groups.
     durability: DurabilityTracker,
     ghost assigned: { 1 ≤ volume },
     ghost raised: { AreRaised (group_states_plan group_states) (groups_in group_states) },
@@ -61,8 +61,8 @@ impl Writer {
     ghost use Rattle.writer_core.specs.Writers.{client_of, writer_plan, writer_volume, installing, CanIssue, acted, answered, silent, asked, sent};
     ghost use Rattle.lineage.specs.Lineage.{lineage_of};
 
-    /// Returns the writer that a volume is born with: volume epoch 1, each group that is there at its root, no
-    /// record. Fails only with `NoMemory`.
+    /// Returns the writer with which a volume is born: volume epoch 1, each group of the birth at its root, no record.
+    /// Fails only with `NoMemory`.
     pub fn first(alloc: Global, plan: Arc<CheckedPlan>) -> Result<Writer, Fault>
         ensures client { AnswersNew client_of (Ok (first_writer (checked_model (arc_value plan)))) result }
         ensures plan { IfOk result (λ w. writer_plan w ≡ checked_model (arc_value plan)) }
@@ -78,9 +78,9 @@ impl Writer {
         })
     }
 
-    /// Returns the writer of a later volume epoch, from what its recovery keeps of the groups, with the recovery's lineage and the
-    /// log that it found. In each group a write set must have acknowledged what the recovery installed
-    /// ([`GroupStates::has_installed`](crate::GroupStates::has_installed)). Takes no memory.
+    /// Returns the writer of a later volume epoch, with its recovery's groups, lineage and log found. In each group a
+    /// write quorum must have acknowledged the recovery's install
+    /// ([`GroupStates::has_installed`](crate::GroupStates::has_installed)). Allocates nothing.
     pub fn opened(
         group_states: GroupStates,
         volume: u32,
@@ -119,21 +119,21 @@ impl Writer {
         self.volume
     }
 
-    /// Returns how many groups the volume has.
+    /// Returns the number of groups.
     pub fn groups(&self) -> u8
         ensures { result ≡ (writer_plan self.now).groups }
     {
         self.group_states.plan().groups()
     }
 
-    /// Returns the lineage under which it writes.
+    /// Returns the writer's lineage.
     pub fn lineage(&self) -> &Lineage
         ensures { lineage_of result.now ≡ (client_of self.now).lineage }
     {
         &self.lineage
     }
 
-    /// Returns the log that its recovery found, in growing LSN; none of the writer that a volume is born with.
+    /// Returns the log that its recovery found, in order of LSN; no records for the first writer.
     pub fn found(&self) -> &RecordSet
         ensures { log_of_set result.now ≡ (client_of self.now).found }
     {
@@ -147,7 +147,7 @@ impl Writer {
         self.lineage.last_start()
     }
 
-    /// Returns the log, in growing LSN.
+    /// Returns the log, in order of LSN.
     pub fn log(&self) -> &Log
         ensures { log_in result.now ≡ (client_of self.now).log }
     {
@@ -161,16 +161,17 @@ impl Writer {
         self.durability.complete
     }
 
-    /// Returns the greatest consistency point that is not above the complete point, else 0. A commit is complete
-    /// where it isn't above this.
+    /// Returns the greatest consistency point up to the complete point, else 0. Commits up to it are durable.
     pub fn durable_point(&self) -> u64
         ensures { result ≡ durable_point (client_of self.now) }
     {
         self.durability.durable
     }
 
-    /// Checks whether an acknowledgement can be taken: `NotAddressed` if it isn't one to this writer, of a group of
-    /// the volume and a member. Takes no memory.
+    /// Checks whether an acknowledgement can be taken. Allocates nothing.
+    ///
+    /// # Errors
+    /// `NotAddressed` if it isn't for this writer, for one of its groups, or from a member.
     pub fn admits_ack(&self, ack: &Ack) -> Result<(), Fault>
         ensures refusal { result ≡ refusal_of (taken (writer_plan self.now) (writer_volume self.now)
             (client_of self.now) (message_of (Message.Ack ack.now))) }
@@ -184,11 +185,11 @@ impl Writer {
         Ok(())
     }
 
-    /// Takes an acknowledgement. It is counted where its membership epoch is at most the one that the writer knows of
-    /// the group; a later one changes nothing. Only its own group's point may rise, and only its own group join.
+    /// Takes an acknowledgement. It counts if its membership epoch is at most the one that the writer knows of the
+    /// group. Only this group's point may rise, and only this group may join.
     ///
     /// # Errors
-    /// As [`Writer::admits_ack`]; `NoMemory`.
+    /// Those of [`Writer::admits_ack`]; `NoMemory` if memory runs out. The writer is unchanged.
     pub fn take_ack(&mut self, ack: &Ack) -> Result<(), Fault>
         ensures answers { Answers silent (taken (writer_plan self.old) (writer_volume self.old) (client_of self.old)
             (message_of (Message.Ack ack.now))) (client_of self.old) result (client_of self.new) }
@@ -210,9 +211,11 @@ impl Writer {
         Ok(())
     }
 
-    /// Checks whether a View can be taken: `NotAddressed` if it is one of another volume epoch, `NotInPlan` if its
-    /// places aren't those of the plan's first groups, of all that are there at birth at least, each at one of its
-    /// configurations. Takes no memory.
+    /// Checks whether a View can be taken. Allocates nothing.
+    ///
+    /// # Errors
+    /// `NotAddressed` if it is of another volume epoch; `NotInPlan` if it lacks a group of the birth, has more groups
+    /// than the plan, or has a place that isn't a configuration of its group.
     pub fn admits_view(&self, view: &View) -> Result<(), Fault>
         ensures refusal { result ≡ refusal_of (taken (writer_plan self.now) (writer_volume self.now)
             (client_of self.now) (message_of (Message.View view.now))) }
@@ -230,12 +233,12 @@ impl Writer {
         Ok(())
     }
 
-    /// Takes a View: each group moves to its place where that is one of a later epoch, those that are new are taken
-    /// up, and the points of all groups are raised. Each group that moves or is new, and hasn't joined, is installed,
-    /// with no records: one Install a group, in their order.
+    /// Takes a View. Each group moves to its place if that is of a later epoch, new groups are added, and the points of
+    /// all groups are raised. Returns an Install without records for each group that moved or is new and hasn't joined,
+    /// in order of group.
     ///
     /// # Errors
-    /// As [`Writer::admits_view`]; `NoMemory`.
+    /// Those of [`Writer::admits_view`]; `NoMemory` if memory runs out. The writer is unchanged.
     pub fn view(&mut self, alloc: Global, view: &View) -> Result<Vec<Message>, Fault>
         ensures answers { Answers acted (taken (writer_plan self.old) (writer_volume self.old) (client_of self.old)
             (message_of (Message.View view.now))) (client_of self.old) result (client_of self.new) }
@@ -257,8 +260,10 @@ impl Writer {
         Ok(messages)
     }
 
-    /// Returns a record of the log, to be carried once more by a Write. `NoLogRecord` if the log has none with this
-    /// LSN. Takes no memory.
+    /// Returns a record of the log, to be sent again. Allocates nothing.
+    ///
+    /// # Errors
+    /// `NoLogRecord` if the log has no record with this LSN.
     pub fn resend(&self, lsn: u64) -> Result<Carried<'_>, Fault>
         ensures answers { AnswersAlways sent (resent (writer_volume self.now) (client_of self.now) lsn)
             (client_of self.now) result (client_of self.now) }
@@ -270,8 +275,10 @@ impl Writer {
         }
     }
 
-    /// Returns a request for a block's page at the durable point. `NoGroup` if the view has no such group. Takes no
-    /// memory.
+    /// Returns a request for a block's page at the durable point. Allocates nothing.
+    ///
+    /// # Errors
+    /// `NoGroup` if the View has no such group.
     pub fn read(&self, group: u8, block: u32) -> Result<Message, Fault>
         ensures answers { AnswersAlways asked (page_asked (writer_volume self.now) (client_of self.now) group block)
             (client_of self.now) result (client_of self.now) }
@@ -288,8 +295,10 @@ impl Writer {
         }))
     }
 
-    /// Returns the LSN up to which a group is acknowledged: the greatest that a write set of its members has said at
-    /// some moment. `NoGroup` if the view has no such group.
+    /// Returns the LSN up to which a write quorum has acknowledged a group.
+    ///
+    /// # Errors
+    /// `NoGroup` if the View has no such group.
     pub fn group_point(&self, group: u8) -> Result<u64, Fault>
         ensures { MatchResult result (λ point. (group < length (client_of self.now).groups)
             × (group_point_of (client_of self.now).groups group ≡ point))
@@ -301,17 +310,19 @@ impl Writer {
         }
     }
 
-    /// Returns whether the LSN is that of a consistency point of the log, and not above the durable point.
+    /// Returns whether the LSN is that of a consistency point of the log up to the durable point.
     pub fn acknowledged(&self, lsn: u64) -> bool
         ensures { result ≡ acknowledged (client_of self.now) lsn }
     {
         self.log.is_point(lsn) && lsn <= self.durable_point()
     }
 
-    /// Checks whether a transaction can be issued: `BadTransaction` if it isn't one of 1 to 32 good changes of
-    /// groups of the view, `NotJoined` if one of them is of a group that hasn't joined, `LsnSpent` if no LSNs are
-    /// left for it, `LimitReached` if the last of its records would stand further above the durable point and the
-    /// start than the plan allows. Takes no memory.
+    /// Checks whether a transaction can be issued. Allocates nothing.
+    ///
+    /// # Errors
+    /// `BadTransaction` if it doesn't have 1 to 32 valid changes of the View's groups; `NotJoined` if a change is to a
+    /// group that hasn't joined; `LsnSpent` if there are no LSNs left for it; `LimitReached` if its last LSN would be
+    /// further above the durable point and the start than the plan allows.
     pub fn admits(&self, changes: &[Change]) -> Result<(), Fault>
         ensures refusal { result ≡ refusal_of (issued (writer_plan self.now) (writer_volume self.now)
             (client_of self.now) (changes_of changes.now)) }
@@ -346,8 +357,11 @@ impl Writer {
         Ok(())
     }
 
-    /// Issues a transaction: appends a record for each change, all or none, and returns their Writes, in order. The
-    /// last record is a consistency point. Refused as [`Writer::admits`] says; on error the writer is unchanged.
+    /// Issues a transaction: appends a record for each change, all or none. Returns their Writes, in order. The last
+    /// record is a consistency point.
+    ///
+    /// # Errors
+    /// Those of [`Writer::admits`]; `NoMemory` if memory runs out. The writer is unchanged.
     pub fn issue(&mut self, alloc: Global, changes: &[Change]) -> Result<Messages, Fault>
         ensures answers { Answers answered (issued (writer_plan self.old) (writer_volume self.old) (client_of self.old)
             (changes_of changes.now)) (client_of self.old) result (client_of self.new) }

@@ -19,7 +19,7 @@ impl Authority {
     /// Returns the state that survives a restart.
     ///
     /// # Errors
-    /// Out of memory.
+    /// Fails only if memory runs out.
     pub fn snapshot(&self, alloc: Global) -> Result<AuthoritySnapshot, AllocError>
         ensures kept { IfOk result (λ snapshot. authority_in snapshot ≡ authority_of self.now) }
         ensures resumes { IfOk result (λ snapshot. resumed (authority_plan self.now) (authority_in snapshot)
@@ -31,11 +31,11 @@ impl Authority {
         })
     }
 
-    /// Resumes an authority over a plan from a snapshot. Takes no memory.
+    /// Resumes an authority over a plan from a snapshot. Allocates nothing.
     ///
     /// # Errors
-    /// `BadField` if the snapshot's last volume epoch is 0; `NoGroup` if fewer groups have joined than the plan has at birth, or more
-    /// than it has.
+    /// `BadField` if the snapshot's last volume epoch is 0; `NoGroup` if it has fewer groups than the plan has at
+    /// birth, or more than the plan has.
     pub fn resumed(plan: Arc<CheckedPlan>, snapshot: AuthoritySnapshot) -> Result<Authority, Fault>
         ensures authority { AnswersNew authority_of (resumed (checked_model (arc_value plan)) (authority_in snapshot))
             result }

@@ -1,4 +1,4 @@
-//! What an advance waits for.
+//! Decides whether an advance has to wait.
 
 ghost use Rattle.std.specs.Prelude.{◌≡◌, MatchResult, Err, Ok};
 ghost use Rattle.std.specs.FinSet as set;
@@ -12,21 +12,20 @@ use volume_model::Fault;
 /// What the whole members of a group allow after an advance to a configuration.
 #[derive(Clone, Copy, Debug, PartialEq, Eq)]
 pub struct Readiness {
-    /// Whether they satisfy the configuration's read expression. If they don't, wait with the advance: a recovery needs
-    /// the reports of a read quorum, and only whole members report.
+    /// Whether they satisfy the read expression. If not, the advance must wait: a recovery needs the reports of a read
+    /// quorum, and only whole members report.
     pub can_read: bool,
-    /// Whether they satisfy its write expression. If they don't, commits wait until more members have hydrated.
+    /// Whether they satisfy the write expression. If not, commits wait until more members have hydrated.
     pub can_write: bool,
 }
 
 impl Authority {
     ghost use Rattle.epochs.specs.Waiting.{allowed, ready_to_advance};
 
-    /// Returns what the members of a group that are whole allow after [`Authority::advance`] to a configuration. Takes
-    /// no memory.
+    /// Returns what the whole members of a group allow after [`Authority::advance`] to a configuration. Allocates
+    /// nothing.
     ///
-    /// Advance only if `can_read` is true. A member that was whole stays whole, so an older list of whole members serves
-    /// as well.
+    /// Advance only if `can_read` is true. A whole member stays whole, so an older list of whole members may be used.
     ///
     /// # Errors
     /// Those of [`Authority::admits_advance`].
@@ -53,8 +52,8 @@ impl Authority {
     }
 }
 
-/// Proves that a group whose last advance waited can be read: in every run its whole members satisfy the read
-/// expression of its configuration, if the members of its root satisfy that of the root.
+/// Proves that a group whose last advance waited can be read: in every run its whole members satisfy its
+/// configuration's read expression, if the root's members satisfy the root's.
 pub fn waiting_keeps_readers()
     ensures { WaitingKeepsReaders }
 {}

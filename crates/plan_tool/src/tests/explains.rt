@@ -1,13 +1,12 @@
-//! What is said of plans: expected values worked by hand, and by brute force.
+//! Tests of explanations: expected values worked out by hand, and by brute force.
 
 ghost use Rattle.std.specs.Prelude.{◌<◌};
 
-use explain::explain;
+use explain::{explain, stopping_members, stopping_set};
 use plan::read_plan;
 use quorum_expr::{Expr, MemberSet, holds};
 use std::alloc::{AllocError, Global};
 use std::test::*;
-use witness::{stopping_members, stopping_set};
 
 /// Three of six members read, and three write; then a step that adds a member and drops two.
 const THREE_OF_SIX: &str = r#"{"format":1,"lal":10,"groups":[{"configurations":[
@@ -15,7 +14,7 @@ const THREE_OF_SIX: &str = r#"{"format":1,"lal":10,"groups":[{"configurations":[
 {"parent":0,"members":[0,1,2,3,6],"full":[0,1,2,3],"read":{"k":2,"of":[{"k":1,"of":[0,1]},{"k":2,"of":[2,3,6]}]},"write":{"k":4,"of":"all"},"meets":null,"step":null}
 ]}]}"#;
 
-/// What is said of it.
+/// The explanation of that plan.
 const SAID: &str = "\
 group 0
   configuration 0
@@ -51,7 +50,6 @@ fn three_of_six(rt: HostRuntime) {
     }
 }
 
-/// Returns the next number below a bound.
 fn next(state: &mut u64, below: u8) -> u8
     requires { 0 < below }
     ensures { result < below }

@@ -1,4 +1,4 @@
-//! Expressions that are read, copied and turned into their duals.
+//! Tests of expressions: reading, copies and duals.
 
 ghost use Rattle.std.specs.Prelude.{◌≡◌, None, IfOk};
 ghost use Rattle.quorum_expr.specs.Expr.{formula_of};
@@ -20,7 +20,7 @@ fn six() -> Lists {
     }
 }
 
-/// The expression that a text spells over these lists. `NoMemory` where the text isn't JSON.
+/// Returns the expression of a text over these lists; `NoMemory` if the text isn't JSON.
 pub fn expr(alloc: Global, text: &str, lists: &Lists) -> Result<Expr<Global>, Fault>
     ensures { IfOk result (λ e. expression_fault (formula_of e) ≡ None) }
 {
@@ -30,10 +30,10 @@ pub fn expr(alloc: Global, text: &str, lists: &Lists) -> Result<Expr<Global>, Fa
     }
 }
 
-/// A text, and the first fault of the expression that it spells.
+/// A text, and the first fault of its expression.
 pub type Row = (&'static str, Option<Fault>);
 
-/// The first of these texts that is read otherwise than it says.
+/// Returns the first of these texts with another fault.
 pub fn misread(alloc: Global, lists: &Lists, rows: &[Row]) -> Option<&'static str> {
     for (text, fault) in rows {
         if expr(alloc, text, lists).err() != *fault {
@@ -73,7 +73,7 @@ const ROWS: &[Row] = &[
     ),
 ];
 
-/// The fault of any of `others` expressions and one more, each of which is any of 64 members.
+/// Returns the fault of any of `others` expressions and one more, each of which is any of 64 members.
 fn fault_of_any(alloc: Global, others: usize) -> Result<Option<Fault>, Fault> {
     let all = Lists {
         members: MemberSet::empty().complement(),
@@ -85,7 +85,7 @@ fn fault_of_any(alloc: Global, others: usize) -> Result<Option<Fault>, Fault> {
     Ok(expr(alloc, text.as_str(), &all).err())
 }
 
-/// Whether these members satisfy a copy of any three of the six, or its dual.
+/// Returns whether these members satisfy a copy of any three of the six, or its dual.
 fn is_held(alloc: Global, dual: bool, members: MemberSet) -> Result<bool, Fault> {
     let three = expr(alloc, "{\"k\":3,\"of\":\"all\"}", &six())?;
     valid(&three)?;
@@ -104,7 +104,7 @@ fn expressions(rt: HostRuntime) {
     // 1 + 63 * 65 nodes are 4,096, and 64 choices have 65 more.
     assert_eq!(rt; fault_of_any(alloc, 62), Ok(None));
     assert_eq!(rt; fault_of_any(alloc, 63), Ok(Some(OverLimit)));
-    // Three of six meet each four of six.
+    // Each three of six share a member with each four of six.
     let full = six().full;
     assert_eq!(rt; is_held(alloc, false, full), Ok(true));
     assert_eq!(rt; is_held(alloc, true, full), Ok(false));

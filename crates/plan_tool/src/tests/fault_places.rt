@@ -1,4 +1,4 @@
-//! The places of faults in a plan's text.
+//! Tests of the places of faults in a plan's text.
 
 use explain::{FaultPlace, fault_place};
 use plan::read_plan;
@@ -17,7 +17,7 @@ const PLAN: &str = r#"{"format":1,"lal":10,"groups":[{"configurations":[
 ]}]}
 "#;
 
-/// A typo: a part of the plan, what stands in its place, and the line, the column and the path of the fault.
+/// A typo: a part of the plan, the text that replaces it, and the line, the column and the path of the fault.
 type Typo = (&'static str, &'static str, usize, usize, &'static str);
 
 const TYPOS: &[Typo] = &[
@@ -214,7 +214,7 @@ const TYPOS: &[Typo] = &[
     ),
 ];
 
-/// A text that isn't JSON: a part of the plan, what stands in its place, and the line and the column of the fault.
+/// A text that isn't JSON: a part of the plan, the text that replaces it, and the line and the column of the fault.
 type Misspelling = (&'static str, &'static str, usize, usize);
 
 const MISSPELLINGS: &[Misspelling] = &[
@@ -255,7 +255,7 @@ fn edited(alloc: Global, part: &str, other: &str) -> Result<String, AllocError> 
     Ok(text)
 }
 
-/// Returns whether a text is no plan, and the place of its fault is at this line and column and has this path.
+/// Returns whether a text isn't a plan's, and its fault is at this line, column and path.
 fn is_found(alloc: Global, typo: &Typo) -> Result<bool, AllocError> {
     let (part, other, line, column, path) = *typo;
     let text = edited(alloc, part, other)?;
@@ -270,7 +270,7 @@ fn is_found(alloc: Global, typo: &Typo) -> Result<bool, AllocError> {
     }
 }
 
-/// Returns whether a text is no plan, and the place of its fault is at this line and column and has no path.
+/// Returns whether a text isn't a plan's, and its fault is at this line and column and has no path.
 fn is_seen(alloc: Global, misspelling: &Misspelling) -> Result<bool, AllocError> {
     let (part, other, line, column) = *misspelling;
     let text = edited(alloc, part, other)?;

@@ -1,4 +1,4 @@
-//! Files and outputs that fail.
+//! Tests of files and outputs that fail.
 
 use super::said::{SIX_COPIES, done, job, missing, said};
 use commands::{Action, Job, Output, Source, opened, perform};
@@ -12,19 +12,19 @@ use std::thread::Threads;
 /// A file of a job.
 #[derive(Clone, Copy)]
 enum File<'a> {
-    /// It has these bytes.
+    /// The file has these bytes.
     Has(&'a [u8]),
-    /// It gives these bytes, and then fails.
+    /// Reads give these bytes, and then fail.
     Breaks(&'a [u8]),
-    /// It gives spaces without an end.
+    /// Reads give spaces without end.
     Spaces,
-    /// There is none.
+    /// The file can't be opened.
     Missing,
-    /// It isn't opened if memory runs out.
+    /// Opening the file runs out of memory.
     NoMemory,
 }
 
-/// Reads such a file, its bytes one at a time.
+/// Reads such a file one byte at a time.
 #[derive(Drop)]
 struct Reader<'a>(File<'a>);
 
@@ -54,7 +54,7 @@ impl Read for Reader<'_> {
     }
 }
 
-/// The file, as it was opened.
+/// Returns the source of the file as it was opened.
 fn source_of(file: File<'_>) -> Source<Reader<'_>> {
     Source::new(match file {
         File::Missing => Err(io::Error::from(ErrorKind::NotFound)),
@@ -63,7 +63,7 @@ fn source_of(file: File<'_>) -> Source<Reader<'_>> {
     })
 }
 
-/// Whether this status and this line alone are said of such files.
+/// Returns whether a job on such files has this status and prints only this line.
 fn says<H: Threads + Wait + Sync>(
     rt: &H,
     alloc: Global,
@@ -130,7 +130,7 @@ fn scripts_that_fail(rt: HostRuntime) {
     assert!(rt; says(&rt, alloc, Action::Run, files, 2, MALFORMED));
 }
 
-/// Takes so many bytes, one at a time, and then fails.
+/// A writer that takes this many bytes, one at a time, and then fails.
 #[derive(Drop)]
 pub struct Room(pub usize);
 
@@ -151,8 +151,8 @@ impl Write for Room {
     }
 }
 
-/// Whether a job over six copies and a script ends with this status, and standard error gets this, where standard output takes so many
-/// bytes.
+/// Returns whether a job over six copies and a script ends with this status and writes this to standard error, if
+/// standard output takes only `room` bytes.
 fn ends_in_room<H: Threads + Wait + Sync>(
     rt: &H,
     alloc: Global,
@@ -174,7 +174,7 @@ fn ends_in_room<H: Threads + Wait + Sync>(
     end == status && err.into_inner().as_slice() == expected
 }
 
-/// How many bytes the job writes.
+/// Returns the number of bytes that the job writes.
 fn length<H: Threads + Wait + Sync>(rt: &H, alloc: Global, action: Action) -> usize {
     let (plan, script) = (SIX_COPIES.as_bytes(), SCRIPT.as_bytes());
     said(rt, alloc, &job(action), plan, Some(script)).out.len()

@@ -1,13 +1,13 @@
-//! A hundred thousand lines that drivers share.
+//! A test with a hundred thousand lines that drivers share.
 
 use super::fleet_runs::fleets_tell;
 use super::said::SIX_COPIES;
 use std::alloc::{AllocError, Global};
 
-/// How many records a long script writes: with a `wait` at its end it has 100,000 lines.
+/// The number of records of the long script. With a `wait` at its end it has 100,000 lines.
 const RECORDS: u32 = 11_111;
 
-/// The plan of six copies, under which a writer may be ten million records ahead.
+/// Returns the plan of six copies with a LAL of ten million.
 fn far_ahead(alloc: Global) -> Result<String, AllocError> {
     let rest = SIX_COPIES
         .strip_prefix("{\"format\":1,\"lal\":10,")
@@ -15,8 +15,8 @@ fn far_ahead(alloc: Global) -> Result<String, AllocError> {
     format!(in alloc; "{{\"format\":1,\"lal\":10000000,{rest}")
 }
 
-/// Nine lines for each of so many records: it is issued and delivered to four members, whose acknowledgements the writer
-/// takes. A `wait` ends it.
+/// Returns a script with nine lines for each record: it is issued and delivered to four members, whose acknowledgements
+/// the writer takes. Ends with a `wait`.
 fn long(alloc: Global, records: u32) -> Result<String, AllocError> {
     let mut script = String::new(alloc);
     for number in 0..records {

@@ -1,4 +1,4 @@
-//! What `fleet` prints.
+//! Tests of `fleet`.
 
 ghost use Rattle.std.specs.Prelude.{◌≤◌};
 
@@ -21,7 +21,7 @@ const FIVE_MEMBERS: &str = "{\"format\":1,\"lal\":10,\"groups\":[{\"configuratio
     {\"rule\":\"clash\",\"left\":0,\"right\":0}]},
   \"step\":null}]}]}";
 
-/// A writer of five members fails, a recovery takes over, and what the old writer sends then is refused.
+/// A writer of five members fails, a recovery takes over, and the old writer's later messages are refused.
 const FAILED_WRITER: &str =
     "# writer 1 writes two bytes in one transaction; its records reach members 0, 1 and 2\n\
 issue 1 0:0:0:61 0:0:1:62\ndeliver 0 0 2.1\ndeliver 0 1 2.1\ndeliver 0 2 2.1\ndeliver 0 0 2.2\n\
@@ -37,7 +37,7 @@ open 2\n\
 # what the old writer sends now is refused by those who have promised the new volume epoch\n\
 deliver 0 3 14.1\n";
 
-/// What is said of a script's run on threads over this plan.
+/// Returns the output of a script's run on threads over this plan.
 pub fn fleet<H: Threads + Wait + Sync>(
     rt: &H,
     alloc: Global,
@@ -52,7 +52,7 @@ pub fn fleet<H: Threads + Wait + Sync>(
     said(rt, alloc, &job, plan.as_bytes(), Some(script))
 }
 
-/// Returns whether a script's run on threads by one driver, and by four, prints this and is refused nothing.
+/// Returns whether a script's run on threads with one driver, and with four, prints this without a refusal.
 pub fn fleets_tell<H: Threads + Wait + Sync>(
     rt: &H,
     alloc: Global,
@@ -65,7 +65,7 @@ pub fn fleets_tell<H: Threads + Wait + Sync>(
         && fleet(rt, alloc, 4, plan, script).is(0, expected)
 }
 
-/// Whether the journal of a script's run agrees.
+/// Returns whether the journal of a script's run agrees.
 fn agrees<H: Threads + Wait + Sync>(
     rt: &H,
     alloc: Global,
@@ -90,7 +90,7 @@ const EXAMPLES: &[(&str, &str)] = &[
     (FIVE_MEMBERS, FAILED_WRITER),
 ];
 
-/// The journals that one driver, four and sixteen leave agree.
+/// The journals agree with one driver, four and sixteen.
 #[test]
 fn journals_of_the_examples(rt: HostRuntime) {
     let alloc = rt.alloc();

@@ -1,4 +1,4 @@
-//! Fleets of actors, which calls step by passes.
+//! Tests of fleets.
 
 mod calls;
 mod copies;

@@ -1,4 +1,4 @@
-//! Searches whose workers wait for one another.
+//! Tests of searches whose workers wait for each other.
 
 use super::kept::claims_of;
 use super::texts::{WIDE, plan_of};
@@ -12,10 +12,10 @@ use std::thread;
 use std::thread::Threads;
 use volume_model::Fault;
 
-/// How often a worker looks whether it may go on.
+/// How often a worker checks whether it may continue.
 const TURNS: u32 = 1_000_000;
 
-/// A flag, and whether it was seen by the one that waits for it.
+/// A flag, and whether the worker that waits for it saw it.
 #[derive(Drop)]
 pub struct Flag {
     raised: AtomicBool,
@@ -23,7 +23,7 @@ pub struct Flag {
 }
 
 impl Flag {
-    /// It isn't raised yet.
+    /// Returns a flag that isn't raised.
     pub fn new() -> Flag {
         Flag {
             raised: AtomicBool::new(false),
@@ -31,12 +31,12 @@ impl Flag {
         }
     }
 
-    /// Raises it.
+    /// Raises the flag.
     pub fn raise(&self) {
         self.raised.store(true, Ordering::SeqCst);
     }
 
-    /// Waits until the flag is raised, for so many turns at most.
+    /// Waits until the flag is raised, for at most `TURNS` turns.
     pub fn wait(&self) {
         for _ in 0..TURNS {
             if self.raised.load(Ordering::SeqCst) {
@@ -47,13 +47,13 @@ impl Flag {
         }
     }
 
-    /// Whether the one that waited for it saw it raised.
+    /// Returns whether the flag was seen raised.
     pub fn was_seen(&self) -> bool {
         self.seen.load(Ordering::SeqCst)
     }
 }
 
-/// Holds each of the claims 0 and 1 until the other was started.
+/// Holds claims 0 and 1 until both were started.
 #[derive(Drop)]
 struct Meeting {
     first: Flag,
@@ -94,7 +94,7 @@ impl Gate for Later {
     }
 }
 
-/// Of how many of five claims two workers find the certificate.
+/// Returns how many of five claims have a certificate that two workers find.
 fn found<R: Threads + Wait + Sync, G: Gate + Sync>(
     rt: &R,
     alloc: Global,
@@ -130,7 +130,7 @@ fn a_held_claim_keeps_no_other(rt: HostRuntime) {
     assert!(rt; gate.finished.was_seen());
 }
 
-/// Whether the certificate that is found for the first claim refutes it, None where there is none.
+/// Returns whether the certificate found for the first claim refutes it, `None` if none is found.
 fn alone(alloc: Global) -> Result<Option<bool>, Fault> {
     let plan = plan_of(alloc, WIDE)?;
     let claims = claims_of(alloc, &plan)?;

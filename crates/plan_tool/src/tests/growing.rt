@@ -1,11 +1,11 @@
-//! A volume of 16 groups, all of which but the first join while it is written to.
+//! A test of a volume of 16 groups, of which all but the first join while it is written to.
 
 use super::fleet_runs::fleets_tell;
 use super::said::SIX_COPIES;
 use super::volumes::tells;
 use std::alloc::{AllocError, Global};
 
-/// A plan of 16 groups of six copies, of which one is there at birth.
+/// Returns a plan of 16 groups of six copies, of which one exists at birth.
 fn growing(alloc: Global) -> Result<String, AllocError> {
     let groups = SIX_COPIES
         .strip_prefix("{\"format\":1,\"lal\":10,\"groups\":[")
@@ -15,7 +15,7 @@ fn growing(alloc: Global) -> Result<String, AllocError> {
     format!(in alloc; "{{\"format\":3,\"lal\":10,\"born\":1,\"groups\":[{groups}{group}]}}")
 }
 
-/// Each group but the first joins: it is installed on four nodes, and then written to.
+/// Returns a script in which each group but the first joins: it is installed on four nodes, and then written to.
 fn one_by_one(alloc: Global, groups: u32) -> Result<String, AllocError> {
     let mut script = String::new(alloc);
     for group in 1..groups {
@@ -29,7 +29,7 @@ fn one_by_one(alloc: Global, groups: u32) -> Result<String, AllocError> {
     Ok(script)
 }
 
-/// Four nodes of a group take the message of a line, and the writer takes their answers, before anything else happens.
+/// Appends lines in which four nodes of a group take a message, and the writer takes their answers.
 fn answered(script: &mut String, group: u32, line: u32) -> Result<(), AllocError> {
     for member in 0..4u32 {
         write!(script, "deliver {group} {member} {line}.1\n")?;
@@ -42,7 +42,7 @@ fn answered(script: &mut String, group: u32, line: u32) -> Result<(), AllocError
     Ok(())
 }
 
-/// The result of the lines of a group.
+/// The results of the lines of a group.
 const PRINTED: &str = ",0,0,1,1,1,1,1,1,0,0,0,0,0,1,1,1,1,1,0,0,0,0,0";
 
 #[test]

@@ -1,4 +1,4 @@
-//! Claims that are dealt to hands.
+//! Tests of claims that are dealt to hands.
 
 ghost use Rattle.std.specs.Prelude.{◌<◌, ◌≤◌};
 
@@ -10,10 +10,10 @@ use std::thread;
 use std::thread::Threads;
 use volume_model::Fault;
 
-/// A hand by its place, and the claim that it takes.
+/// The index of a hand, and the claim that it takes.
 type ExpectedTake = (usize, Option<usize>);
 
-/// Returns the index of the first take that differs from the expected one, after `claims` claims are dealt to `workers` workers;
+/// Deals `claims` claims to `workers` workers. Returns the index of the first take that differs from the expected one;
 /// the number of takes if there are more or fewer hands than workers.
 fn broken<R: Wait>(
     rt: &R,
@@ -40,7 +40,7 @@ fn broken<R: Wait>(
     Ok(None)
 }
 
-/// Two workers have five claims between them, each once, and then none.
+/// Two workers take five claims, each once, and then none.
 const EACH_ONCE: &[ExpectedTake] = &[
     (1, Some(1)),
     (0, Some(0)),
@@ -65,7 +65,7 @@ const ONE_TAKES_ALL: &[ExpectedTake] = &[
     (0, None),
 ];
 
-/// A single worker has three.
+/// A single worker takes three.
 const ALONE: &[ExpectedTake] = &[(0, Some(0)), (0, Some(1)), (0, Some(2)), (0, None)];
 
 #[test]
@@ -77,7 +77,7 @@ fn claims_are_dealt(rt: HostRuntime) {
     assert_eq!(rt; broken(&rt, alloc, 3, 1, ALONE), Ok(None));
 }
 
-/// How many claims the hand takes until it finds nothing.
+/// Returns how many claims the hand takes until none is left.
 fn count<R: Wait>(rt: &R, mut hand: Hand) -> usize {
     for taken in 0..100 {
         if hand.take(rt).is_none() {
@@ -87,7 +87,7 @@ fn count<R: Wait>(rt: &R, mut hand: Hand) -> usize {
     100
 }
 
-/// How many claims the hands of 50 take on four threads.
+/// Returns how many of 50 claims the hands take on four threads.
 fn taken<R: Threads + Wait + Sync>(rt: &R, alloc: Global) -> Result<usize, Fault> {
     let hands = deal(alloc, 50, 4)?;
     let counts = thread::map_vec(rt, hands, &|hand| count(rt, hand))?;

@@ -1,4 +1,4 @@
-//! Which certificates are kept where all are too long.
+//! Tests of which certificates are kept if they are too long together.
 
 ghost use Rattle.std.specs.Prelude.{◌≡◌, IfOk, Ok};
 ghost use Rattle.plan.specs.LentClaims.{all_lent};
@@ -14,11 +14,11 @@ use std::test::*;
 use std::thread::Threads;
 use volume_model::Fault;
 
-/// How many nodes are tried for a claim at most.
+/// The most nodes that are tried for a claim.
 const BUDGET: u64 = 100_000;
 
-/// Of each group one configuration: four, three, three and two of so many members read, and as many write. Their certificates match four, three, three
-/// and two pairs of members.
+/// Four groups with one configuration each, of four, three, three and two members, which all read and all write. Their
+/// certificates match four, three, three and two pairs.
 const SOME_LONGER: &str = r#"{"format":1,"lal":10,"groups":[
 {"configurations":[{"parent":null,"members":[0,1,2,3],"full":[],"read":{"k":4,"of":"all"},"write":{"k":4,"of":"all"},"meets":null,"step":null}]},
 {"configurations":[{"parent":null,"members":[0,1,2],"full":[],"read":{"k":3,"of":"all"},"write":{"k":3,"of":"all"},"meets":null,"step":null}]},
@@ -35,7 +35,7 @@ impl Gate for NoGate {
     fn finished(&self, _claim: usize) {}
 }
 
-/// The claims of a plan.
+/// Returns the claims of a plan.
 pub fn claims_of<'p>(alloc: Global, plan: &'p Plan) -> Result<Vec<ClaimRef<'p>>, Fault>
     ensures claims { IfOk result (λ v. claims_in (plan_data plan.entry.now) ≡ Ok (all_lent v.items)) }
 {
@@ -45,7 +45,7 @@ pub fn claims_of<'p>(alloc: Global, plan: &'p Plan) -> Result<Vec<ClaimRef<'p>>,
     }
 }
 
-/// Which certificates stay of those that are found for the plan, where they have so much room.
+/// Returns which of the plan's certificates are kept if there is this much room.
 fn kept<R: Threads + Wait + Sync>(rt: &R, alloc: Global, room: u32) -> Result<[bool; 4], Fault> {
     let plan = plan_of(alloc, SOME_LONGER)?;
     let mut certificates = search_all(rt, alloc, &plan, 1, BUDGET, &NoGate)?;
@@ -61,7 +61,8 @@ fn kept<R: Threads + Wait + Sync>(rt: &R, alloc: Global, room: u32) -> Result<[b
     }
 }
 
-/// The shortest stay, of equally long ones the first: as many as have room. A match takes 57 bytes, and 42 more for each pair.
+/// The shortest are kept, of equally long ones the first, as many as fit. A match takes 57 bytes, and 42 more for each
+/// pair.
 #[test]
 fn shortest_stay(rt: HostRuntime) {
     let alloc = rt.alloc();

@@ -1,4 +1,4 @@
-//! Plans whose keys come in any order.
+//! Tests of plans whose keys come in any order.
 
 use super::said::{job, says};
 use super::written::own_certificates;
@@ -31,7 +31,7 @@ const GROWING_ORDERS: &[&str] = &[
     r#"{"groups":[{"configurations":[{"members":[0,1,2],"meets":{"left":0,"rule":"match","then":[{"right":0,"left":0,"rule":"clash"},{"rule":"clash","left":1,"right":0}],"right":0,"pairs":[[0,0],[1,1]]},"step":null,"parent":null,"read":{"k":2,"of":"full"},"write":{"of":"all","k":2,"weights":[2,1,1]},"full":[0,1]},{"write":{"of":"tail","k":1},"parent":0,"full":[0,1],"read":0,"step":{"side":"left","item":0,"rule":"dead"},"meets":null,"members":[0,1,2]}]},{"configurations":[{"meets":{"rule":"clash","left":0,"right":0},"members":[5],"write":5,"read":5,"step":null,"parent":null,"full":[]}]}],"format":3,"born":1,"lal":10}"#,
 ];
 
-/// Texts with a fault or with two, and the line of the first fault in reading order.
+/// Texts with one or two faults, and the line of the first fault in reading order.
 const FAULTS: &[(&str, &str)] = &[
     (
         r#"{"groups":[{"configurations":[{"meets":null,"full":[0,1],"step":null,"read":{"of":"full","k":2},"members":[0,1,2],"parent":null,"write":{"weights":[2,1,1],"of":"all","k":2}},{"read":0,"write":{"of":"tail","k":1},"meets":null,"step":null,"members":[0,1,2],"parent":0,"full":[0,1]}]},{"configurations":[{"parent":null,"meets":null,"members":[5],"step":null,"read":5,"full":[],"write":5}]}],"born":1,"lal":0,"format":3}"#,
@@ -111,7 +111,7 @@ const FAULTS: &[(&str, &str)] = &[
     ),
 ];
 
-/// Writes a plan with its own certificates, as they are read.
+/// Writes a plan with the certificates that it has.
 fn rewritten(alloc: Global, text: &TapedPlan<'_>) -> Result<Vec<u8>, PlanFault> {
     let plan = text.plan(alloc)?;
     let claims = claims(alloc, &plan)?;
@@ -122,7 +122,7 @@ fn rewritten(alloc: Global, text: &TapedPlan<'_>) -> Result<Vec<u8>, PlanFault> 
     Ok(text.write(alloc, &certificates)?)
 }
 
-/// Returns whether a text is written as another one.
+/// Returns whether writing a text gives another one.
 fn becomes(alloc: Global, text: &str, other: &str) -> bool {
     let mut scratch = Scratch::new(alloc);
     let Ok(text) = TapedPlan::parse(alloc, text.as_bytes(), &mut scratch) else {

@@ -1,4 +1,4 @@
-//! 600 records, whose copies and installs come in three pieces each.
+//! A test with 600 records, whose copies and installs come in three pieces each.
 
 use super::fleet_runs::fleet;
 use super::volumes::tells;
@@ -7,8 +7,8 @@ use std::sync::Wait;
 use std::test::*;
 use std::thread::Threads;
 
-/// Three copies, of which two read and two write. In the child of the root member 3 is there too: its read sets are those of 0, 1 and 2 or
-/// those of 0, 1 and 3, its write sets those of both.
+/// Three copies, of which two read and two write. The child of the root adds member 3: its read quorums are those of 0,
+/// 1 and 2 or those of 0, 1 and 3, its write quorums those of both.
 pub const THREE_COPIES: &str = r#"{"format":1,"lal":1000,"groups":[{"configurations":[
 {"parent":null,"members":[0,1,2],"full":[0,1,2],"read":{"k":2,"of":"all"},"write":{"k":2,"of":"all"},
 "meets":{"rule":"match","left":0,"right":0,"pairs":[[0,0],[1,1],[2,2]],"then":[
@@ -28,7 +28,8 @@ pub const THREE_COPIES: &str = r#"{"format":1,"lal":1000,"groups":[{"configurati
 {"rule":"clash","left":0,"right":0},{"rule":"clash","left":0,"right":0},{"rule":"dead","side":"left","item":0}]}]}}
 ]}]}"#;
 
-/// Lines 1 to 1222, the records in 20 transactions, to members 0 and 1, and what these acknowledge of the last one; and then other lines.
+/// Returns lines 1 to 1222 and then others: the records in 20 transactions, to members 0 and 1, and their
+/// acknowledgements of the last one.
 fn written(alloc: Global, then: &str) -> Result<String, AllocError> {
     let mut script = String::new(alloc);
     let changes = " 0:0:0:61".repeat(alloc, 30)?;
@@ -46,15 +47,16 @@ fn written(alloc: Global, then: &str) -> Result<String, AllocError> {
     Ok(script)
 }
 
-/// The result of the lines of the first test.
+/// Returns the results of the lines of the first test.
 fn written_told(alloc: Global) -> Result<String, AllocError> {
     let issued = "30,".repeat(alloc, 20)?;
     let delivered = "1,".repeat(alloc, 1200)?;
     format!(in alloc; "{issued}{delivered}0,0{COPIED_AND_INSTALLED_TOLD}")
 }
 
-/// Lines 1223 to 1244: member 3 asks for copies. A restart drops two pieces of one; of the next, pieces of both don't make one. Lines 1245
-/// to 1263: a recovery reads members 1 and 3, and installs on 0 and 1. A restart drops a piece, so that the last one comes late.
+/// Lines 1223 to 1244: member 3 asks for copies. A restart drops two pieces of one copy; pieces of both copies don't
+/// make one. Lines 1245 to 1263: a recovery reads members 1 and 3, and installs on 0 and 1. A restart drops a piece, so
+/// that the last one comes late.
 const COPIED_AND_INSTALLED: &str =
     "advance 0 1\ndeliver 0 0 1223.1\ndeliver 0 1 1223.1\ndeliver 0 3 1223.1\ndeliver 0 0 1226.1\ndeliver 0 1 1226.1\n\
 deliver 0 3 1227.1\ndeliver 0 3 1227.2\nrestart 0 3\ndeliver 0 3 1227.3\ndeliver 0 3 1228.1\ndeliver 0 3 1228.2\n\
@@ -64,16 +66,16 @@ assign\ntake 2 1245.1\ndeliver 0 1 1246.1\ndeliver 0 3 1246.1\ntake 2 1247.1\nta
 deliver 0 0 1251.1\ndeliver 0 0 1251.2\ndeliver 0 0 1251.3\ndeliver 0 1 1251.3\nrestart 0 1\ndeliver 0 1 1251.1\n\
 deliver 0 1 1251.2\ntake 2 1254.1\nopen 2\ndeliver 0 1 1251.3\ntake 2 1261.1\nopen 2\n";
 
-/// The result of these lines.
+/// The results of these lines.
 const COPIED_AND_INSTALLED_TOLD: &str =
     ",1,0,0,1,3,3,0,0,0,0,0,0,0,refused 57 NotEnough,3,0,0,0,refused 57 NotEnough,refused 80 NoMessage,0,0\
 ,1,1,1,1,0,0,3,0,0,1,0,0,0,0,0,refused 74 NotReady,1,0,0";
 
-/// What a run prints at its end.
+/// The end of a run's output.
 const END: &str =
     "writer 1 durable 600 next 601\nwriter 2 durable 600 next 1601\nrecovery 2 cut 600 start 1600\n";
 
-/// What a fleet prints.
+/// The output of a fleet.
 const FLEET: &str =
     "steps 1259\nrefused 4\nwriter 1 durable 600 next 601\nwriter 2 durable 600 next 1601\nrecovery 2 cut 600 start 1600\n\
 journal yes\n";

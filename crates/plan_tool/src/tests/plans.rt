@@ -1,4 +1,4 @@
-//! The largest plan and the largest certificate.
+//! Tests of the largest plan and the largest certificate.
 
 use super::said::{job, says};
 use commands::Action;
@@ -9,13 +9,13 @@ use std::thread::Threads;
 
 const CLASH: &str = r#"{"rule":"clash","left":0,"right":0}"#;
 
-/// Shows that three of six members meet four of them.
+/// A certificate that each three of six members share one with each four of them.
 const EQUAL: &str =
     r#"{"rule":"match","left":0,"right":0,"pairs":[[0,0],[1,1],[2,2],[3,3],[4,4],[5,5]],"then":[
 {"rule":"clash","left":0,"right":0},{"rule":"clash","left":0,"right":0},{"rule":"clash","left":0,"right":0},
 {"rule":"clash","left":0,"right":0},{"rule":"clash","left":0,"right":0},{"rule":"clash","left":0,"right":0}]}"#;
 
-/// A match of no pairs, with one branch so many times and then another.
+/// Returns a match of no pairs, with one branch `count` times and then another.
 fn matched(alloc: Global, each: &str, count: usize, last: &str) -> Result<String, AllocError> {
     let many = format!(in alloc; "{each},")?.repeat(alloc, count)?;
     format!(in alloc;
@@ -23,8 +23,8 @@ fn matched(alloc: Global, each: &str, count: usize, last: &str) -> Result<String
     )
 }
 
-/// A certificate of depth 5: a root of 10 branches, each of 9, each of 10, each of 110 leaves, except the very last, which has so many and
-/// one more.
+/// Returns a certificate of depth 5: a root of 10 branches, each of 9, each of 10, each of 110 leaves, except the last,
+/// which has `leaves` and one more.
 fn broad(alloc: Global, leaves: usize) -> Result<String, AllocError> {
     let mut each = matched(alloc, CLASH, 109, CLASH)?;
     let mut last = matched(alloc, CLASH, leaves, CLASH)?;
@@ -35,7 +35,7 @@ fn broad(alloc: Global, leaves: usize) -> Result<String, AllocError> {
     Ok(last)
 }
 
-/// A configuration of six members with this parent, certificate and step.
+/// Returns a configuration of six members with this parent, certificate and step.
 fn six(alloc: Global, parent: &str, meets: &str, step: &str) -> Result<String, AllocError> {
     format!(in alloc;
         "{{\"parent\":{parent},\"members\":[0,1,2,3,4,5],\"full\":[0,1,2,3,4,5],\"read\":{{\"k\":3,\"of\":\"all\"}},\
@@ -43,7 +43,7 @@ fn six(alloc: Global, parent: &str, meets: &str, step: &str) -> Result<String, A
     )
 }
 
-/// A plan of a group of these configurations, so many times and once more.
+/// Returns a plan of a group of these configurations, `times` times and once more.
 fn plan(alloc: Global, configurations: &str, times: usize) -> Result<String, AllocError> {
     let others = format!(in alloc; "{{\"configurations\":[{configurations}]}},")?;
     let others = others.repeat(alloc, times)?;
@@ -52,13 +52,13 @@ fn plan(alloc: Global, configurations: &str, times: usize) -> Result<String, All
     )
 }
 
-/// A plan of one configuration, whose certificate has so many leaves more than it must have.
+/// Returns a plan of one configuration, whose certificate has this many leaves more than it must have.
 fn broad_plan(alloc: Global, leaves: usize) -> Result<String, AllocError> {
     let root = six(alloc, "null", &broad(alloc, leaves)?, "null")?;
     plan(alloc, &root, 0)
 }
 
-/// A plan of 16 groups of a root and its 63 equal children.
+/// Returns a plan of 16 groups of a root and its 63 equal children.
 fn large_plan(alloc: Global) -> Result<String, AllocError> {
     let child = six(alloc, "0", EQUAL, EQUAL)?;
     let children = format!(in alloc; ",{child}")?.repeat(alloc, 63)?;
@@ -66,7 +66,7 @@ fn large_plan(alloc: Global) -> Result<String, AllocError> {
     plan(alloc, &format!(in alloc; "{root}{children}")?, 15)
 }
 
-/// Whether a check of a plan says this.
+/// Returns whether a check of a plan prints this.
 fn is_said<H: Threads + Wait + Sync>(
     rt: &H,
     alloc: Global,
@@ -88,7 +88,7 @@ fn is_said<H: Threads + Wait + Sync>(
     }
 }
 
-/// A hundred thousand nodes are read, and refused by their count; one more is over the limit.
+/// A certificate of 100,000 nodes is read, and refused by the check; one with one more is over the limit.
 #[test]
 fn the_largest(rt: HostRuntime) {
     let alloc = rt.alloc();

@@ -1,4 +1,4 @@
-//! What a check says of certificates.
+//! Tests of the check of certificates.
 
 use super::expressions::expr;
 use quorum_checker::{Claim, check};
@@ -12,11 +12,12 @@ use volume_model::Fault;
 /// A claim of the table below.
 #[derive(Clone, Copy)]
 enum Meeting {
-    /// Each three of six members meet each four.
+    /// Each three of six members share one with each four.
     Four,
-    /// Each three of six members meet each three.
+    /// Each three of six members share one with each three.
     Three,
-    /// What weighs 3 of members 0, 1 and 2, of which 0 weighs 2, meets what weighs 2; the first set has none of them.
+    /// Sets of weight 3 of members 0, 1 and 2, where 0 has weight 2, share a member with sets of weight 2; the first
+    /// set has none of them.
     Weighed,
 }
 
@@ -28,7 +29,6 @@ const THREE: &str = "{\"k\":3,\"of\":[0,1,2],\"weights\":[2,1,1]}";
 
 const TWO: &str = "{\"k\":2,\"of\":[0,1,2],\"weights\":[2,1,1]}";
 
-/// The claim.
 fn claim(alloc: Global, meeting: Meeting) -> Result<Claim<Global>, Fault> {
     let first = MemberSet::empty().with(0).with(1).with(2);
     let six = first.with(3).with(4).with(5);
@@ -49,8 +49,8 @@ fn claim(alloc: Global, meeting: Meeting) -> Result<Claim<Global>, Fault> {
     })
 }
 
-/// What the check says of a tree, in whose text `C` is a clash of the first items, and `D` that the first of the left is dead: nothing
-/// where it refutes the claim.
+/// Returns the fault of a tree, empty if the tree refutes the claim. In the tree's text `C` is a clash of the first
+/// items, and `D` says that the first left item is dead.
 fn verdict(alloc: Global, meeting: Meeting, tree: &str) -> Result<String, Fault> {
     let claim = claim(alloc, meeting)?;
     let tree = tree.replace(alloc, "C", "{\"rule\":\"clash\",\"left\":0,\"right\":0}")?;
@@ -69,12 +69,12 @@ fn verdict(alloc: Global, meeting: Meeting, tree: &str) -> Result<String, Fault>
     }
 }
 
-/// Whether the check says this of a tree.
+/// Returns whether this is the fault of a tree.
 fn says(alloc: Global, meeting: Meeting, tree: &str, said: &str) -> Result<bool, Fault> {
     Ok(verdict(alloc, meeting, tree)?.as_str() == said)
 }
 
-/// A claim, a tree, and what is said of it.
+/// A claim, a tree, and its fault.
 const ROWS: &[(Meeting, &str, &str)] = &[
     (
         Meeting::Four,
@@ -118,7 +118,7 @@ const ROWS: &[(Meeting, &str, &str)] = &[
         "{\"rule\":\"pick\",\"side\":\"left\",\"item\":0,\"children\":[0,1,2,3],\"then\":[C,C,C,C]}",
         "22 NoClash at 0",
     ),
-    // Member 6 is on one side alone, and two of the second branch's pairs are of different members.
+    // Only one side has member 6, and two of the second branch's pairs have different members.
     (
         Meeting::Four,
         "{\"rule\":\"split\",\"member\":6,\

@@ -1,4 +1,4 @@
-//! What the program says of files.
+//! Runs jobs on files in memory.
 
 ghost use Rattle.std.specs.Prelude.{◌≤◌};
 
@@ -9,7 +9,7 @@ use std::io::{ErrorKind, Read};
 use std::sync::Wait;
 use std::thread::Threads;
 
-/// A plan of six copies, as it is written by hand.
+/// A plan of six copies, written by hand.
 pub const SIX_COPIES: &str = "{\"format\":1,\"lal\":10,\"groups\":[{\"configurations\":[
  {\"parent\":null,\"members\":[0,1,2,3,4,5],\"full\":[0,1,2,3,4,5],
   \"read\":{\"k\":3,\"of\":\"all\"},\"write\":{\"k\":4,\"of\":\"all\"},
@@ -20,7 +20,7 @@ pub const SIX_COPIES: &str = "{\"format\":1,\"lal\":10,\"groups\":[{\"configurat
     {\"rule\":\"clash\",\"left\":0,\"right\":0},{\"rule\":\"clash\",\"left\":0,\"right\":0}]},
   \"step\":null}]}]}";
 
-/// What the program says: its status and its two outputs.
+/// The status of a job, and its two outputs.
 #[derive(Drop)]
 pub struct Outputs {
     pub status: u8,
@@ -29,7 +29,7 @@ pub struct Outputs {
 }
 
 impl Outputs {
-    /// Whether it is this status, and this line on its output alone.
+    /// Returns whether the status is this one, and this line is all that is printed.
     pub fn is(&self, status: u8, line: &str) -> bool {
         let (full, empty) = if status == 2 {
             (&self.err, &self.out)
@@ -40,12 +40,12 @@ impl Outputs {
     }
 }
 
-/// A file that can't be opened.
+/// Returns a file that can't be opened.
 pub fn missing() -> Source<&'static [u8]> {
     Source::new(Err(io::Error::from(ErrorKind::NotFound)))
 }
 
-/// What is said of a job on these files.
+/// Returns the outputs of a job on these files.
 pub fn done<H: Threads + Wait + Sync, P: Read + Drop, S: Read + Drop>(
     rt: &H,
     alloc: Global,
@@ -63,7 +63,7 @@ pub fn done<H: Threads + Wait + Sync, P: Read + Drop, S: Read + Drop>(
     }
 }
 
-/// A job by so many workers.
+/// Returns a job with this many workers.
 pub fn job_of(action: Action, workers: u8) -> Job<'static>
     requires some { 1 ≤ workers }
     requires few { workers ≤ 16 }
@@ -77,12 +77,12 @@ pub fn job_of(action: Action, workers: u8) -> Job<'static>
     }
 }
 
-/// A job of this kind.
+/// Returns a job with this action.
 pub fn job(action: Action) -> Job<'static> {
     job_of(action, 4)
 }
 
-/// What is said of a plan and a script, None where there is no such file.
+/// Returns the outputs of a job on a plan and a script; `None` is a file that doesn't exist.
 pub fn said<H: Threads + Wait + Sync>(
     rt: &H,
     alloc: Global,
@@ -97,7 +97,7 @@ pub fn said<H: Threads + Wait + Sync>(
     }
 }
 
-/// Whether this status and this line alone are said of them.
+/// Returns whether a job on these files has this status and prints only this line.
 pub fn says<H: Threads + Wait + Sync>(
     rt: &H,
     alloc: Global,

@@ -1,4 +1,4 @@
-//! Copies in memory that runs short behind any number of bytes.
+//! Tests of copies and searches that run out of memory after any number of bytes.
 
 use super::kept::claims_of;
 use super::texts::{WIDE, plan_of};
@@ -11,19 +11,20 @@ use std::mem;
 use std::test::*;
 use volume_model::Fault;
 
-/// How many words the copies of a claim take at most, or the tables of a search.
+/// The most words that the copies of a claim or the tables of a search take.
 const WORDS: usize = 65_536;
 
-/// How many nodes are tried for a claim at most.
+/// The most nodes that are tried for a claim.
 const BUDGET: u64 = 100_000;
 
-/// Of both groups one configuration, of few subexpressions: the pairs of the first close, and the second is cut into cases.
+/// Two groups with one configuration of few subexpressions each: the pairs of the first close, and the second needs the
+/// search by cases.
 const FEW: &str = r#"{"format":2,"lal":10,"groups":[
 {"configurations":[{"parent":null,"members":[0,1,2],"full":[0,1,2],"read":{"k":2,"of":[0,1,{"k":1,"of":[2]}]},"write":{"k":2,"of":"all"},"meets":null,"step":null}]},
 {"configurations":[{"parent":null,"members":[0,1,2,3],"full":[0,1,2,3],"read":{"k":8,"of":"all","weights":[2,3,2,3]},"write":{"k":4,"of":"all","weights":[3,1,3,1]},"meets":null,"step":null}]}
 ]}"#;
 
-/// An arena that has so many words left, and gets no more.
+/// Returns an arena that has this many words left, and gets no more.
 fn arena_of(alloc: Global, words: usize) -> Result<Bump, AllocError> {
     let bytes = words.saturating_mul(8);
     let arena = Bump::try_with_capacity(alloc, bytes)?;
@@ -33,7 +34,7 @@ fn arena_of(alloc: Global, words: usize) -> Result<Bump, AllocError> {
     Ok(arena)
 }
 
-/// Copies a claim and its certificate into an arena. Whether the one copy refutes the other.
+/// Copies a claim and its certificate into an arena. Returns whether the copied certificate refutes the copied claim.
 fn copied(alloc: Global, arena: &Bump, lent: &ClaimRef<'_>) -> Result<bool, Fault> {
     let claim = lent.claim_in(arena)?;
     let found = if lent.parent.is_some() {
@@ -48,7 +49,7 @@ fn copied(alloc: Global, arena: &Bump, lent: &ClaimRef<'_>) -> Result<bool, Faul
     Ok(check(alloc, &claim, &certificate).is_ok())
 }
 
-/// Searches a claim with tables in an arena. Whether its certificate is found.
+/// Searches a claim with tables in an arena. Returns whether its certificate is found.
 fn searched(alloc: Global, arena: &Bump, lent: &ClaimRef<'_>) -> Result<bool, Fault> {
     let claim = lent.claim_in(alloc)?;
     match search_in(alloc, &arena, &claim, BUDGET, 1)? {
@@ -57,14 +58,14 @@ fn searched(alloc: Global, arena: &Bump, lent: &ClaimRef<'_>) -> Result<bool, Fa
     }
 }
 
-/// What is done with a claim in an arena.
+/// The work on a claim in an arena.
 #[derive(Clone, Copy)]
 enum Done {
     Copied,
     Searched,
 }
 
-/// Does it. Whether the answer is right.
+/// Does the work. Returns whether its result is right.
 fn answered(alloc: Global, arena: &Bump, done: Done, lent: &ClaimRef<'_>) -> Result<bool, Fault> {
     match done {
         Done::Copied => copied(alloc, arena, lent),
@@ -72,8 +73,8 @@ fn answered(alloc: Global, arena: &Bump, done: Done, lent: &ClaimRef<'_>) -> Res
     }
 }
 
-/// Does it by so many words, and then in as much memory as is wanted. None where memory runs out at first, else whether the answer is
-/// right.
+/// Does the work with `words` words, and again without a limit if memory runs out. Returns `None` if it did, and the
+/// second result is right; else whether the result is right.
 fn tried(
     alloc: Global,
     words: usize,
@@ -90,7 +91,7 @@ fn tried(
     Ok((!is_right).then_some(false))
 }
 
-/// How many words are too few for it, each number of which was tried. 0 where an answer is wrong.
+/// Returns the least number of words that is enough for the work; all smaller ones are tried. 0 if a result is wrong.
 fn too_few(alloc: Global, done: Done, lent: &ClaimRef<'_>) -> Result<usize, Fault> {
     for words in 0..WORDS {
         if let Some(is_right) = tried(alloc, words, done, lent)? {
@@ -100,7 +101,7 @@ fn too_few(alloc: Global, done: Done, lent: &ClaimRef<'_>) -> Result<usize, Faul
     Ok(0)
 }
 
-/// For how many claims of a plan words can be too few for it.
+/// Returns the number of claims of a plan, if for each of them some number of words is too small.
 fn swept(alloc: Global, done: Done, text: &str) -> Result<usize, Fault> {
     let plan = plan_of(alloc, text)?;
     let mut swept = 0usize;
@@ -113,15 +114,15 @@ fn swept(alloc: Global, done: Done, text: &str) -> Result<usize, Fault> {
     Ok(swept)
 }
 
-/// Each growth is the first that is refused for some number of words: all copies, and the tables of a search, are in memory of one arena,
-/// which takes nothing back.
+/// Each allocation fails for some number of words: all copies, and the tables of a search, are in one arena, which
+/// frees nothing.
 #[test]
 fn scarce_memory(rt: HostRuntime) {
     assert_eq!(rt; swept(rt.alloc(), Done::Copied, WIDE), Ok(5));
     assert_eq!(rt; swept(rt.alloc(), Done::Searched, FEW), Ok(2));
 }
 
-/// Whether an arena in which something is held is emptied, and whether a claim is found in it and in another.
+/// Returns whether an arena in which something is in use is emptied, and whether a claim is found in it and in another.
 fn found_beside(alloc: Global, lent: &ClaimRef<'_>) -> Result<(bool, bool, bool), Fault> {
     let mut arena = Bump::new(alloc);
     mem::forget(vec![in &arena; 1_u8; 100]?);
@@ -130,7 +131,7 @@ fn found_beside(alloc: Global, lent: &ClaimRef<'_>) -> Result<(bool, bool, bool)
     Ok((is_emptied, in_it, searched(alloc, &Bump::new(alloc), lent)?))
 }
 
-/// An arena in which something is still held isn't emptied. A search in it, and one in another arena, find the same.
+/// An arena in which something is in use isn't emptied. A search in it finds the same as one in another arena.
 #[test]
 fn searches_beside_what_is_held(rt: HostRuntime) -> Result<(), Fail> {
     let plan = plan_of(rt.alloc(), FEW)?;

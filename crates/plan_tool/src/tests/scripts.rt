@@ -1,4 +1,4 @@
-//! Scripts that no text in a file shows: of too many lines, and with bytes that aren't text.
+//! Tests of scripts that no text in a file shows: with too many lines, and with bytes that aren't text.
 
 use super::said::{SIX_COPIES, job, says};
 use commands::Action;
@@ -6,7 +6,7 @@ use std::alloc::{AllocError, Global};
 use std::sync::Wait;
 use std::thread::Threads;
 
-/// Whether a run of a script over six copies says this.
+/// Returns whether a run of a script over six copies has this status and output.
 fn runs_to<H: Threads + Wait + Sync>(
     rt: &H,
     alloc: Global,
@@ -26,7 +26,7 @@ fn runs_to<H: Threads + Wait + Sync>(
     )
 }
 
-/// A script, the status of its run, and what is printed.
+/// A script, the status of its run, and its output.
 const ROWS: &[(&[u8], u8, &str)] = &[
     (
         b"wait\nissue 1 0:0:0:61",

@@ -1,4 +1,4 @@
-//! A search whose outputs fail.
+//! Tests of a search whose outputs fail.
 
 use super::files::Room;
 use super::said::missing;
@@ -13,10 +13,10 @@ const FALSE_CLAIM: &str = r#"{"format":1,"lal":10,"groups":[{"configurations":[
 {"parent":null,"members":[0,1,2,3,4,5],"full":[0,1,2,3,4,5],"read":{"k":3,"of":"all"},"write":{"k":3,"of":"all"},"meets":null,"step":null}
 ]}]}"#;
 
-/// How many bytes are printed of it: the same without spaces, and a newline.
+/// The number of bytes that the search prints: the text without spaces, and a newline.
 const PRINTED: usize = 193;
 
-/// What is written of it to standard error.
+/// The text that the search writes to standard error.
 const UNFOUND: &str = "unfound: group 0 configuration 0 meets\n";
 
 /// The search of a plan.
@@ -28,7 +28,7 @@ const SEARCH: Job<'static> = Job {
     json: false,
 };
 
-/// The status of the search, and how many bytes standard output can still take, where both outputs take so many.
+/// Returns the status of the search, and the room left in standard output, if the outputs take this many bytes.
 fn end<H: Threads + Wait + Sync>(rt: &H, alloc: Global, out: usize, err: usize) -> (u8, usize) {
     let mut out = Output::new(Room(out));
     let status = perform(
@@ -43,7 +43,7 @@ fn end<H: Threads + Wait + Sync>(rt: &H, alloc: Global, out: usize, err: usize) 
     (status, out.into_inner().0)
 }
 
-/// Nothing is printed where the claims without a certificate can't be named.
+/// Nothing is printed if the claims without a certificate can't be named.
 #[test]
 fn outputs_that_fail(rt: HostRuntime) {
     let alloc = rt.alloc();

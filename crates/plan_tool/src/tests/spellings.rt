@@ -1,4 +1,4 @@
-//! Expressions that a search prints as the plan's text spells them.
+//! Tests that a search prints expressions as they are written in the plan's text.
 
 use super::said::{Outputs, job, said};
 use commands::Action;
@@ -7,7 +7,7 @@ use std::sync::Wait;
 use std::test::*;
 use std::thread::Threads;
 
-/// A plan's format, a read expression of its text, and the same as it is printed.
+/// A plan's format, a read expression, and the same as it is printed.
 const KEPT: &[(u8, &str, &str)] = &[
     (1, r#"{"of":"all","k":1}"#, r#"{"k":1,"of":"all"}"#),
     (
@@ -20,7 +20,7 @@ const KEPT: &[(u8, &str, &str)] = &[
         r#"{"of":[{"of":"full","k":2},{"k":1,"of":[{"of":"tail","k":1},0]}],"k":1}"#,
         r#"{"k":1,"of":[{"k":2,"of":"full"},{"k":1,"of":[{"k":1,"of":"tail"},0]}]}"#,
     ),
-    // Weights that say nothing more.
+    // Weights that have no effect.
     (
         2,
         r#"{"weights":[1,1,1],"of":"all","k":1}"#,
@@ -83,7 +83,7 @@ fn plan_with(alloc: Global, format: u8, read: &str) -> Result<String, AllocError
     )
 }
 
-/// Returns what a search prints of a plan with this read expression.
+/// Returns the output of a search over a plan with this read expression.
 fn searched<H: Threads + Wait + Sync>(
     rt: &H,
     alloc: Global,
@@ -109,7 +109,7 @@ fn is_kept<H: Threads + Wait + Sync>(
     Ok(outputs.status == 1 && is_line && outputs.err.as_slice() == UNFOUND.as_bytes())
 }
 
-/// Returns whether a search prints this line alone of a plan with this read expression.
+/// Returns whether a search over a plan with this read expression prints only this line.
 fn is_refused<H: Threads + Wait + Sync>(
     rt: &H,
     alloc: Global,

@@ -1,4 +1,4 @@
-//! Scripts that end early.
+//! Tests of scripts that end early.
 
 use super::fleet_runs::fleet;
 use super::said::{job, said};
@@ -10,8 +10,8 @@ use std::sync::Wait;
 use std::test::*;
 use std::thread::Threads;
 
-/// Returns whether a run of a script over a plan prints this for its last line, and a fleet of one driver makes as many
-/// of its steps as are given, is refused the others, and prints at its end what the run prints.
+/// Returns whether a run of a script over a plan prints this for its last line, and whether a fleet with one driver
+/// agrees with the run: it makes and refuses as many steps, and prints the same at its end.
 fn fleet_tells<H: Threads + Wait + Sync>(
     rt: &H,
     alloc: Global,
@@ -23,7 +23,7 @@ fn fleet_tells<H: Threads + Wait + Sync>(
 ) -> Result<bool, AllocError> {
     let run = said(rt, alloc, &job(Action::Run), plan.as_bytes(), Some(script));
     let output = String::from_utf8_lossy(alloc, run.out.as_slice())?;
-    // The ends of clients stand behind the lines, the first writer's before all others.
+    // The lines of the clients come after those of the steps; the first writer's comes first.
     let Some((lines, ends)) = output.split_once("writer") else {
         return Ok(false);
     };

@@ -1,4 +1,4 @@
-//! Scripts that several tests run, and what a run prints of them.
+//! Scripts for tests, and what a run prints for them.
 
 use super::said::{job, says};
 use commands::Action;
@@ -13,7 +13,7 @@ deliver 0 3 1.1\nwait\ndeliver 0 0 1.2\ndeliver 0 1 1.2\ndeliver 0 2 1.2\ndelive
 deliver 0 0 1.3\ndeliver 0 1 1.3\ndeliver 0 2 1.3\ndeliver 0 3 1.3\ntake 1 12.1\ntake 1 13.1\n\
 take 1 14.1\ntake 1 15.1\n";
 
-/// Two bytes more reach one segment, and a recovery reads three others.
+/// Two more bytes reach one segment, and a recovery reads three others.
 pub const RECOVERED: &str =
     "issue 1 0:0:0:61 0:0:1:62 0:0:2:63\ndeliver 0 0 1.1\ndeliver 0 1 1.1\ndeliver 0 2 1.1\n\
 deliver 0 3 1.1\nwait\ndeliver 0 0 1.2\ndeliver 0 1 1.2\ndeliver 0 2 1.2\ndeliver 0 3 1.2\nwait\n\
@@ -22,7 +22,7 @@ take 1 14.1\ntake 1 15.1\n\
 issue 1 0:0:3:64 0:0:4:65\ndeliver 0 0 20.1\ndeliver 0 0 20.2\nassign\ntake 2 23.1\n\
 deliver 0 1 24.1\ndeliver 0 2 24.1\ndeliver 0 3 24.1\ntake 2 25.1\ntake 2 26.1\ntake 2 27.1\ncut 2\n";
 
-/// A member joins and is made whole, while an old write still reaches segments of the step before.
+/// A member is added and becomes whole, while an old write still reaches segments at the epoch before.
 pub const EARLY_ACKNOWLEDGEMENT: &str =
     "issue 1 0:0:0:61\nadvance 0 1\ndeliver 0 0 2.1\ndeliver 0 1 2.1\ndeliver 0 2 2.1\ndeliver 0 6 2.1\n\
 deliver 0 0 6.1\ndeliver 0 1 6.1\ndeliver 0 2 6.1\ndeliver 0 6 7.1\ndeliver 0 6 8.1\n\
@@ -38,7 +38,7 @@ refresh 1\ntake 2 6.1\ndeliver 0 6 8.1\ndeliver 0 0 2.1\ndeliver 0 6 10.1\nresta
 deliver 0 1 2.1\ndeliver 0 2 2.1\ndeliver 0 6 13.1\ndeliver 0 6 14.1\nhydrate 0 6\n\
 deliver 0 6 10.1\nhydrate 0 6\ndeliver 0 6 8.1\n";
 
-/// What is printed of a script whose lines have these results, each the number of messages made or a refusal.
+/// Returns the output for a script whose lines have these results, each a number of messages or a refusal.
 fn printed(alloc: Global, expected: &str, end: &str) -> Result<String, AllocError> {
     let mut text = String::new(alloc);
     for (i, expected) in expected.split(',').enumerate() {

@@ -1,4 +1,4 @@
-//! Weights of members.
+//! Tests of weights.
 
 use super::expressions::{Row, expr, misread};
 use super::said::{job, said, says};
@@ -22,7 +22,7 @@ fn three(is_weighted: bool) -> Lists {
 
 const TWO: &str = "{\"k\":2,\"of\":\"all\",\"weights\":[2,1,1]}";
 
-/// Expressions where weights may be given.
+/// Expressions in a format with weights.
 const ROWS: &[Row] = &[
     (TWO, None),
     ("{\"k\":4,\"of\":[0,1,2],\"weights\":[2,1,1]}", None),
@@ -66,7 +66,7 @@ const ROWS: &[Row] = &[
     ("{\"k\":2,\"of\":\"all\"}", None),
 ];
 
-/// How much the dual asks for of what weighs 2 of members 0, 1 and 2, of which 0 weighs 2.
+/// Returns the threshold of the dual of weight 2 among members 0, 1 and 2, where 0 has weight 2.
 fn asked_by_dual(alloc: Global) -> Result<u16, Fault> {
     let two = expr(alloc, TWO, &three(true))?;
     valid(&two)?;
@@ -90,7 +90,7 @@ fn weights_are_read(rt: HostRuntime) {
     assert_eq!(rt; asked_by_dual(alloc), Ok(3));
 }
 
-/// A plan of members 0, 1 and 2, of which 0 weighs 2: what weighs 2 reads, and what weighs 3 writes.
+/// A plan of members 0, 1 and 2, where 0 has weight 2: weight 2 reads, and weight 3 writes.
 const PLAN: &str =
     "{\"format\":2,\"lal\":10,\"groups\":[{\"configurations\":[{\"parent\":null,\"members\":[0,1,2],\"full\":[0,1,2],\
 \"read\":{\"k\":2,\"of\":\"all\",\"weights\":[2,1,1]},\"write\":{\"k\":3,\"of\":\"all\",\"weights\":[2,1,1]},\
@@ -98,7 +98,7 @@ const PLAN: &str =
 {\"rule\":\"clash\",\"left\":0,\"right\":0},{\"rule\":\"clash\",\"left\":0,\"right\":0},{\"rule\":\"clash\",\"left\":0,\"right\":0}]},\
 \"step\":null}]}]}";
 
-/// What a search writes of the plan: whether it begins with its format, whether it has the weights, and whether a check says yes to it.
+/// Returns whether the output of a search begins with the plan's format, has the weights, and passes a check.
 fn kept<H: Threads + Wait + Sync>(rt: &H, alloc: Global) -> Result<(bool, bool, bool), Fault> {
     let found = said(rt, alloc, &job(Action::Search), PLAN.as_bytes(), Some(b""));
     if found.status != 0 {

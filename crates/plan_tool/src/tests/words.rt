@@ -1,10 +1,10 @@
-//! Words of the command line.
+//! Tests of the command line.
 
 use commands::{Action, job};
 use std::alloc::{AllocError, Global};
 use std::test::*;
 
-/// Words that are taken, and the action, the script and the number of workers that they ask for. Each names the plan `p`.
+/// Words that name a job, and its action, script and number of workers. The plan is `p`.
 const TAKEN: &[(&[&str], Action, Option<&str>, u8)] = &[
     (&["plan_tool", "check", "p"], Action::Check, None, 4),
     (&["plan_tool", "run", "p", "s"], Action::Run, Some("s"), 4),
@@ -48,7 +48,7 @@ const TAKEN: &[(&[&str], Action, Option<&str>, u8)] = &[
     ),
 ];
 
-/// Words that aren't taken, and whether they ask for a text.
+/// Words that name no job, and whether they ask for the help or the version.
 const UNTAKEN: &[(&[&str], bool)] = &[
     (&[], false),
     (&["plan_tool"], false),
@@ -76,7 +76,7 @@ const UNTAKEN: &[(&[&str], bool)] = &[
     (&["plan_tool", "--version"], true),
 ];
 
-/// Whether words ask for this action on the plan `p`.
+/// Returns whether words name this action on the plan `p`.
 fn ask_for(
     alloc: Global,
     words: &[&str],
@@ -95,7 +95,7 @@ fn ask_for(
     }
 }
 
-/// Whether words aren't taken: whether they ask for a text then, None where they are.
+/// Returns whether words that name no job ask for a text; `None` if they name a job.
 fn untaken(alloc: Global, words: &[&str]) -> Option<bool> {
     match job(alloc, words) {
         Ok(_) => None,
@@ -103,7 +103,7 @@ fn untaken(alloc: Global, words: &[&str]) -> Option<bool> {
     }
 }
 
-/// Whether words aren't taken, and this is what is printed of them.
+/// Returns whether words name no job, and this text is printed.
 fn are_refused(alloc: Global, words: &[&str], text: &str) -> Result<bool, AllocError> {
     match job(alloc, words) {
         Ok(_) => Ok(false),
@@ -111,7 +111,7 @@ fn are_refused(alloc: Global, words: &[&str], text: &str) -> Result<bool, AllocE
     }
 }
 
-/// Whether this is said of a number of workers, of a search and of a fleet.
+/// Returns whether a search and a fleet refuse this number of workers with this reason.
 fn is_no_number(alloc: Global, workers: &str, why: &str) -> Result<bool, AllocError> {
     let text = format!(in alloc;
         "error: invalid value '{workers}' for '--workers <N>': {why}\n\nFor more information, try '--help'.\n"
@@ -121,7 +121,7 @@ fn is_no_number(alloc: Global, workers: &str, why: &str) -> Result<bool, AllocEr
     Ok(are_refused(alloc, &search, &text)? && are_refused(alloc, &fleet, &text)?)
 }
 
-/// What is no number of workers, and why.
+/// Texts that aren't a number of workers, and why.
 const NO_NUMBERS: &[(&str, &str)] = &[
     ("0", "0 is not in 1..=16"),
     ("17", "17 is not in 1..=16"),

@@ -1,4 +1,4 @@
-//! Plans and certificates that are written.
+//! Tests of writing plans and certificates.
 
 use super::kept::claims_of;
 use super::said::SIX_COPIES;
@@ -9,13 +9,13 @@ use std::alloc::{AllocError, Global};
 use std::test::*;
 use volume_model::Fault;
 
-/// The certificate of a plan's first claim.
+/// Returns the certificate of a plan's first claim.
 fn first_certificate(plan: &Plan) -> Option<&Certificate<Global>> {
     plan.groups.first()?.configurations.first()?.meets.as_ref()
 }
 
-/// How many claims the plan of six copies has, and whether the certificate of the first becomes this when it is copied, written, read and
-/// written again.
+/// Returns the number of claims of the plan of six copies, and whether its first certificate becomes this text when it
+/// is copied, written, read and written again.
 fn first_becomes(alloc: Global, text: &str) -> Result<(usize, bool), Fault> {
     let plan = plan_of(alloc, SIX_COPIES)?;
     let Some(certificate) = first_certificate(&plan) else {
@@ -27,7 +27,7 @@ fn first_becomes(alloc: Global, text: &str) -> Result<(usize, bool), Fault> {
     Ok((claims_of(alloc, &plan)?.len(), becomes))
 }
 
-/// A certificate in a place of its own, if it is kept.
+/// Returns a copy of a certificate, if it is kept.
 fn kept_copy(
     alloc: Global,
     certificate: &Option<Certificate<Global>>,
@@ -39,7 +39,7 @@ fn kept_copy(
     }
 }
 
-/// The certificates of a plan in order of its claims, or none in the place of each.
+/// Returns the certificates of a plan in order of its claims, or `None` for each.
 pub fn own_certificates(
     alloc: Global,
     plan: &Plan,
@@ -57,7 +57,7 @@ pub fn own_certificates(
     Ok(list)
 }
 
-/// The text of a plan with its own certificates, or with none.
+/// Returns the text of a plan with its own certificates, or with none.
 fn written(alloc: Global, text: &[u8], kept: bool) -> Result<Vec<u8>, PlanFault> {
     let plan = read_plan(alloc, text)?;
     let claims = claims(alloc, &plan)?;
@@ -68,7 +68,7 @@ fn written(alloc: Global, text: &[u8], kept: bool) -> Result<Vec<u8>, PlanFault>
     write_plan(alloc, text, &certificates)
 }
 
-/// Whether a text becomes another one, with its own certificates or with none.
+/// Returns whether a text becomes another one when it is written with its own certificates or with none.
 fn becomes(alloc: Global, text: &[u8], kept: bool, other: &[u8]) -> bool {
     match written(alloc, text, kept) {
         Ok(bytes) => bytes.as_slice() == other,
@@ -76,15 +76,14 @@ fn becomes(alloc: Global, text: &[u8], kept: bool, other: &[u8]) -> bool {
     }
 }
 
-/// Whether a text that was written with its own certificates, and is written once more with these or with none, becomes what it becomes
-/// at once.
+/// Returns whether writing a text twice gives the same as writing it once.
 fn becomes_again(alloc: Global, text: &[u8], kept: bool) -> Result<bool, PlanFault> {
     let whole = written(alloc, text, true)?;
     let once = written(alloc, text, kept)?;
     Ok(becomes(alloc, &whole, kept, &once))
 }
 
-/// The plan of a text, checked.
+/// Returns the checked plan of a text.
 fn checked(alloc: Global, text: &[u8]) -> Result<CheckedPlan, PlanFault> {
     let plan = read_plan(alloc, text)?;
     match check_plan(alloc, plan) {
@@ -93,7 +92,8 @@ fn checked(alloc: Global, text: &[u8]) -> Result<CheckedPlan, PlanFault> {
     }
 }
 
-/// What a check of the bytes says: how many groups they have, and how many configurations the first, or their first fault.
+/// Returns the result of a check of the bytes: the number of groups and of the first one's configurations, or the
+/// fault.
 fn said_of(alloc: Global, text: &[u8]) -> Result<String, AllocError> {
     match checked(alloc, text) {
         Ok(plan) => {
@@ -105,7 +105,7 @@ fn said_of(alloc: Global, text: &[u8]) -> Result<String, AllocError> {
     }
 }
 
-/// Whether a check says this of a text that was written.
+/// Returns whether a check of a written text has this result.
 fn is_said(alloc: Global, text: &[u8], kept: bool, said: &str) -> Result<bool, PlanFault> {
     let bytes = written(alloc, text, kept)?;
     Ok(said_of(alloc, &bytes)?.as_str() == said)
@@ -114,7 +114,7 @@ fn is_said(alloc: Global, text: &[u8], kept: bool, said: &str) -> Result<bool, P
 const MATCH_WRITTEN: &str =
     "{\"left\":0,\"pairs\":[[0,0],[1,1],[2,2],[3,3],[4,4],[5,5]],\"right\":0,\"rule\":\"match\",\"then\":[{\"left\":0,\"right\":0,\"rule\":\"clash\"},{\"left\":0,\"right\":0,\"rule\":\"clash\"},{\"left\":0,\"right\":0,\"rule\":\"clash\"},{\"left\":0,\"right\":0,\"rule\":\"clash\"},{\"left\":0,\"right\":0,\"rule\":\"clash\"},{\"left\":0,\"right\":0,\"rule\":\"clash\"}]}";
 
-/// The plan of six copies, written with no certificate.
+/// The plan of six copies, written without certificates.
 const SIX_BARE: &[u8] =
     b"{\"format\":1,\"groups\":[{\"configurations\":[{\"full\":[0,1,2,3,4,5],\"meets\":null,\"members\":[0,1,2,3,4,5],\"parent\":null,\"read\":{\"k\":3,\"of\":\"all\"},\"step\":null,\"write\":{\"k\":4,\"of\":\"all\"}}]}],\"lal\":10}";
 

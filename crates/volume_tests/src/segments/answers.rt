@@ -1,4 +1,4 @@
-//! What a node answers to each message.
+//! Tests of a node's answers.
 
 ghost use Rattle.segment_core.specs.Segment.{IsReady};
 
@@ -57,11 +57,11 @@ fn answers(rt: HostRuntime) {
     are_kept(&rt, rt.alloc(), TABLES);
 }
 
-/// A step in two parts: what was made ready shows, the complete point then, what is answered once it is applied, and the complete point
-/// at last.
+/// A step in two parts: the prepared answer, the complete point then, the answer once it is applied, and the complete
+/// point after it.
 type Parts = (Said, u64, Said, u64);
 
-/// The second part of a step, and what was seen before it.
+/// Applies a prepared step. Returns it in two parts.
 fn applied(node: &mut Segment, prepared: Prepared) -> Parts
     requires { IsReady node.old prepared }
 {
@@ -70,30 +70,30 @@ fn applied(node: &mut Segment, prepared: Prepared) -> Parts
     (shown, before, said_by(&answers), node.scl())
 }
 
-/// Whether a record is taken so in two parts.
+/// Returns whether a record is taken in these two parts.
 fn takes(alloc: Global, at: At, input: Input, parts: Parts) -> Result<bool, Fault> {
     let mut node = node(alloc, at)?;
     let prepared = node.prepare(alloc, &message(alloc, input)?)?;
     Ok(applied(&mut node, prepared) == parts)
 }
 
-/// Whether an action is done so in two parts.
+/// Returns whether an action is performed in these two parts.
 fn acts(alloc: Global, at: At, action: NodeAction, parts: Parts) -> Result<bool, Fault> {
     let mut node = node(alloc, at)?;
     let prepared = node.prepare_action(alloc, action)?;
     Ok(applied(&mut node, prepared) == parts)
 }
 
-/// How a record of number 1 is taken.
+/// A record with LSN 1 is taken.
 const TAKING: Parts = (Acks(1), 0, Acks(1), 1);
 
-/// How a member becomes whole.
+/// A member becomes whole.
 const BECOMING_WHOLE: Parts = (Nothing, 0, Nothing, 1);
 
-/// How it offers the record of number 1.
+/// A member offers the record with LSN 1.
 const OFFERING: Parts = (Offers(1, 2, 1), 1, Offers(1, 2, 1), 1);
 
-/// What was made ready shows its answers, and nothing has changed before it is applied.
+/// A prepared step has its answers, and changes nothing before it is applied.
 #[test]
 fn steps_in_two_parts(rt: HostRuntime) {
     let (alloc, offer) = (rt.alloc(), NodeAction::Offer { lsn: 1 });

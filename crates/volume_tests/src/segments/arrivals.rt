@@ -1,4 +1,4 @@
-//! Records that come in other orders than that of their chains, and the pages that they make.
+//! Tests of records that don't come in the order of their chain, and of their pages.
 
 use super::inputs::Input::{ByteOf, Fence, Offer, Restart, Write};
 use super::inputs::Sent::{self, After, Ours};
@@ -12,7 +12,7 @@ use std::alloc::Global;
 use std::test::*;
 use volume_model::Fault::{self, PointAhead, TailSegment};
 
-/// Number 2 before number 1, and again.
+/// LSN 2 before LSN 1, and again.
 const OUT_OF_ORDER: &[Row] = &[
     (Write(0, 1, 1, Ours(2)), Ok(Acks(0)), 0),
     (Write(0, 1, 1, Ours(1)), Ok(Acks(2)), 2),
@@ -20,7 +20,7 @@ const OUT_OF_ORDER: &[Row] = &[
     (Restart, Ok(Nothing), 2),
 ];
 
-/// Two chains beside one another, of the odd numbers and of the even ones. Here the odd one is there first.
+/// Two chains beside each other, of the odd LSNs and of the even ones. The odd one is complete first.
 const THE_FIRST_ARM_FIRST: &[Row] = &[
     (Write(0, 1, 1, After(5, 3)), Ok(Acks(0)), 0),
     (Write(0, 1, 1, After(6, 4)), Ok(Acks(0)), 0),
@@ -30,7 +30,7 @@ const THE_FIRST_ARM_FIRST: &[Row] = &[
     (Write(0, 1, 1, After(2, 0)), Ok(Acks(6)), 6),
 ];
 
-/// Here the even one is.
+/// The even one is complete first.
 const THE_SECOND_ARM_FIRST: &[Row] = &[
     (Write(0, 1, 1, After(5, 3)), Ok(Acks(0)), 0),
     (Write(0, 1, 1, After(6, 4)), Ok(Acks(0)), 0),
@@ -40,7 +40,7 @@ const THE_SECOND_ARM_FIRST: &[Row] = &[
     (Write(0, 1, 1, After(1, 0)), Ok(Acks(6)), 6),
 ];
 
-/// Of two records with the number 2 one has its chain.
+/// Two records with LSN 2, of which one has its chain.
 const TWO_WITH_ONE_NUMBER: &[Row] = &[
     (Write(0, 1, 1, After(3, 2)), Ok(Acks(0)), 0),
     (Write(0, 1, 1, After(1, 0)), Ok(Acks(1)), 1),
@@ -63,7 +63,7 @@ const A_BLOCK_OUT_OF_ORDER: &[Row] = &[
     (ByteOf(1, 4, 1), Ok(Byte(0)), 4),
 ];
 
-/// A page shows what was written up to a point, which isn't above the complete point.
+/// A page has the writes up to a point, which is at most the complete point.
 const A_PAGE: &[Row] = &[
     (Write(0, 1, 1, Ours(1)), Ok(Acks(1)), 1),
     (ByteOf(0, 1, 0), Ok(Byte(b'a')), 1),
@@ -72,7 +72,8 @@ const A_PAGE: &[Row] = &[
     (ByteOf(0, 2, 0), Err(PointAhead), 1),
 ];
 
-/// What comes after a page, to its block and to another, in any order, is in the next one; a restart and a report leave it there.
+/// Records that come after a page, on its block and on another, in any order, are in the next page, also after a
+/// restart and a report.
 const RECORDS_AFTER_A_PAGE: &[Row] = &[
     (Write(0, 1, 1, Sent::Byte(1, 0, 0, b'a')), Ok(Acks(1)), 1),
     (ByteOf(0, 1, 0), Ok(Byte(b'a')), 1),
@@ -91,7 +92,7 @@ const RECORDS_AFTER_A_PAGE: &[Row] = &[
     (ByteOf(0, 4, 1), Ok(Byte(b'd')), 4),
 ];
 
-/// A member that keeps no whole pages shows none.
+/// A member that keeps no whole pages makes none.
 const NO_PAGE: &[Row] = &[(ByteOf(0, 0, 0), Err(TailSegment), 0)];
 
 const TABLES: &[Table] = &[
@@ -110,11 +111,11 @@ fn arrivals(rt: HostRuntime) {
     are_kept(&rt, rt.alloc(), TABLES);
 }
 
-/// The first record, at last.
+/// The first record comes last.
 const THE_LAST_OF_2000: &[Row] = &[(Write(0, 1, 1, After(1, 0)), Ok(Acks(2000)), 2000)];
 
-/// The number of the first record that is acknowledged otherwise than with nothing complete, of 2,000 that come in reverse; and whether
-/// the last of them isn't.
+/// Returns the LSN of the first of 2,000 records that come in reverse whose answer isn't complete point 0; and the
+/// index of the first row with another answer for the last record.
 fn in_reverse(alloc: Global) -> Result<(Option<u64>, Option<usize>), Fault> {
     let mut node = node(alloc, Whole)?;
     for before in (1..2000).rev() {
@@ -131,10 +132,11 @@ fn a_chain_in_reverse(rt: HostRuntime) {
     assert_eq!(rt; in_reverse(rt.alloc()), Ok((None, None)));
 }
 
-/// How many records make more than one run.
+/// A number of records that needs more than one run.
 const MANY: u64 = 5000;
 
-/// The records 1 to 5,000 write the bytes of block 0 nearly ten times over, the first 512 `a`, the next ones `b`, and so on.
+/// The records 1 to 5,000 write the bytes of block 0 nearly ten times over: the first 512 write `a`, the next ones `b`,
+/// and so on.
 const ONCE_MANY_CAME: &[Row] = &[
     (ByteOf(0, MANY, 0), Ok(Byte(b'j')), MANY),
     (ByteOf(0, MANY, 391), Ok(Byte(b'j')), MANY),
@@ -150,7 +152,7 @@ const ONCE_MANY_CAME: &[Row] = &[
     (Fence(0, 2, 1), Ok(Reports(MANY)), MANY),
 ];
 
-/// A segment that has taken the records 1 to 5,000 of block 0 in steps of so many.
+/// Returns a segment that has taken the records 1 to 5,000 of block 0 in steps of `step`.
 fn filled(alloc: Global, step: u64) -> Result<Segment, Fault> {
     let mut node = node(alloc, Whole)?;
     for k in 0..MANY {
@@ -162,13 +164,13 @@ fn filled(alloc: Global, step: u64) -> Result<Segment, Fault> {
     Ok(node)
 }
 
-/// The place of the first row that isn't kept to by a segment that was filled in steps of so many.
+/// Returns the index of the first row with another answer of a segment that was filled in steps of `step`.
 fn in_steps_of(alloc: Global, step: u64) -> Result<Option<usize>, Fault> {
     let mut node = filled(alloc, step)?;
     Ok(broken_by(alloc, &mut node, ONCE_MANY_CAME))
 }
 
-/// In order, in reverse and mixed, all in one block.
+/// The records come in order, in reverse and mixed, all in one block.
 #[test]
 fn more_than_one_run(rt: HostRuntime) {
     for step in [1, MANY - 1, 1237] {

@@ -1,4 +1,4 @@
-//! A member that joins and is made whole by copies of a read set.
+//! Tests of a member that becomes whole by copies of a read quorum.
 
 use super::inputs::Held::First;
 use super::inputs::Input::{ByteOf, CopyOf, Fence, Hydrate, Offer, Restart, Step};
@@ -8,7 +8,7 @@ use super::steps::Said::{Asks, Byte, Nothing, Offers, Reports};
 use std::test::*;
 use volume_model::Fault::{AlreadyWhole, NoRecord, NotEnough, NotInstalled, NotWhole};
 
-/// Before it is whole, a node answers nothing but its step.
+/// Before it is whole, a node answers only its membership step.
 const BEFORE_IT_IS_WHOLE: &[Row] = &[
     (Hydrate, Err(NotEnough), 0),
     (Fence(0, 2, 0), Err(NotWhole), 0),
@@ -32,7 +32,7 @@ const COPIES_OF_A_READ_SET: &[Row] = &[
     (Hydrate, Err(AlreadyWhole), 1),
 ];
 
-/// A node that took no step to a configuration whose member it is stays as it is.
+/// A node that took no step to a configuration of which it is a member isn't hydrated.
 const COPIES_FOR_NO_MEMBER: &[Row] = &[
     (CopyOf(0, 0, 0, First(0)), Ok(Nothing), 0),
     (CopyOf(0, 0, 1, First(0)), Ok(Nothing), 0),
@@ -40,7 +40,7 @@ const COPIES_FOR_NO_MEMBER: &[Row] = &[
     (Hydrate, Err(NotEnough), 0),
 ];
 
-/// What it holds now it offers and shows, until a recovery fences it.
+/// The node offers and shows what it holds, until a recovery fences it.
 const AFTER_IT_IS_WHOLE: &[Row] = &[
     (Offer(1), Ok(Offers(1, 2, 1)), 1),
     (Offer(2), Err(NoRecord), 1),

@@ -1,4 +1,4 @@
-//! Copies that come in pieces.
+//! Tests of copies in pieces.
 
 use super::inputs::Input::{self, CopyAsk, CopyPiece, Hydrate, Restart, Step};
 use super::inputs::Part::{self, Of, One};
@@ -15,10 +15,10 @@ use std::test::*;
 use volume_model::Fault::{self, AheadMember, AlreadyWhole, BadPiece, NotEnough, StaleMember};
 use wire::Message;
 
-/// Why a member isn't made whole.
+/// The member can't be hydrated yet.
 const NOT_YET: Row = (Hydrate, Err(NotEnough), 0);
 
-/// Pieces of two copies of a member don't make one; a later copy takes the place of an earlier one, until one is complete.
+/// Pieces of two copies of a member don't make one. A later copy replaces an earlier one, until one is complete.
 const OF_TWO_COPIES: &[Row] = &[
     (CopyPiece(2, 0, 2, One(1, 2)), Ok(Nothing), 0),
     (CopyPiece(2, 0, 1, One(0, 2)), Ok(Nothing), 0),
@@ -32,7 +32,8 @@ const OF_TWO_COPIES: &[Row] = &[
     (Hydrate, Ok(Nothing), 5),
 ];
 
-/// What one member sent doesn't complete the copy of another. Member 0's copy is that of a read set, and no read set needs member 1.
+/// Pieces of one member don't complete the copy of another. Member 0's copy is a read quorum, and no read quorum needs
+/// member 1.
 const OF_TWO_MEMBERS: &[Row] = &[
     (CopyPiece(2, 0, 1, Of(0, 2, 1, 3)), Ok(Nothing), 0),
     (CopyPiece(2, 1, 1, Of(1, 2, 4, 6)), Ok(Nothing), 0),
@@ -50,7 +51,7 @@ const BESIDE_HALF_A_COPY: &[Row] = &[
     (Hydrate, Ok(Nothing), 4),
 ];
 
-/// No piece; one of more pieces than there may be, and of as many; one with too many records, with as many as it may have, and with none.
+/// A piece of none, pieces of too many and of the most pieces, and pieces with too many, the most and no records.
 const NO_PIECES: &[Row] = &[
     (CopyPiece(2, 0, 1, One(0, 0)), Err(BadPiece), 0),
     (CopyPiece(2, 0, 1, One(3, 3)), Err(BadPiece), 0),
@@ -71,7 +72,7 @@ const NO_PIECES: &[Row] = &[
     (CopyPiece(2, 0, 3, One(0, 0)), Err(AlreadyWhole), 256),
 ];
 
-/// A restart forgets the pieces that were kept, after whichever of them it comes.
+/// A restart drops the kept pieces, after whichever of them it comes.
 const A_RESTART_AFTER_EACH_PIECE: &[Row] = &[
     (CopyPiece(2, 0, 1, FIRST_THIRD), Ok(Nothing), 0),
     (Restart, Ok(Nothing), 0),
@@ -93,7 +94,7 @@ const A_RESTART_AFTER_EACH_PIECE: &[Row] = &[
     (Restart, Ok(Nothing), 600),
 ];
 
-/// A step forgets the pieces that came before it.
+/// A membership step drops the pieces that came before it.
 const A_STEP_BETWEEN: &[Row] = &[
     (CopyPiece(0, 0, 1, One(0, 2)), Ok(Nothing), 0),
     (Step(0, 1, 2), Ok(Asks(2)), 0),
@@ -121,7 +122,7 @@ fn copies(rt: HostRuntime) {
     are_kept(&rt, rt.alloc(), TABLES);
 }
 
-/// The place of the first row that isn't kept to where three pieces come in this order, each of them twice.
+/// Returns the index of the first row with another answer if three pieces come in this order, each twice.
 fn in_order(alloc: Global, [a, b, c]: [u16; 3]) -> Result<Option<usize>, Fault> {
     let rows = [
         (CopyPiece(2, 0, 1, One(a, 3)), Ok(Nothing), 0),
@@ -144,7 +145,7 @@ fn in_any_order(rt: HostRuntime) {
     }
 }
 
-/// Whether the message is this piece of member 0's copy of this number.
+/// Returns whether the message is this piece of member 0's copy with this number.
 fn is_piece(message: &Message, series: u64, part: Part) -> bool {
     let (Message::CopyReport(copy), Of(piece, of, first, last)) = (message, part) else {
         return false;
@@ -156,7 +157,7 @@ fn is_piece(message: &Message, series: u64, part: Part) -> bool {
         && records.iter().map(|packet| packet.lsn()).eq(first..=last)
 }
 
-/// Whether the messages are the three pieces of member 0's copy of this number, in order.
+/// Returns whether the messages are the three pieces of member 0's copy with this number, in order.
 fn are_thirds(messages: &[Message], series: u64) -> bool {
     let [a, b, c] = messages else {
         return false;
@@ -166,7 +167,7 @@ fn are_thirds(messages: &[Message], series: u64) -> bool {
         && is_piece(c, series, LAST_THIRD)
 }
 
-/// What a member answers that is asked for a copy at membership epoch 2.
+/// Returns the answer of a member to a CopyAsk at membership epoch 2.
 fn copy_of(alloc: Global, holder: &mut Segment) -> Result<Vec<Message>, Fault> {
     let answers = holder.deliver(alloc, &message(alloc, CopyAsk(0, 2))?)?;
     let mut copy = Vec::with_capacity(alloc, answers.len())?;
@@ -174,13 +175,14 @@ fn copy_of(alloc: Global, holder: &mut Segment) -> Result<Vec<Message>, Fault> {
     Ok(copy)
 }
 
-/// Whether a fresh member takes the piece without an answer, and isn't whole then.
+/// Returns whether a new member takes the piece without an answer, and isn't whole then.
 fn is_kept(alloc: Global, node: &mut Segment, piece: &Message) -> Result<bool, Fault> {
     let answers = node.deliver(alloc, piece)?;
     Ok(answers.len() == 0 && node.scl() == 0)
 }
 
-/// Whether a fresh member that gets pieces of both copies is made whole once the second is there in full, and not before.
+/// Returns whether a new member that gets pieces of both copies becomes whole once the second is complete, and not
+/// before.
 fn is_whole_at_last(alloc: Global, first: &[Message], second: &[Message]) -> Result<bool, Fault> {
     let ([a, b, _], [c, d, e]) = (first, second) else {
         return Ok(false);
@@ -196,7 +198,7 @@ fn is_whole_at_last(alloc: Global, first: &[Message], second: &[Message]) -> Res
     Ok(kept && node.scl() == 600)
 }
 
-/// Whether the first copy of 600 records and the second, after a restart, are what they should be, and make a member whole.
+/// Returns whether the first copy of 600 records and the second, after a restart, are right, and make a member whole.
 fn of_600_records(alloc: Global) -> Result<[bool; 3], Fault> {
     let mut holder = node(alloc, Holding(600))?;
     answer(alloc, &mut holder, Step(0, 1, 2))?;
@@ -210,8 +212,8 @@ fn of_600_records(alloc: Global) -> Result<[bool; 3], Fault> {
     ])
 }
 
-/// 600 records are sent in three pieces. The second copy, which a restart doesn't make the first again, counts once all of it is there,
-/// whatever was there of the first.
+/// 600 records are sent in three pieces. The second copy has number 2, even after a restart, and counts once it is
+/// complete, whatever came of the first.
 #[test]
 fn two_copies_of_600_records(rt: HostRuntime) {
     assert_eq!(rt; of_600_records(rt.alloc()), Ok([true, true, true]));

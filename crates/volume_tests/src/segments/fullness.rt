@@ -1,4 +1,4 @@
-//! As many records as a segment may hold.
+//! Tests of segments with the most records.
 
 use super::inputs::Input::{CopyPiece, Hydrate, InstallPiece, Write};
 use super::inputs::Part::Of;
@@ -12,16 +12,16 @@ use std::alloc::Global;
 use std::test::*;
 use volume_model::Fault::{self, Full};
 
-/// How many records a segment holds at most.
+/// The most records of a segment.
 const MOST: u64 = 1_048_576;
 
-/// No record more is taken, and each that is held is acknowledged again.
+/// No more records are taken, and each that is held is acknowledged again.
 const ONCE_INSTALLED: &[Row] = &[
     (Write(0, 2, 1, Ours(MOST + 1)), Err(Full), MOST),
     (Write(0, 2, 1, Ours(MOST)), Ok(Acks(MOST)), MOST),
 ];
 
-/// One record more is copied of another member.
+/// One more record is copied from another member.
 const ONCE_COPIED: &[Row] = &[
     (
         CopyPiece(2, 1, 1, Of(0, 1, MOST + 1, MOST + 1)),
@@ -31,8 +31,8 @@ const ONCE_COPIED: &[Row] = &[
     (Hydrate, Err(Full), 0),
 ];
 
-/// The number of the first piece that isn't answered as it should be, or the place of the first row that isn't kept to then, where as
-/// many records as a segment may hold, which are as many pieces as there may be, are installed in a whole node or copied to another.
+/// Installs or copies the most records, in the most pieces. Returns the number of the first piece with a wrong answer,
+/// and the index of the first row with another answer after it.
 fn filled(alloc: Global, at: At, rows: &[Row]) -> Result<(Option<u16>, Option<usize>), Fault> {
     let mut node = node(alloc, at)?;
     for piece in 0..4096 {
@@ -50,13 +50,13 @@ fn filled(alloc: Global, at: At, rows: &[Row]) -> Result<(Option<u16>, Option<us
     Ok((None, broken_by(alloc, &mut node, rows)))
 }
 
-/// As many records as a segment may hold are installed, and no record more is taken.
+/// The most records are installed, and no more records are taken.
 #[test]
 fn installed_to_the_full(rt: HostRuntime) {
     assert_eq!(rt; filled(rt.alloc(), Whole, ONCE_INSTALLED), Ok((None, None)));
 }
 
-/// Copies that hold one record more than a segment may make no member whole.
+/// Copies with one record more than a segment may hold make no member whole.
 #[test]
 fn copied_beyond_the_full(rt: HostRuntime) {
     assert_eq!(rt; filled(rt.alloc(), Fresh, ONCE_COPIED), Ok((None, None)));

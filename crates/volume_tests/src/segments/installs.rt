@@ -1,4 +1,4 @@
-//! Installs that come in pieces.
+//! Tests of installs in pieces.
 
 use super::inputs::Input::{ByteOf, Fence, InstallPiece, Restart, Step, Write};
 use super::inputs::Part::{Of, One};
@@ -21,7 +21,7 @@ const IN_THREE_PIECES: &[Row] = &[
     (Write(0, 2, 1, Ours(601)), Ok(Acks(601)), 601),
 ];
 
-/// A page shows what was installed since the one before, and what came after that.
+/// A page has what was installed since the page before, and what came after that.
 const PAGES_AROUND_AN_INSTALL: &[Row] = &[
     (ByteOf(0, 2, 0), Ok(Byte(b'a')), 2),
     (Write(0, 1, 1, Sent::Byte(3, 0, 1, b'x')), Ok(Acks(3)), 3),
@@ -33,7 +33,7 @@ const PAGES_AROUND_AN_INSTALL: &[Row] = &[
     (ByteOf(0, 6, 1), Ok(Byte(b'f')), 6),
 ];
 
-/// A restart forgets the pieces that were kept, after whichever of them it comes.
+/// A restart drops the kept pieces, after whichever of them it comes.
 const A_RESTART_BETWEEN: &[Row] = &[
     (InstallPiece(2, 1, FIRST_THIRD), Ok(Nothing), 2),
     (InstallPiece(2, 1, LAST_THIRD), Ok(Nothing), 2),
@@ -50,14 +50,14 @@ const A_RESTART_BETWEEN: &[Row] = &[
     (InstallPiece(2, 1, FIRST_THIRD), Ok(Acks(600)), 600),
 ];
 
-/// The first piece of a number is the one that is kept.
+/// The first piece with each number is kept.
 const THE_FIRST_OF_A_NUMBER: &[Row] = &[
     (InstallPiece(2, 1, Of(0, 2, 1, 3)), Ok(Nothing), 2),
     (InstallPiece(2, 1, Of(0, 2, 1, 9)), Ok(Nothing), 2),
     (InstallPiece(2, 1, Of(1, 2, 4, 5)), Ok(Acks(5)), 5),
 ];
 
-/// The pieces of a later volume epoch take the place of those that are kept; a Fence leaves them.
+/// The pieces of a later volume epoch replace the kept ones. A Fence leaves them.
 const OF_TWO_VOLUME_EPOCHS: &[Row] = &[
     (Fence(0, 2, 1), Ok(Reports(2)), 2),
     (InstallPiece(2, 1, One(0, 2)), Ok(Nothing), 2),
@@ -70,7 +70,7 @@ const OF_TWO_VOLUME_EPOCHS: &[Row] = &[
     (InstallPiece(2, 1, One(1, 2)), Err(StaleVolume), 3),
 ];
 
-/// A Fence of a later volume epoch, whose pieces then come, between two pieces.
+/// Between two pieces comes a Fence of a later volume epoch, and then the pieces of that epoch.
 const A_FENCE_BETWEEN: &[Row] = &[
     (InstallPiece(2, 1, One(0, 2)), Ok(Nothing), 2),
     (Fence(0, 3, 1), Ok(Reports(2)), 2),
@@ -79,7 +79,7 @@ const A_FENCE_BETWEEN: &[Row] = &[
     (InstallPiece(3, 1, One(0, 2)), Ok(Acks(2)), 2),
 ];
 
-/// A step to another membership epoch forgets the pieces.
+/// A step to another membership epoch drops the pieces.
 const A_STEP_BETWEEN: &[Row] = &[
     (InstallPiece(2, 1, One(0, 2)), Ok(Nothing), 2),
     (Step(0, 1, 2), Ok(Nothing), 2),
@@ -89,7 +89,7 @@ const A_STEP_BETWEEN: &[Row] = &[
     (InstallPiece(2, 2, One(2, 3)), Ok(Acks(3)), 3),
 ];
 
-/// No piece; one of more pieces than there may be, and of as many; one with too many records, with as many as it may have, and with none.
+/// A piece of none, pieces of too many and of the most pieces, and pieces with too many, the most and no records.
 const NO_PIECES: &[Row] = &[
     (InstallPiece(2, 1, One(0, 0)), Err(BadPiece), 2),
     (InstallPiece(2, 1, One(3, 3)), Err(BadPiece), 2),
@@ -105,7 +105,7 @@ const NO_PIECES: &[Row] = &[
     (InstallPiece(3, 1, Of(1, 2, 1, 0)), Ok(Acks(256)), 256),
 ];
 
-/// Once it is installed each piece is acknowledged and changes nothing, but what can't be a piece is refused.
+/// After the install is complete, each of its pieces is acknowledged and changes nothing. An invalid piece is refused.
 const ONCE_IT_IS_INSTALLED: &[Row] = &[
     (InstallPiece(2, 1, Of(0, 1, 1, 0)), Ok(Acks(0)), 0),
     (Write(0, 2, 1, Ours(1)), Ok(Acks(1)), 1),
@@ -137,7 +137,7 @@ fn installs(rt: HostRuntime) {
     are_kept(&rt, rt.alloc(), TABLES);
 }
 
-/// The place of the first row that isn't kept to where three pieces come in this order, each of them twice.
+/// Returns the index of the first row with another answer if three pieces come in this order, each twice.
 fn in_order(alloc: Global, [a, b, c]: [u16; 3]) -> Result<Option<usize>, Fault> {
     let rows = [
         (InstallPiece(2, 1, One(a, 3)), Ok(Nothing), 2),

@@ -25,7 +25,7 @@ const NO_IMAGE: Image = Image {
     bytes: [0; 512],
 };
 
-/// The record that is sent.
+/// Returns the fields of a record.
 fn line(sent: Sent) -> Line {
     match sent {
         Sent::Ours(lsn) => chained(lsn),
@@ -49,12 +49,12 @@ fn line(sent: Sent) -> Line {
     }
 }
 
-/// The packet of the record that is sent.
+/// Returns the shared record.
 fn sent(alloc: Global, sent: Sent) -> Result<SharedRecord, Fault> {
     packet(alloc, line(sent))
 }
 
-/// What is installed or copied in one piece.
+/// Returns contents that come in one piece.
 fn held(alloc: Global, held: Held) -> Result<Contents, Fault> {
     let mut records = RecordSet::new(alloc);
     let Held::First(group) = held else {
@@ -72,7 +72,7 @@ fn held(alloc: Global, held: Held) -> Result<Contents, Fault> {
     Ok(Contents { lineage, records })
 }
 
-/// What a member's first copy has in one piece.
+/// Returns the part of a member's first copy in one piece.
 fn first_copy(alloc: Global, whole: Held) -> Result<CopyPart, Fault> {
     Ok(CopyPart {
         series: 1,
@@ -80,7 +80,8 @@ fn first_copy(alloc: Global, whole: Held) -> Result<CopyPart, Fault> {
     })
 }
 
-/// A piece's number, of how many it is, and what it has under the lineage of the recovery of a volume epoch that cut at 600.
+/// Returns a piece's number, the number of pieces, and its contents with the lineage of the recovery of a volume epoch
+/// that cut at 600.
 fn part(alloc: Global, volume: u32, part: Part) -> Result<(u16, u16, Contents), Fault> {
     let (piece, of, first, last) = match part {
         Part::Of(piece, of, first, last) => (piece, of, first, last),
@@ -91,7 +92,7 @@ fn part(alloc: Global, volume: u32, part: Part) -> Result<(u16, u16, Contents), 
     Ok((piece, of, Contents { lineage, records }))
 }
 
-/// The message of an install's piece.
+/// Returns the Install of a piece.
 fn install_piece(alloc: Global, label: Label, input: Part) -> Result<Message, Fault> {
     let (piece, of, contents) = part(alloc, label.volume, input)?;
     Ok(Message::Install(Install {
@@ -103,7 +104,7 @@ fn install_piece(alloc: Global, label: Label, input: Part) -> Result<Message, Fa
     }))
 }
 
-/// The message of a copy's piece.
+/// Returns the CopyReport of a piece.
 fn copy_piece(
     alloc: Global,
     epoch: u32,
@@ -122,7 +123,7 @@ fn copy_piece(
     }))
 }
 
-/// The messages for clients.
+/// Returns the messages for clients.
 fn for_clients(alloc: Global, input: Input) -> Result<Message, Fault> {
     Ok(match input {
         Input::View => Message::View(View {
@@ -151,7 +152,7 @@ fn for_clients(alloc: Global, input: Input) -> Result<Message, Fault> {
     })
 }
 
-/// The messages that hold nothing but numbers, and those for clients.
+/// Returns the messages without contents, and those for clients.
 fn plain(alloc: Global, input: Input) -> Result<Message, Fault> {
     Ok(match input {
         Input::Fence(group, volume, member) => Message::Fence(Fence {
@@ -176,7 +177,7 @@ fn plain(alloc: Global, input: Input) -> Result<Message, Fault> {
     })
 }
 
-/// The message that a node receives, `NoMessage` if there is none.
+/// Returns the message that a node receives, `NoMessage` if the input isn't a message.
 pub fn message(alloc: Global, input: Input) -> Result<Message, Fault> {
     Ok(match input {
         Input::Install(group, volume, member, whole) => Message::Install(Install {

@@ -1,4 +1,4 @@
-//! The nodes that things happen to.
+//! Nodes for tests.
 
 use super::inputs::{Held, Input, Sent};
 use super::plans::{REPLACED, SMALL};
@@ -11,27 +11,27 @@ use volume_model::Fault;
 /// A node.
 #[derive(Clone, Copy)]
 pub enum At {
-    /// Member 0 of the small plan as it is born: whole, with whole pages, no record, and both epochs 1.
+    /// Member 0 of the small plan at birth: whole, with whole pages, no record, and both epochs 1.
     Whole,
-    /// The same, with the records from 1 up to a number.
+    /// The same with the records from 1 up to an LSN.
     Holding(u64),
-    /// The same as it is born, with volume epoch 2 promised.
+    /// The same at birth, with volume epoch 2 promised.
     Promised,
-    /// Member 1 of the small plan as it is born, which keeps no whole pages.
+    /// Member 1 of the small plan at birth, which keeps no whole pages.
     Tail,
-    /// Member 3 of the small plan as it is born: not whole, and at membership epoch 0.
+    /// Member 3 of the small plan at birth: not whole, and at membership epoch 0.
     Early,
     /// The same after its step to membership epoch 2.
     Fresh,
     /// A member that the small plan doesn't name.
     Nobody,
-    /// Member 6 of the plan in which it takes a place, as it is born: not whole, and at membership epoch 0.
+    /// Member 6 of the plan that adds it, at birth: not whole, and at membership epoch 0.
     Joining,
     /// The same after its step to membership epoch 2.
     Joined,
-    /// The same with copies of 0, 1 and 2 of the record of number 1.
+    /// The same with copies from members 0, 1 and 2 of the record with LSN 1.
     Copied,
-    /// The same, made whole from them.
+    /// The same after its hydration.
     Hydrated,
 }
 
@@ -41,7 +41,7 @@ const PROMISE: &[Input] = &[Input::Fence(0, 2, 1)];
 /// A step to membership epoch 2.
 const STEP: &[Input] = &[Input::Step(0, 1, 2)];
 
-/// The step, and copies of a read set.
+/// The step, and copies of a read quorum.
 const COPIES: &[Input] = &[
     Input::Step(0, 1, 2),
     Input::CopyOf(0, 2, 0, Held::First(0)),
@@ -49,7 +49,7 @@ const COPIES: &[Input] = &[
     Input::CopyOf(0, 2, 2, Held::First(0)),
 ];
 
-/// The same, and how they make a member whole.
+/// The same, and the hydration.
 const HYDRATION: &[Input] = &[
     Input::Step(0, 1, 2),
     Input::CopyOf(0, 2, 0, Held::First(0)),
@@ -58,7 +58,7 @@ const HYDRATION: &[Input] = &[
     Input::Hydrate,
 ];
 
-/// What happens to a member of a group until it is that node.
+/// Returns the inputs that lead to the node.
 fn story(at: At) -> &'static [Input] {
     match at {
         At::Promised => PROMISE,
@@ -69,7 +69,6 @@ fn story(at: At) -> &'static [Input] {
     }
 }
 
-/// That member as it is born.
 fn born(alloc: Global, at: At) -> Result<Segment, Fault> {
     let (text, member) = match at {
         At::Whole | At::Holding(_) | At::Promised => (SMALL, 0),
@@ -81,7 +80,7 @@ fn born(alloc: Global, at: At) -> Result<Segment, Fault> {
     Segment::new(alloc, checked(alloc, text)?, 0, member)
 }
 
-/// That node.
+/// Returns the node.
 pub fn node(alloc: Global, at: At) -> Result<Segment, Fault> {
     let mut node = born(alloc, at)?;
     for input in story(at) {

@@ -1,5 +1,5 @@
-//! Why a node refuses each message. Those of pieces stand in `installs` and `copies`. That no number is left for a copy is left to the
-//! contract: it takes more copies than a test can ask for.
+//! Tests of a node's refusals. Those of pieces are in `installs` and `copies`. `SeriesSpent` isn't tested, since it
+//! takes too many copies.
 
 use super::inputs::Held::{First, Nothing};
 use super::inputs::Input::{self, *};
@@ -11,7 +11,7 @@ use std::alloc::Global;
 use std::test::*;
 use volume_model::Fault::{self, *};
 
-/// What is wrong, the receiving node, the message, and why it refuses.
+/// What is wrong, the receiving node, the message, and the refusal.
 type Case = (&'static str, At, Input, Fault);
 
 const FENCES: &[Case] = &[
@@ -261,12 +261,12 @@ const KINDS: &[(&str, &[Case])] = &[
     ("a node", NO_NODE),
 ];
 
-/// What a new node answers.
+/// Returns the answer of a new node.
 fn input(alloc: Global, at: At, input: Input) -> Result<Said, Fault> {
     answer(alloc, &mut node(alloc, at)?, input)
 }
 
-/// What is wrong in the first case that isn't refused as it says, `None` where each is.
+/// Returns what is wrong in the first case with another answer, `None` if there is none.
 fn taken(alloc: Global, cases: &[Case]) -> Option<&'static str> {
     for (what, at, message, fault) in cases {
         if input(alloc, *at, *message) != Err(*fault) {
@@ -276,7 +276,7 @@ fn taken(alloc: Global, cases: &[Case]) -> Option<&'static str> {
     None
 }
 
-/// Each refusal of each message.
+/// Each message is refused for each reason.
 #[test]
 fn refusals(rt: HostRuntime) {
     for (kind, cases) in KINDS {

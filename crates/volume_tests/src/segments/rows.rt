@@ -1,4 +1,4 @@
-//! Tables of what happens to a node, and what it answers.
+//! Tables of inputs of a node and its answers.
 
 use super::inputs::Input;
 use super::nodes::{At, node};
@@ -8,13 +8,13 @@ use std::alloc::Global;
 use std::process::Abort;
 use volume_model::Fault;
 
-/// What happens to a node, what it answers or why it refuses, and its complete point then.
+/// An input, the expected answer or refusal, and the complete point after it.
 pub type Row = (Input, Result<Said, Fault>, u64);
 
-/// What a table is of, the node that it begins with, and its rows.
+/// The name of a table, the node at its beginning, and its rows.
 pub type Table = (&'static str, At, &'static [Row]);
 
-/// The place of the first row that the node doesn't keep to, `None` where it keeps to all.
+/// Returns the index of the first row with another answer of the node, `None` if there is none.
 pub fn broken_by(alloc: Global, node: &mut Segment, rows: &[Row]) -> Option<usize> {
     for (place, (input, expected, point)) in rows.iter().enumerate() {
         if answer(alloc, node, *input) != *expected || node.scl() != *point {
@@ -24,13 +24,13 @@ pub fn broken_by(alloc: Global, node: &mut Segment, rows: &[Row]) -> Option<usiz
     None
 }
 
-/// The same of a new node.
+/// The same for a new node.
 pub fn broken(alloc: Global, at: At, rows: &[Row]) -> Result<Option<usize>, Fault> {
     let mut node = node(alloc, at)?;
     Ok(broken_by(alloc, &mut node, rows))
 }
 
-/// Stops at the first table with a row that isn't kept to.
+/// Fails at the first table with a row that has another answer.
 pub fn are_kept(rt: &impl Abort, alloc: Global, tables: &[Table]) {
     for (what, at, rows) in tables {
         assert_eq!(rt; broken(alloc, *at, rows), Ok(None), "{what}");

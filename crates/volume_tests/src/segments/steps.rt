@@ -1,4 +1,4 @@
-//! What a node answers to what happens to it.
+//! Answers of a node.
 
 use super::inputs::Input;
 use super::messages::message;
@@ -8,28 +8,28 @@ use std::alloc::Global;
 use volume_model::Fault;
 use wire::{Message, Messages};
 
-/// What a node answers, by what of it matters.
+/// An answer of a node, in short.
 #[derive(Clone, Copy, PartialEq, Eq)]
 pub enum Said {
-    /// Nothing.
+    /// No message.
     Nothing,
     /// An acknowledgement of a complete point.
     Acks(u64),
-    /// To a recovery, that it holds the records from 1 up to a number and no others.
+    /// To a recovery: it holds the records from 1 up to an LSN and no others.
     Reports(u64),
-    /// To a fresh member, the same.
+    /// To a new member: the same.
     Copies(u64),
-    /// A question for copies, at a membership epoch.
+    /// A request for copies, at a membership epoch.
     Asks(u32),
-    /// A page that begins by this byte, or a byte of a page.
+    /// A page with this first byte, or a byte of a page.
     Byte(u8),
-    /// To its peers a record, under a volume epoch and a membership epoch, with a number.
+    /// To its peers: a record, with a volume epoch, a membership epoch and an LSN.
     Offers(u32, u32, u64),
-    /// Anything else.
+    /// Any other answer.
     Another,
 }
 
-/// The number up to which these are the records from 1 on, in order, and no others; the greatest number where they are others.
+/// Returns the last LSN if these are the records from 1 on, in order, else the greatest number.
 fn last_of(packets: &[SharedRecord]) -> u64 {
     let mut last: u64 = 0;
     for packet in packets {
@@ -41,7 +41,7 @@ fn last_of(packets: &[SharedRecord]) -> u64 {
     last
 }
 
-/// What a message says.
+/// Returns a message in short.
 fn said_in(message: &Message) -> Said {
     match message {
         Message::Ack(ack) => Said::Acks(ack.scl),
@@ -57,7 +57,7 @@ fn said_in(message: &Message) -> Said {
     }
 }
 
-/// What the messages say.
+/// Returns messages in short.
 pub fn said_by(messages: &Messages) -> Said {
     match messages {
         Messages::Empty => Said::Nothing,
@@ -66,14 +66,13 @@ pub fn said_by(messages: &Messages) -> Said {
     }
 }
 
-/// What the node answers to a message.
 fn delivered(alloc: Global, node: &mut Segment, input: Input) -> Result<Said, Fault> {
     let message = message(alloc, input)?;
     let answers = node.deliver(alloc, &message)?;
     Ok(said_by(&answers))
 }
 
-/// What the node answers.
+/// Returns the node's answer.
 pub fn answer(alloc: Global, node: &mut Segment, input: Input) -> Result<Said, Fault> {
     match input {
         Input::Restart => {

@@ -1,4 +1,4 @@
-//! Calls of a fleet, as tables give them.
+//! Tables of calls of a fleet.
 
 use super::looks::{Lent, Look};
 use node_fleet::{Fleet, FleetSite, Pass, Receipt};
@@ -9,34 +9,34 @@ use volume_model::Fault;
 use world::{AuthorityAction, ClientAction};
 use writer_core::Change;
 
-/// A call that concerns group 0.
+/// A call for group 0.
 #[derive(Clone, Copy)]
 pub enum Call {
-    /// A message is delivered to a member.
+    /// Deliver a message to a member.
     Deliver(u8, u64),
-    /// A member does something of itself.
+    /// Perform a member's action.
     Node(u8, NodeAction),
-    /// The authority acts.
+    /// Perform an action of the authority.
     Authority(AuthorityAction),
-    /// A client gives these bytes their records, one a byte, from the first byte of block 0 on.
+    /// Issue these bytes, one a record, from the first byte of block 0 on.
     Issue(u32, &'static str),
-    /// A client takes a message.
+    /// Let a client take a message.
     Take(u32, u64),
-    /// A client cuts.
+    /// Let a client cut.
     Cut(u32),
-    /// A client asks for block 0.
+    /// Let a client request block 0.
     Read(u32),
-    /// The board is read.
+    /// Read the board.
     Board,
 }
 
-/// How many messages a call made and the durable point that it showed, or why it was refused.
+/// The number of messages of a call and its durable point, or its refusal.
 pub type CallResult = Result<(usize, u64), Fault>;
 
 /// A call and its expected result.
 pub type Step = (Call, CallResult);
 
-/// Changes to these bytes, one a byte, from the first byte of block 0 on.
+/// Returns a change for each byte, from the first byte of block 0 on.
 fn changes(alloc: Global, bytes: &str) -> Result<Vec<Change>, AllocError> {
     let mut changes = Vec::new(alloc);
     for (offset, byte) in bytes.bytes().enumerate() {
@@ -47,7 +47,7 @@ fn changes(alloc: Global, bytes: &str) -> Result<Vec<Change>, AllocError> {
 }
 
 impl Call {
-    /// Makes it by a pass.
+    /// Makes the call with a pass.
     fn made<'a, L: FleetSite, R: Wait>(
         self,
         rt: &R,
@@ -79,7 +79,7 @@ impl Call {
     }
 }
 
-/// The result of a call.
+/// Returns the result of a call.
 fn result_of(made: &Result<Receipt, Fault>) -> CallResult {
     match made {
         Ok(receipt) => Ok((receipt.made, receipt.durable)),
@@ -87,8 +87,8 @@ fn result_of(made: &Result<Receipt, Fault>) -> CallResult {
     }
 }
 
-/// Whether a gate was called by a delivery alone, once, and lent as many messages as the step made. A delivery that is refused
-/// calls it at most where the journal is full.
+/// Returns whether the gate was called exactly once by a delivery, with all messages of the step, and by no other call.
+/// A refused delivery calls it only if the journal is full.
 fn is_lent(call: Call, made: &Result<Receipt, Fault>, before: Lent, after: Lent) -> bool {
     let calls = after.calls.saturating_sub(before.calls);
     let messages = after.messages.saturating_sub(before.messages);
@@ -99,8 +99,8 @@ fn is_lent(call: Call, made: &Result<Receipt, Fault>, before: Lent, after: Lent)
     }
 }
 
-/// Makes the calls, the passes in turn, and returns the place of the first wrong one: its result isn't the expected one, its gate
-/// was lent something else than the step made, or its number isn't above the earlier ones.
+/// Makes the calls, with the passes in turn. Returns the index of the first wrong one: its result isn't the expected
+/// one, its gate saw other messages than the step's, or its number isn't above the earlier ones.
 pub fn first_wrong<'a, L: FleetSite, R: Wait>(
     rt: &R,
     alloc: Global,

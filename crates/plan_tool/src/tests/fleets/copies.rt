@@ -1,4 +1,4 @@
-//! A copy of 600 records, which a gate is lent in three pieces.
+//! A test with a copy of 600 records, which a gate sees in three pieces.
 
 use super::super::pieces::THREE_COPIES;
 use super::calls::{Call, Step};
@@ -9,11 +9,12 @@ use std::test::*;
 use volume_model::Fault;
 use world::AuthorityAction;
 
-/// Thirty bytes, each of which is a record.
+/// Thirty bytes, one for each record.
 const THIRTY: &str = "abcdefghijklmnopqrstuvwxyzabcd";
 
-/// Messages 1 to 600 are issued and reach member 0, which acknowledges each. Message 1201 leads the group on: member 0 answers
-/// nothing, and member 3 asks for copies by message 1202, which member 0 answers by three pieces, 1203 to 1205.
+/// Messages 1 to 600 are issued and reach member 0, which acknowledges each. Message 1201 is the group's step: member 0
+/// doesn't answer, and member 3 asks for copies with message 1202, which member 0 answers with three pieces, 1203 to
+/// 1205.
 fn copied(alloc: Global) -> Result<Vec<Step>, AllocError> {
     let mut steps = Vec::new(alloc);
     for _ in 0..20 {

@@ -1,4 +1,4 @@
-//! Fleets from their opening to their end.
+//! Runs fleets from their opening to their end.
 
 ghost use Rattle.std.specs.Prelude.{◌≡◌, ◌<◌, ◌≤◌, vec_len};
 ghost use Rattle.std.specs.Arc.{arc_value};
@@ -17,44 +17,44 @@ use std::sync::{Arc, Wait};
 use volume_model::Fault;
 use world::{Outcome, run};
 
-/// What a fleet leaves.
+/// The result of a fleet.
 #[derive(Clone, Copy)]
 pub struct Ending {
-    /// The place of the first call of the table that was answered otherwise than the table says.
+    /// The index of the first call with another result than the table's.
     pub wrong: Option<usize>,
-    /// How many steps the closed journal has.
+    /// The number of steps of the closed journal.
     pub steps: usize,
-    /// How many of its events a run of the world refuses.
+    /// The number of its events that a run of the world refuses.
     pub refused: usize,
-    /// How many writers that run leaves.
+    /// The number of writers at the end of that run.
     pub writers: usize,
-    /// Of the first writer its volume epoch, its durable point and the LSN of its last record.
+    /// The first writer's volume epoch, durable point and last LSN.
     pub writer: Option<(u32, u64, u64)>,
-    /// Of the first recovery that has cut its volume epoch and its cut.
+    /// The volume epoch and the cut of the first recovery that has cut.
     pub find: Option<(u32, u64)>,
 }
 
 impl Ending {
-    /// The first call that was answered otherwise, the steps and the refused.
+    /// Returns the index of the first wrong call, the number of steps and the number of refused events.
     pub fn counts(&self) -> (Option<usize>, usize, usize) {
         (self.wrong, self.steps, self.refused)
     }
 }
 
-/// Of the first writer its volume epoch, its durable point and the LSN of its last record.
+/// Returns the first writer's volume epoch, durable point and last LSN.
 fn writer_of(outcome: &Outcome) -> Option<(u32, u64, u64)> {
     let writer = outcome.writers.first()?;
     let last = writer.log.record_at(writer.log.last_lsn())?;
     Some((writer.volume, writer.durable, last.lsn()))
 }
 
-/// Of the first recovery that has cut its volume epoch and its cut.
+/// Returns the volume epoch and the cut of the first recovery that has cut.
 fn find_of(outcome: &Outcome) -> Option<(u32, u64)> {
     let find = outcome.finds.first()?;
     Some((find.volume, find.found.cut))
 }
 
-/// What a fleet leaves that is closed, where this call of a table was the first to be answered otherwise.
+/// Closes a fleet and returns its result; `wrong` is the index of the first wrong call.
 pub fn ended<'a, L: FleetSite>(
     alloc: Global,
     fleet: Fleet<'a, L>,
@@ -81,7 +81,7 @@ pub fn ended<'a, L: FleetSite>(
     })
 }
 
-/// What a fleet leaves after the calls of a table, which its passes make in turn.
+/// Returns the result of a fleet after the calls of a table, which its passes make in turn.
 fn drive<L: FleetSite, R: Wait>(
     rt: &R,
     alloc: Global,
@@ -105,7 +105,7 @@ fn drive<L: FleetSite, R: Wait>(
     ended(alloc, fleet, passes, &plan, wrong)
 }
 
-/// What a fleet over the plan of a text leaves after the calls of a table.
+/// Returns the result of a fleet over the plan of a text after the calls of a table.
 pub fn run_table<R: Wait>(
     rt: &R,
     alloc: Global,

@@ -1,4 +1,4 @@
-//! Letters in a fleet's mailboxes.
+//! Tests of letters in a fleet's mailboxes.
 
 ghost use Rattle.std.specs.Prelude.{◌≡◌, ◌<◌};
 ghost use Rattle.std.specs.Arc.{arc_value};
@@ -19,10 +19,10 @@ use std::sync::{Arc, Wait};
 use std::test::*;
 use volume_model::Fault;
 
-/// How many letters a mailbox has room for.
+/// The capacity of a mailbox.
 const ROOM: u64 = 1024;
 
-/// Posts a letter to a member of group 0, None the closing one.
+/// Posts a letter to a member of group 0; `None` is the closing letter.
 fn post<'a, L: FleetSite, R: Wait>(
     rt: &R,
     fleet: &Fleet<'a, L>,
@@ -39,7 +39,7 @@ fn post<'a, L: FleetSite, R: Wait>(
     }
 }
 
-/// The letter that a member of group 0 was posted longest ago, for which it waits.
+/// Returns the oldest letter of a member of group 0. Blocks while there is none.
 fn collect<'a, L: FleetSite, R: Wait>(
     rt: &R,
     fleet: &Fleet<'a, L>,
@@ -52,8 +52,8 @@ fn collect<'a, L: FleetSite, R: Wait>(
     fleet.collect(rt, pass, 0, member)
 }
 
-/// Posts what is delivered by a table, and then to each of four members the closing letter and letter 7. Member 5 is posted as
-/// many letters as its mailbox has room for, and none of them is collected.
+/// Posts the messages that a table delivers, and then the closing letter and letter 7 to each of four members. Fills
+/// the mailbox of member 5, from which nothing is collected.
 fn post_all<'a, L: FleetSite, R: Wait>(
     rt: &R,
     fleet: &Fleet<'a, L>,
@@ -74,7 +74,7 @@ fn post_all<'a, L: FleetSite, R: Wait>(
     }
 }
 
-/// The calls of a table, where each delivery is that of a letter.
+/// Makes the calls of a table; each delivery takes its message from a letter.
 fn by_letters<'a, L: FleetSite, R: Wait>(
     rt: &R,
     alloc: Global,
@@ -96,7 +96,7 @@ fn by_letters<'a, L: FleetSite, R: Wait>(
     Ok(calls)
 }
 
-/// How many of four members find the closing letter and letter 7 next.
+/// Returns how many of four members have the closing letter and letter 7 next.
 fn behind<'a, L: FleetSite, R: Wait>(
     rt: &R,
     fleet: &Fleet<'a, L>,
@@ -112,8 +112,8 @@ fn behind<'a, L: FleetSite, R: Wait>(
     found
 }
 
-/// What a fleet of one pass leaves whose deliveries come by letters, and how many of four members find the closing letter and
-/// letter 7 behind these.
+/// Returns the result of a fleet with one pass whose deliveries come from letters, and how many of four members have
+/// the closing letter and letter 7 after these.
 fn left_in<L: FleetSite, R: Wait>(
     rt: &R,
     alloc: Global,
@@ -148,7 +148,7 @@ fn left_in<L: FleetSite, R: Wait>(
     Ok((ending, found))
 }
 
-/// The same, over the plan of six nodes.
+/// The same for the plan of six nodes.
 fn left<R: Wait>(rt: &R, alloc: Global) -> Result<(Ending, usize), Fault> {
     let plan = checked(alloc, SIX)?;
     let mut row = Row::new(alloc, 17)?;
@@ -156,7 +156,8 @@ fn left<R: Wait>(rt: &R, alloc: Global) -> Result<(Ending, usize), Fault> {
     left_in::<Brand, R>(rt, alloc, &mut row, base, plan)
 }
 
-/// A fleet whose deliveries come by letters is closed while others lie in its members' mailboxes: its journal is as without them.
+/// A fleet whose deliveries come from letters is closed while letters are left in its mailboxes. They don't change its
+/// journal.
 #[test]
 fn letters_that_are_left(rt: HostRuntime) -> Result<(), Fault> {
     let (ending, found) = left(&rt, rt.alloc())?;

@@ -1,20 +1,20 @@
-//! What nodes answer, as gates are lent it.
+//! A gate that records the answers of nodes.
 
 use node_fleet::StepGate;
 use std::sync::atomic::{AtomicBool, AtomicU64, Ordering};
 use wire::{Ack, CopyReport, Message, Messages};
 
-/// What a gate was lent.
+/// How often a gate was called, and with how many messages.
 #[derive(Clone, Copy, Debug, PartialEq, Eq)]
 pub struct Lent {
-    /// How often it was called.
+    /// The number of calls.
     pub calls: u64,
-    /// How many messages it was lent in all.
+    /// The number of messages of all calls.
     pub messages: u64,
 }
 
-/// A gate that counts its calls and notes what it is lent, and whether a node was seen to answer a page that begins with these
-/// three bytes and has zeros behind them.
+/// A gate that counts its calls and messages, and notes whether a node answered with a page that begins with these
+/// three bytes and is 0 after them.
 #[derive(Drop)]
 pub struct Look {
     seen: AtomicBool,
@@ -27,7 +27,7 @@ pub struct Look {
 }
 
 impl Look {
-    /// Nothing was seen.
+    /// Makes a gate that has seen nothing.
     pub fn new() -> Look {
         Look {
             seen: AtomicBool::new(false),
@@ -40,12 +40,12 @@ impl Look {
         }
     }
 
-    /// Whether the page was seen.
+    /// Returns whether the page was seen.
     pub fn found(&self) -> bool {
         self.seen.load(Ordering::SeqCst)
     }
 
-    /// What it was lent so far.
+    /// Returns the calls and messages so far.
     pub fn lent(&self) -> Lent {
         Lent {
             calls: self.calls.load(Ordering::SeqCst),
@@ -53,7 +53,7 @@ impl Look {
         }
     }
 
-    /// Of the last acknowledgement that it was lent, the member that made it and the complete point.
+    /// Returns the member and the complete point of the last acknowledgement seen.
     pub fn last_ack(&self) -> (u64, u64) {
         (
             self.from.load(Ordering::SeqCst),
@@ -61,8 +61,7 @@ impl Look {
         )
     }
 
-    /// Of the lists of pieces that it was lent, how many pieces stood at the place of their number, and how many records these
-    /// have.
+    /// Returns how many pieces of copies were seen at the index of their number, and how many records these have.
     pub fn pieces(&self) -> (u64, u64) {
         (
             self.pieces.load(Ordering::SeqCst),
@@ -70,13 +69,12 @@ impl Look {
         )
     }
 
-    /// Notes an acknowledgement.
     fn note_ack(&self, ack: &Ack) {
         self.from.store(u64::from(ack.from), Ordering::SeqCst);
         self.scl.store(ack.scl, Ordering::SeqCst);
     }
 
-    /// Notes a piece of a copy that stands at a place of a list.
+    /// Notes a piece of a copy at an index of the messages.
     fn note_piece(&self, place: usize, piece: &CopyReport) {
         if usize::from(piece.piece) == place {
             let records = piece.part.contents.records.len() as u64;

@@ -1,4 +1,4 @@
-//! What fleets refuse.
+//! Tests of a fleet's refusals.
 
 use super::super::texts::{SIX, TWO_GROUPS};
 use super::calls::{Call, Step};
@@ -9,7 +9,7 @@ use std::test::*;
 use volume_model::Fault;
 use world::AuthorityAction;
 
-/// Two steps fill a journal of two cells, and no actor makes another.
+/// Two steps fill a journal of two cells, and no actor makes another one.
 const FULL: &[Step] = &[
     (Call::Node(0, NodeAction::Restart), Ok((0, 0))),
     (Call::Issue(1, "a"), Ok((1, 0))),
@@ -22,7 +22,7 @@ const FULL: &[Step] = &[
     ),
 ];
 
-/// What names no node, no message, no client and no slot.
+/// Calls for a node, a message, a client and a slot that don't exist.
 const NOBODY: &[Step] = &[
     (Call::Deliver(6, 1), Err(Fault::NoActor)),
     (Call::Node(64, NodeAction::Restart), Err(Fault::NoActor)),
@@ -43,7 +43,7 @@ const NOBODY: &[Step] = &[
     (Call::Deliver(0, 1), Ok((1, 0))),
 ];
 
-/// A number above all members of the first of two groups names no node of the second.
+/// A member above all those of the first of two groups isn't a node of the second.
 const BEYOND: &[Step] = &[
     (Call::Node(64, NodeAction::Restart), Err(Fault::NoActor)),
     (Call::Deliver(64, 1), Err(Fault::NoActor)),

@@ -1,4 +1,4 @@
-//! Whole scripts, as calls of a fleet.
+//! Scripts as calls of a fleet.
 
 use super::super::texts::{REPLACED, SIX};
 use super::calls::{Call, Step};
@@ -9,7 +9,7 @@ use std::test::*;
 use volume_model::Fault;
 use world::AuthorityAction;
 
-/// Three bytes reach four of six members, and their acknowledgements the writer.
+/// Three bytes reach four of six members, whose acknowledgements reach the writer.
 pub const WRITTEN: &[Step] = &[
     (Call::Issue(1, "abc"), Ok((3, 0))),
     (Call::Deliver(0, 1), Ok((1, 0))),
@@ -30,7 +30,8 @@ pub const WRITTEN: &[Step] = &[
     (Call::Take(1, 15), Ok((0, 3))),
 ];
 
-/// The same, and then every pass reads the board. The second of three asks for the page, and the third delivers that.
+/// The same, and then every pass reads the board. The second of three passes requests the page, and the third delivers
+/// the request.
 const WRITTEN_AND_READ: &[Step] = &[
     (Call::Issue(1, "abc"), Ok((3, 0))),
     (Call::Deliver(0, 1), Ok((1, 0))),

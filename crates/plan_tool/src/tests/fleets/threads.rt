@@ -1,4 +1,4 @@
-//! Fleets whose passes step on threads of their own.
+//! Tests of fleets with a thread for each pass.
 
 ghost use Rattle.std.specs.Prelude.{◌≡◌, ◌<◌};
 ghost use Rattle.std.specs.Arc.{arc_value};
@@ -27,7 +27,7 @@ use world::ClientAction;
 /// One record is issued.
 const ISSUED: &[Step] = &[(Call::Issue(1, "a"), Ok((1, 0)))];
 
-/// Holds each of members 0 and 1, when it acknowledges the first record, until the other does.
+/// A gate that holds members 0 and 1 when they acknowledge the first record, until both do.
 #[derive(Drop)]
 struct Meeting {
     first: Flag,
@@ -49,7 +49,7 @@ impl StepGate for Meeting {
     }
 }
 
-/// What all threads share, and how often each goes round.
+/// What all threads share, and the number of rounds of each.
 #[derive(Drop)]
 struct Scene<'f, 'a, L: FleetSite> {
     fleet: &'f Fleet<'a, L>,
@@ -58,7 +58,7 @@ struct Scene<'f, 'a, L: FleetSite> {
 }
 
 impl<'f, 'a, L: FleetSite> Scene<'f, 'a, L> {
-    /// The same once more.
+    /// Returns a copy of these references.
     fn again(&self) -> Scene<'f, 'a, L> {
         Scene {
             fleet: self.fleet,
@@ -67,7 +67,7 @@ impl<'f, 'a, L: FleetSite> Scene<'f, 'a, L> {
         }
     }
 
-    /// Delivers the first message to a member. Gives the number of what that answers, 0 where it refuses.
+    /// Delivers the first message to a member. Returns the number of its answer, 0 if it refuses.
     fn deliver<R: Wait>(&self, rt: &R, pass: &mut Pass<'a, L>, member: u8) -> u64 {
         match self.fleet.deliver(rt, pass, 0, member, 1, self.gate) {
             Ok(receipt) => receipt.first_message,
@@ -86,7 +86,7 @@ impl<'f, 'a, L: FleetSite> Scene<'f, 'a, L> {
     }
 }
 
-/// A thread's part, with its pass.
+/// A thread's part of the work, with its pass.
 #[derive(Drop)]
 struct Hand<'f, 'a, L: FleetSite> {
     scene: Scene<'f, 'a, L>,
@@ -95,7 +95,7 @@ struct Hand<'f, 'a, L: FleetSite> {
 }
 
 impl<'f, 'a, L: FleetSite> Hand<'f, 'a, L> {
-    /// Delivers the first message to the member of its own number, goes round over all six, and gives its pass back.
+    /// Delivers the first message to the member with its own number, goes round all six, and returns its pass.
     fn work<R: Wait>(self, rt: &R) -> Pass<'a, L> {
         let Hand {
             scene,
@@ -111,7 +111,7 @@ impl<'f, 'a, L: FleetSite> Hand<'f, 'a, L> {
     }
 }
 
-/// A part for each pass.
+/// Returns a part for each pass.
 fn hands<'f, 'a, L: FleetSite>(
     alloc: Global,
     scene: &Scene<'f, 'a, L>,
@@ -129,7 +129,7 @@ fn hands<'f, 'a, L: FleetSite>(
     Ok(hands)
 }
 
-/// Starts a thread for each part, and takes the passes back.
+/// Starts a thread for each part, and returns the passes.
 fn work_in<'s, 'f: 's, 'a: 's, E, L: FleetSite + Send + Sync + 's, R: Threads + Wait + Sync>(
     scope: &Scope<'s, E>,
     rt: &'f R,
@@ -147,7 +147,7 @@ fn work_in<'s, 'f: 's, 'a: 's, E, L: FleetSite + Send + Sync + 's, R: Threads + 
     Ok(passes)
 }
 
-/// Does all parts on threads, and takes the passes back.
+/// Does all parts on threads, and returns the passes.
 fn work_all<'f, 'a, L: FleetSite + Send + Sync, R: Threads + Wait + Sync>(
     rt: &'f R,
     alloc: Global,
@@ -158,7 +158,7 @@ fn work_all<'f, 'a, L: FleetSite + Send + Sync, R: Threads + Wait + Sync>(
     })
 }
 
-/// Has the passes work on threads, and takes them back.
+/// Lets the passes work on threads, and returns them.
 fn worked<'f, 'a, L: FleetSite + Send + Sync, R: Threads + Wait + Sync>(
     rt: &'f R,
     alloc: Global,
@@ -176,7 +176,7 @@ fn worked<'f, 'a, L: FleetSite + Send + Sync, R: Threads + Wait + Sync>(
     work_all(rt, alloc, hands)
 }
 
-/// What a fleet leaves in which one record was issued and its passes worked on threads.
+/// Returns the result of a fleet in which one record was issued and the passes worked on threads.
 fn work_over<L: FleetSite + Send + Sync, R: Threads + Wait + Sync>(
     rt: &R,
     alloc: Global,
@@ -204,7 +204,7 @@ fn work_over<L: FleetSite + Send + Sync, R: Threads + Wait + Sync>(
     ended(alloc, fleet, passes, &plan, wrong)
 }
 
-/// What a fleet of six nodes leaves after so many passes worked on threads.
+/// Returns the result of a fleet of six nodes after this many passes worked on threads.
 fn run_threads<R: Threads + Wait + Sync>(
     rt: &R,
     alloc: Global,
@@ -221,7 +221,7 @@ fn run_threads<R: Threads + Wait + Sync>(
     work_over::<Brand, R>(rt, alloc, &mut row, base, plan, gate, rounds)
 }
 
-/// Nobody has met.
+/// Returns a gate at which no member has arrived yet.
 fn nobody_met() -> Meeting {
     Meeting {
         first: Flag::new(),
