@@ -1,13 +1,13 @@
 #!/usr/bin/env python3
-"""Sees how much memory the program asks for, beside how long its texts are.
+"""Measures how much memory the program asks for, in relation to the length of its texts.
 
     python3 bench/asked.py [crates/plan_tool/out/plan_tool]
 
-A small library that is loaded before the C library (`LD_PRELOAD`; it is built by `cc`) counts the bytes that are in use and notes the
-most at a time, and the most that one call asks for, whether they are touched or not. Each job is run over plans and scripts that are
-right, of several lengths, and over texts that are made to mislead: numbers that claim more than there is, brackets that only open, one
-string, one number, one list as long as a text may be. No job may have more in use than BASE and TIMES bytes for each byte of its texts; a
-search may have SEARCH beside, for what it tries.
+A small library that is loaded before the C library (`LD_PRELOAD`; it is built by `cc`) counts the bytes in use, and records the
+greatest number in use at once and the greatest that one call asks for, whether they are touched or not. Each job is run over valid plans
+and scripts of several lengths, and over misleading texts: numbers that claim more than there is, brackets that only open, one string,
+one number, or one list of the greatest allowed length. A job may use at most BASE bytes and TIMES bytes for each byte of its texts; a
+search may use SEARCH bytes more.
 """
 import json
 import os
@@ -85,7 +85,7 @@ int posix_memalign(void **to, size_t align, size_t size) {
 }
 """
 
-# Bytes that a job may have in use at a time: so many, so many for each byte of its texts, and a search so many beside.
+# The most bytes that a job may use at once: a base, an amount for each byte of its texts, and an extra amount for a search.
 BASE = 256 * 1024
 TIMES = 48
 SEARCH = 1024 * 1024
@@ -99,7 +99,7 @@ def around(middle):
 
 
 def of_copies(read):
-    """A plan of six copies with this read expression, and nothing behind it."""
+    """A plan of six copies with this read expression, cut off after it."""
     return around(f'"members":[0,1,2,3,4,5],"full":[0,1,2,3,4,5],"read":{read}')
 
 
@@ -109,12 +109,12 @@ def with_certificate(certificate):
 
 
 def zeros(count):
-    """So many entries of a list."""
+    """A list with this many entries."""
     return ",".join(["0"] * count)
 
 
 def misleading_plans():
-    """Texts that aren't plans, each with what it is."""
+    """Texts that aren't plans, each with its name."""
     yield "nothing", ""
     yield "brackets that open", "[" * LONG
     yield "braces that open", '{"a":' * (LONG // 5)
@@ -137,7 +137,7 @@ def misleading_plans():
 
 
 def plans():
-    """Plans, each with what it is."""
+    """Plans, each with its name."""
     for groups in 1, 4, 16:
         yield f"{groups * 127} certificates", certified(groups)
     yield "three certificates of 100,000 nodes", wide_plan()
@@ -159,7 +159,7 @@ def searches():
 
 
 def scripts():
-    """Scripts, each with what it is."""
+    """Scripts, each with its name."""
     for lines in 1_000, 10_000, 99_999:
         yield f"steady writing, {lines} lines", "\n".join(steady(lines).lines) + "\n"
     yield "issues of 32 changes of 64 bytes", wide_script()
@@ -175,7 +175,7 @@ def scripts():
 
 
 def jobs():
-    """Each job: what it is, its word, its texts, and how much a search may have in use beside."""
+    """Each job: its name, its command, its texts, and how much more a search may use."""
     for name, text in [*plans(), *misleading_plans()]:
         yield name, "check", [text], 0
     for name, text in [*searches(), *misleading_plans()]:
@@ -185,7 +185,7 @@ def jobs():
 
 
 def asked(library, folder, words):
-    """The most bytes that a run has in use, the most that one call asks for, and its status."""
+    """The most bytes that a run uses at once, the most that one call asks for, and its status."""
     told = folder / "asked"
     told.unlink(missing_ok=True)
     names = {"LD_PRELOAD": str(library), "ASKED": str(told)}
@@ -195,7 +195,7 @@ def asked(library, folder, words):
 
 
 def row(program, library, folder, job):
-    """A line of the table; whether the job has no more in use than it may."""
+    """Prints a line of the table. Returns whether the job uses no more than it may."""
     name, word, given, beside = job
     paths = [folder / f"text{i}" for i in range(len(given))]
     for path, text in zip(paths, given):

@@ -1,4 +1,4 @@
-"""Prints a plan of so many groups (16 where none are given) of 64 configurations each, the root and its children, all of six full copies."""
+"""Prints a plan of N groups (16 by default) of 64 configurations each: a root and its children, all of six full copies."""
 import json
 import sys
 

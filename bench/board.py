@@ -3,8 +3,8 @@
 
     python3 bench/board.py
 
-It builds a small program over the crate `board` in a folder of its own, which takes some minutes, and then times it: for each job the time of many rounds
-less that of a few, so that its start doesn't count. The jobs run in turn, and the least of ten rounds of each counts.
+It builds a small program over the crate `board`, which takes some minutes, and then times it: for each job the time of many rounds minus that
+of a few, so that the start doesn't count. The jobs run in turn, and the least of ten rounds of each counts.
 """
 import pathlib
 import subprocess

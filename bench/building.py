@@ -1,4 +1,4 @@
-"""Builds a small program over some of the repository's crates, in a folder of its own."""
+"""Builds a small program over some of the repository's crates, in another folder."""
 import pathlib
 import shutil
 import subprocess
@@ -7,14 +7,14 @@ TOP = pathlib.Path(__file__).resolve().parent.parent
 
 
 def lines():
-    """Each crate of the repository with what it stands on."""
+    """Each crate of the repository with its dependencies."""
     text = (TOP / "crates.txt").read_text().splitlines()
     named = (line.split(":") for line in text if line and not line.startswith("#"))
     return {name.split()[0]: deps.split() for name, deps in named}
 
 
 def below(crates, stands_on):
-    """These crates and those of the repository below them."""
+    """These crates and all of the repository that they depend on."""
     wanted, left = set(), list(crates)
     while left:
         crate = left.pop()

@@ -18,7 +18,7 @@ PARSE = "import json, sys; json.load(open(sys.argv[1]))"
 
 
 def run(words):
-    """A process: its milliseconds, its most memory in MB, its output."""
+    """Runs a process. Returns its milliseconds, its most memory in MB, and its output."""
     reads, writes = os.pipe()
     start = time.perf_counter()
     child = os.fork()

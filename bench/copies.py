@@ -3,7 +3,7 @@
 
     python3 bench/copies.py
 
-It builds a small program over the crate `segment_core` in a folder of its own, which takes some minutes where the crates weren't proved before, and then times it on one core. A member that holds so many records tells copies to fresh members, each of which takes all pieces and becomes whole, or what it holds is installed on it under one volume epoch after the other. Told are, a record, the least time of so many runs with ROUNDS copies or installs less the least of runs with none, and what the most memory of a run with one copy or install is above that of a run with none.
+It builds a small program over the crate `segment_core` in a folder of its own, which takes some minutes where the crates weren't proved before, and then times it on one core. A member with that many records sends copies to new members, each of which takes all pieces and becomes whole; or its contents are installed on it, with one volume epoch after the other. Printed are, for each record, the least time of several runs with ROUNDS copies or installs minus the least of runs with none, and the most memory of a run with one copy or install minus that of a run with none.
 """
 import os
 import pathlib

@@ -1,4 +1,4 @@
-"""What the cores' calls answer over plans, told by a small program: see refusals.py."""
+"""A program that prints the answers of the cores' calls over plans: see refusals.py."""
 
 CORES = r"""//! What the cores answer over plans.
 

@@ -1,12 +1,11 @@
 #!/usr/bin/env python3
-"""Builds plan_tool without its proof, nearly as it will be built over one, so that what a change gains is known before anything of it is proved.
+"""Builds plan_tool without its proof, nearly as it is built with one, to measure a change before it is proved.
 
     python3 bench/draft.py OUT [--inline FUNCTION..]
 
-`rt try` translates the program, which takes some four minutes of a processor. Of the module that it makes the run-time checks are taken out, functions
-are marked as their sources mark them (`inline(always)`, `inline(never)`), those that are named behind `--inline` (as `runs::runs::Runs::put`) too, and the
-kit's clang compiles it in some two minutes more. The module stays beside OUT as OUT.module, and is taken again while it is newer than all sources, so that
-more functions are tried in two minutes each.
+`rt try` translates the program, which takes some four minutes of a processor. This script removes the run-time checks from the module, marks functions
+as their sources do (`inline(always)`, `inline(never)`), and those named after `--inline` (as `runs::runs::Runs::put`) too; the kit's clang then compiles it in
+some two minutes more. The module is kept as OUT.module and used again while it is newer than all sources, so that other marks are tried in two minutes each.
 
 Nothing is proved of OUT, and it takes some 10 per cent more instructions than the program as it is built over its proof (a search of 2,032 plain claims 103
 million for 94): compare one draft with another, by `valgrind --tool=callgrind` where other work is on the machine.
@@ -30,13 +29,13 @@ UNUSED = [' sanitize_address "frame-pointer"="all"', ' "probe-stack"="inline-asm
 
 
 def sources(crates):
-    """The folder of sources of each crate, of those that lie in a folder and of the kit's."""
+    """The folder of sources of each crate: of those in a folder, and of the kit's."""
     for folder in [*crates.glob("*/src"), *(KIT / "rattle").glob("*/src"), *(KIT / "rattle").glob("*/*/src")]:
         yield folder.parent.name, folder
 
 
 def marks(crates):
-    """Which functions the sources mark, by crate and name: each with its module and, where it is a method, its type."""
+    """The functions that the sources mark, by crate and name: each with its module and, if it is a method, its type."""
     found = {}
     for crate, folder in sources(crates):
         for file in folder.rglob("*.rt"):
@@ -76,12 +75,12 @@ def marked(line, found, inline):
 
 
 def made_in(room):
-    """The module that lies below a folder, if it does by now."""
+    """The module below a folder, if it is there by now."""
     return next((pathlib.Path(folder, "module.bc") for folder, _, files in os.walk(room) if "module.bc" in files), None)
 
 
 def translated(work, words, module):
-    """Has `rt try` translate the program of a crate, and takes the module while the program runs with these words."""
+    """Lets `rt try` translate the program of a crate, and copies the module while the program runs with these words."""
     kept = pathlib.Path(f"{module}.new")
     with tempfile.TemporaryDirectory(dir=module.parent) as room:
         tried = ["rt", "try", "--seconds", "900", "--", *words]

@@ -4,9 +4,9 @@
     python3 bench/families.py
 
 It builds a small program over the crates `plan` and `cert_search` in a folder of its own, which takes some minutes, and then searches each claim of each
-family three times, with the budget of the program `plan_tool`. With `--false` it does the same for claims that don't hold, close to those of the families. With
-`--weighted` it searches claims of weighted thresholds over up to 16 members, by a fixed seed, and compares what is found with what holds, worked out by trying
-every set of members. With `--plans FOLDER` it writes the plans there and builds nothing.
+family three times, with the budget of `plan_tool`. With `--false` it does the same for false claims that are close to those of the families. With
+`--weighted` it searches claims of weighted thresholds over up to 16 members, made from a fixed seed, and compares what is found with the truth, which it
+computes by trying every set of members. With `--plans FOLDER` it writes the plans there and builds nothing.
 """
 import itertools
 import json
@@ -166,7 +166,7 @@ def wall(widths, below=True):
 
 
 def replaced(base, pending):
-    """All sets that come of a set by doing some of the pending replacements, of which number i puts member base + i in the place of the i-th last."""
+    """All sets that some of the pending replacements make of a set; number i replaces the i-th last member by member base + i."""
     sets = []
     for chosen in itertools.product([False, True], repeat=len(pending)):
         members = block(0, base)
@@ -204,7 +204,7 @@ def true_claims():
 
 
 def false_claims():
-    """The same for claims that don't hold."""
+    """The same for false claims."""
     yield "majorities, one less", [(n, most(block(0, n)), some(n - n // 2 - 1, block(0, n))) for n in range(3, 65)]
     yield "f + 1 and 2f of 3f + 1", [(3 * f + 1, some(f + 1, block(0, 3 * f + 1)), some(2 * f, block(0, 3 * f + 1))) for f in range(1, 22)]
     of_zones = [(p, q, z, m) for z, m in shapes(1) for p in range(1, z + 1) for q in range(1, m + 1)]
@@ -239,7 +239,7 @@ def weights_of(expression):
 
 
 def held(expression, n):
-    """For each set of n members, a number whose bits are its members, what the children weigh that hold in it."""
+    """For each set of n members (a number whose bits are the members), the weight of the children that it satisfies."""
     if all(isinstance(child, int) for child in expression["of"]):
         sums = [0]
         of_member = dict.fromkeys(range(n), 0)
@@ -256,7 +256,7 @@ def held(expression, n):
 
 
 def heaviest_apart(read, write, n):
-    """The most that the children of the write quorum weigh in a set that a read set doesn't meet."""
+    """The greatest weight of the write expression's children in a set that shares no member with some read set."""
     apart = zip(held(read, n), reversed(held(write, n)))
     return max(other for one, other in apart if one >= read["k"])
 
@@ -266,7 +266,7 @@ def some_weights(rng, count, most=255):
 
 
 def at_random(rng, of, weights):
-    """These children with a number at random."""
+    """These children with a random threshold."""
     return weighted(rng.randint(1, sum(weights)), of, weights)
 
 
@@ -302,7 +302,7 @@ def some_zones(rng, n, count, is_weighted):
 
 
 def closest(n, read, write):
-    """The least number with which the quorums meet, where there is one, and the one below it."""
+    """The least write threshold with which the quorums meet, if there is one, and the one below it."""
     most_apart = heaviest_apart(read, write, n)
     if most_apart < sum(weights_of(write)):
         yield n, read, write | {"k": most_apart + 1}
@@ -311,7 +311,7 @@ def closest(n, read, write):
 
 
 def weighted_claims():
-    """Each family with its claims: how many members, a read and a write expression. Whether they hold is worked out of them."""
+    """Each family with its claims: the number of members, a read and a write expression. Their truth is computed from these."""
     rng = random.Random(15)
     numbers = [n for n in range(2, 17) for _ in range(4)] + [16] * 40
     pairs = []
@@ -367,13 +367,13 @@ def plans_of(claims, form=1):
 
 
 def among(parent, sets, k):
-    """Any k of one of the sets read, and as many of each as meet these write."""
+    """Any k of one of the sets read, and just enough of each set to meet these write."""
     return configuration(parent, some(1, [some(k, x) for x in sets]), each([some(len(x) + 1 - k, x) for x in sets]))
 
 
 def step_plans(base, k, less=0):
-    """Steps among the sets of up to four replacements, where any k of one of the sets read, less of them after a step: from the sets of some pending
-    replacements to those of others, and from each set to each other by way of both."""
+    """Steps among the sets of up to four replacements, in which any k of one of the sets read, and fewer after a step: from the sets of some pending
+    replacements to those of others, and from each set to each other one through both."""
     groups = []
     for old, new in itertools.permutations(PENDING, 2):
         groups.append({"configurations": [among(None, replaced(base, old), k), among(0, replaced(base, new), k - less)]})
@@ -399,13 +399,13 @@ def families(chosen):
 
 
 def searched(program, files):
-    """How many nodes the certificate of each claim has, and the nanoseconds it took."""
+    """The number of nodes of each claim's certificate, and the nanoseconds of the search."""
     out = subprocess.run([program, *map(str, files)], check=True, capture_output=True, text=True).stdout
     return [tuple(map(int, line.split())) for line in out.splitlines()]
 
 
 def searches(program, folder, texts):
-    """How many nodes the certificate of each claim has, and the milliseconds it took, the least of three searches."""
+    """The number of nodes of each claim's certificate, and the least milliseconds of three searches."""
     files = []
     for number, text in enumerate(texts):
         files.append(folder / f"plan_{number}.json")
@@ -423,7 +423,7 @@ def row(program, folder, name, texts):
 
 
 def weighted_row(program, folder, name, claims):
-    """A line of the table of weighted claims, and below it the claims that were missed; none that doesn't hold may be found."""
+    """A line of the table of weighted claims, and below it the true claims that weren't found. No false claim may be found."""
     holds = [heaviest_apart(read, write, n) < write["k"] for n, read, write in claims]
     seen = searches(program, folder, plans_of(claims, 2))
     true = [one for one, holding in zip(seen, holds) if holding]

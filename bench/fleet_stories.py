@@ -1,4 +1,4 @@
-"""What the calls of a fleet give, told by a small program: see refusals.py."""
+"""A program that prints the results of a fleet's calls: see refusals.py."""
 
 FLEETS = r"""//! What the calls of a fleet give.
 

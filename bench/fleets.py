@@ -1,8 +1,8 @@
-"""Times `plan_tool fleet` with one driver and with four on scripts of about 1,000, 10,000 and 100,000 lines, beside `plan_tool run` of the same scripts and beside another program with the same words, where one is named.
+"""Times `plan_tool fleet` with one driver and with four on scripts of about 1,000, 10,000 and 100,000 lines, beside `plan_tool run` of the same scripts and beside another program with the same commands, if one is named.
 
     python3 bench/fleets.py [crates/plan_tool/out/plan_tool [OTHER]]
 
-Whole processes are timed from their start to their end. All words of a script are run in turn, so often as ROUNDS says, and the least of each counts. Each is also run with a script of no event, whose time, that of the process's start, of its threads and of the plan's check, is taken off before the time a line is worked out. Of each run of a fleet the status is 0, all lines are made and none is refused, the lines on the writers at its end are those worked out while the script was made, and the last line is `journal yes`; otherwise this program ends with status 1. The scripts are such that this holds in whatever order the drivers come to their lines.
+Whole processes are timed from their start to their end. All commands run in turn over a script, ROUNDS times, and the least time of each counts. Each is also run with a script without events; that time (the start of the process and its threads, and the plan's check) is subtracted before the time for each line is computed. Each run of a fleet must have status 0, make all lines and refuse none, print the expected lines of the writers, and print `journal yes` as its last line; otherwise this program ends with status 1. The scripts give this result in whatever order the drivers take their lines.
 """
 import os
 import sys
@@ -16,7 +16,7 @@ WORKERS = (1, 4)
 
 
 def fleet_fault(script, status, said):
-    """What is wrong with a fleet's run, none where it is as it should be."""
+    """What is wrong with a fleet's run, None if nothing is."""
     due = f"steps {len(script.lines) - 1}\nrefused 0\n{script.ends()}journal yes\n"
     if (status, said) != (0, due):
         return f"status {status}, and it said {said[:200]!r}"
@@ -24,7 +24,7 @@ def fleet_fault(script, status, said):
 
 
 def commands(tool, other):
-    """Of each column its name, its words before and behind the two files, and what finds a fault."""
+    """For each column its name, its words before and after the two files, and the function that finds a fault."""
     columns = [("run", [tool, "run"], [], fault)]
     for name, program in (("fleet", tool), ("other", other)):
         if program:
@@ -50,14 +50,14 @@ def measure(columns, script, plan, rounds, folder):
 
 
 def ratios(each):
-    """Each column of a fleet to that of `run`, and to the other program's of as many drivers, where that took any time."""
+    """The ratio of each fleet's column to that of `run`, and to the other program's with as many drivers, if that took any time."""
     pairs = [(f"fleet -w {n}", "run") for n in WORKERS]
     pairs += [(f"fleet -w {n}", f"other -w {n}") for n in WORKERS if f"other -w {n}" in each]
     return ", ".join(f"{one} / {two} {each[one] / each[two]:.2f}" for one, two in pairs if each[two] > 0)
 
 
 def measure_kind(columns, name, make, plan, folder):
-    """Prints what each size of a kind takes."""
+    """Prints the times of each size of a kind."""
     bare = measure(columns, Script(name), plan, max(ROUNDS.values()), folder)
     print(f"{name}, no event: " + ", ".join(f"{column} {took * 1e3:.2f} ms" for column, took in bare.items()), flush=True)
     for size, rounds in ROUNDS.items():

@@ -1,13 +1,14 @@
 #!/usr/bin/env python3
-"""Runs `check` and `search` over plans that are made to cost much, and fails where one takes more than its bounds.
+"""Runs `check`, `search` and `explain` over plans that are made to cost much, and fails where one takes more than its bounds.
 
     python3 bench/hostile_plans.py [--small] [--only WORD] [crates/plan_tool/out/plan_tool]
 
 Each plan is legal, but for the wrong texts at the end: many thresholds that all have to hold, with weights and without, 64 children six deep,
 overlapping triples of 64 members, members that weigh nearly alike, walls, a parent of 4,096 subexpressions, and up to 1,024 configurations of
 these; keys in another order. `search` runs with one worker and with four. Bounds of each run, in seconds of processor time and in MB of memory:
-`check` 5 and 500; `search` 10 and 300, and 100 more for each worker. Besides, `search` prints the same with one worker as with four, and `check`
-of what it prints finds no fault in it but a claim without a certificate. With `--small` the plans are smaller, and all takes less than a minute.
+`check` 5 and 500; `explain` 5 and 500; `search` 10 and 300, and 100 more for each worker. Besides, `search` prints the same with one worker as with
+four, `check` of what it prints finds no fault in it but a claim without a certificate, and `explain` ends with the status and the last line of `check`.
+With `--small` the plans are smaller, and all takes less than two minutes.
 """
 import filecmp
 import itertools
@@ -20,6 +21,7 @@ import subprocess
 import sys
 import tempfile
 
+from big_plan import plan_text
 from families import block, each, heaviest_apart, plane_lines, some, wall, weighted, whole
 
 TOP = pathlib.Path(__file__).resolve().parent.parent
@@ -27,6 +29,7 @@ PROGRAM = TOP / "crates" / "plan_tool" / "out" / "plan_tool"
 TEXT = 16_777_216
 MEMBERS = block(0, 64)
 CHECK = 5, 500
+EXPLAIN = 5, 500
 SEARCH = 10, 300
 A_WORKER = 100
 LONGEST = 60
@@ -52,19 +55,19 @@ def plan(count, expression, form=1):
 
 
 def grouped(thresholds):
-    """All of these thresholds, by way of groups of at most 60."""
+    """All of these thresholds, in groups of at most 60."""
     groups = -(-len(thresholds) // 60)
     return each([each(thresholds[i::groups]) for i in range(groups)])
 
 
 def choices(seed, k, width, nodes):
-    """All of many k of so many members at random."""
+    """All of many random thresholds, each k of `width` members."""
     rng = random.Random(seed)
     return lambda: grouped([some(k, sorted(rng.sample(MEMBERS, width))) for _ in range(max(1, nodes // (width + 1)))])
 
 
 def weighted_choices(seed, width, nodes):
-    """All of many weighted thresholds over so many members at random."""
+    """All of many random weighted thresholds over `width` members."""
     rng = random.Random(seed)
 
     def one():
@@ -75,7 +78,7 @@ def weighted_choices(seed, width, nodes):
 
 
 def deep(seed, nested, form=1):
-    """64 children six deep, of which so many are thresholds in their turn."""
+    """64 children, six deep; at each level `nested` of them are thresholds."""
     rng = random.Random(seed)
 
     def level(depth):
@@ -91,7 +94,7 @@ def deep(seed, nested, form=1):
 
 
 def alike(seed, members, least=200):
-    """Members that weigh nearly alike, of which little more than half are enough."""
+    """Members with nearly equal weights, of which little more than half are enough."""
     rng = random.Random(seed)
 
     def side():
@@ -102,7 +105,7 @@ def alike(seed, members, least=200):
 
 
 def just_met(seed, members, least=200):
-    """Members that weigh nearly alike, whose quorums just meet: in turn the read and the write expressions of a few pairs."""
+    """Members with nearly equal weights, whose quorums just meet: the read and write expressions of a few pairs in turn."""
     rng = random.Random(seed)
     sides = []
     while len(sides) < 12:
@@ -115,7 +118,7 @@ def just_met(seed, members, least=200):
 
 
 def alternating(one, other):
-    """The one and the other in turn."""
+    """Both in turn."""
     turn = [one, other]
 
     def next_one():
@@ -172,6 +175,7 @@ def plans(small):
     yield f"plain, {most} configurations", lambda: plan(most, lambda: some(33, MEMBERS))
     yield f"a parent of 4,000, {few} configurations", lambda: heavy_parent(few)
     yield f"large and many, {most} configurations", lambda: plan(most, choices(5, 2, 3, nodes * 3 // 10))
+    yield "the most configurations", lambda: plan_text(16)
     yield "keys in the reverse order", lambda: compact(turned(json.loads(plan(most // 2, choices(6, 2, 3, 250)))))
 
 
@@ -193,7 +197,7 @@ def wrong_texts(small):
 
 
 def written(file, make):
-    """Has a process of its own write a text, since what this one takes would count for the programs that it starts."""
+    """Lets another process write a text, since this one's memory would count for the programs that it starts."""
     writer = os.fork()
     if writer == 0:
         file.write_text(make())
@@ -203,7 +207,7 @@ def written(file, make):
 
 
 class Run:
-    """A run of the program: its status, what it took, and the files of what it printed."""
+    """A run of the program: its status, time and memory, and the files with its output."""
 
     def __init__(self, program, folder, words):
         name = "_".join(words).replace("/", "_")[-40:]
@@ -219,12 +223,16 @@ class Run:
     def passes(self, seconds, megabytes):
         return self.seconds <= seconds and self.megabytes <= megabytes and self.status in (0, 1, 2)
 
+    def last_line(self):
+        """The last line of what it printed, to either output."""
+        return (self.out.read_bytes() or self.err.read_bytes()).splitlines()[-1:]
+
     def shown(self):
         return f"{self.seconds:.2f} s {self.megabytes:.0f} MB"
 
 
 class Judge:
-    """Counts what fails."""
+    """Counts failures."""
 
     def __init__(self, program, folder):
         self.program, self.folder, self.failures = program, folder, 0
@@ -243,12 +251,15 @@ class Judge:
         file = self.folder / "plan.json"
         written(file, make)
         checked = self.run(name, CHECK, "check", str(file))
+        explained = self.run(name, EXPLAIN, "explain", str(file))
+        if explained.status != checked.status or explained.last_line() != checked.last_line():
+            self.fail(name, "explain ends otherwise than check")
         searches = [self.run(name, (SEARCH[0], SEARCH[1] + A_WORKER * n), "search", str(file), "-w", str(n)) for n in (1, 4)]
         one, four = searches
         printed = one.out.stat().st_size
         is_plan = one.out.open("rb").read(1) == b"{"
         unfound = one.err.read_text(errors="replace").count("unfound")
-        print(f"{name}: {file.stat().st_size} bytes; check {checked.shown()}; search {one.shown()}, {four.shown()}; {printed} bytes, {unfound} unfound", flush=True)
+        print(f"{name}: {file.stat().st_size} bytes; check {checked.shown()}; explain {explained.shown()}; search {one.shown()}, {four.shown()}; {printed} bytes, {unfound} unfound", flush=True)
         if not (filecmp.cmp(one.out, four.out, False) and filecmp.cmp(one.err, four.err, False)):
             self.fail(name, "one worker and four print different texts")
         if is_plan:

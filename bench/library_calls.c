@@ -1,8 +1,8 @@
-/* Measures calls of the C library, in nanoseconds of a processor each, the least of several rounds.
+/* Measures calls of the C library: processor time in nanoseconds a call, the least of several rounds.
  *
  *     library_calls PLAN RECORDS [ROUNDS]
  *
- * PLAN is examples/long_log.json. A line is a call's name and its price. With ROUNDS messages of 256 records aren't
+ * PLAN is examples/long_log.json. Each line has a call's name and its time. With ROUNDS, messages of 256 records aren't
  * measured. bench/library_calls.py runs it. */
 #define _POSIX_C_SOURCE 199309L
 
@@ -14,7 +14,7 @@ enum { MOST_BYTES = 128, BATCH = 32, COPIES = 3, CALLS = 200000, READS = 2000 };
 
 static struct volume_handle plan, writer, segments[COPIES];
 static struct bytes *writes; /* the Write of each record, in order */
-static struct bytes *acks;   /* the Ack of segment 0 to each */
+static struct bytes *acks;   /* segment 0's Ack of each */
 static size_t records;
 static int rounds = 20;
 
@@ -28,7 +28,7 @@ static void price(const char *name, double least) {
     printf("%s\t%.0f\n", name, least);
 }
 
-/* The messages that a batch makes. */
+/* The messages of a batch. */
 static uint8_t made[BATCH][MOST_BYTES];
 static size_t lengths[BATCH];
 
@@ -61,7 +61,7 @@ static void close_all(void) {
         volume_close(&segments[member]);
 }
 
-/* A transaction, whose Writes are kept; returns the time of the calls. */
+/* Issues a batch of records and keeps their Writes; returns the time of the calls. */
 static double issue_batch(size_t first) {
     struct volume_change changes[BATCH];
     for (size_t i = 0; i < BATCH; i++)
@@ -75,7 +75,7 @@ static double issue_batch(size_t first) {
     return spent;
 }
 
-/* A segment takes records, and its Acks are taken out; returns the time of the calls. */
+/* A segment takes a batch, one Write a call, and hands out its Acks; returns the time of the calls. */
 static double take_batch(int member, size_t first) {
     double start = now();
     for (size_t i = 0; i < BATCH; i++) {
@@ -85,7 +85,7 @@ static double take_batch(int member, size_t first) {
     return now() - start;
 }
 
-/* A segment takes a batch as one frame, and its one Ack is taken out; returns the time of the calls. */
+/* A segment takes a batch as one frame, and hands out its one Ack; returns the time of the calls. */
 static double take_frame(int member, size_t first) {
     struct bytes frame = {0};
     size_t taken = 0;
@@ -100,15 +100,15 @@ static double take_frame(int member, size_t first) {
     return spent;
 }
 
-/* The writer takes the Acks of a batch: each of segment 0, which alone make nothing durable, and the last of
- * segment 1. Returns the time of the former. */
+/* The writer takes the Acks of a batch: each of segment 0, which make nothing durable, and the last of segment 1.
+ * Returns the time of segment 0's. */
 static double acknowledge_batch(size_t first) {
     struct bytes last = bytes_of(acks[first + BATCH - 1].at, acks[first + BATCH - 1].length);
     double start = now();
     for (size_t i = first; i < first + BATCH; i++)
         DO(volume_client_take(&writer, acks[i].at, acks[i].length));
     double spent = now() - start;
-    last.at[11] = 1; /* the sender: segment 1 took the same */
+    last.at[11] = 1; /* the sender: segment 1 took the same records */
     DO(volume_client_take(&writer, last.at, last.length));
     free_bytes(&last);
     return spent;
@@ -123,7 +123,7 @@ static void lower(double *least, double found) {
         *least = found;
 }
 
-/* Writes all records once. */
+/* Writes all records once, and keeps the least times. */
 static void round_of_writes(struct prices *least) {
     struct prices spent = {0};
     double count = (double)records;
@@ -143,7 +143,7 @@ static void round_of_writes(struct prices *least) {
     lower(&least->acknowledged, spent.acknowledged / count);
 }
 
-/* Calls that do nothing. */
+/* Measures calls that are refused or change nothing. */
 static void refusals(void) {
     struct volume_handle none = {0};
     uint64_t scl = 0;
@@ -167,6 +167,16 @@ static void refusals(void) {
     price("`volume_segment_scl`", read);
 }
 
+/* A snapshot of a segment, all at once. */
+static void save(struct volume_handle *segment, const struct bytes *room) {
+    struct volume_handle snapshot = {0};
+    size_t written = 0;
+    DO(volume_segment_snapshot(segment, &snapshot));
+    DO(volume_snapshot_read(&snapshot, room->at, room->length, &written));
+    WANT(written == room->length);
+    volume_close(&snapshot);
+}
+
 /* Pages and the snapshot of a segment that holds all records. */
 static void whole_segment(void) {
     struct volume_handle again = {0};
@@ -174,9 +184,8 @@ static void whole_segment(void) {
     uint8_t page[BLOCK];
     double saved = 0, resumed = 0, paged = 0;
     for (int round = 0; round < rounds; round++) {
-        size_t needed = 0;
         double start = now();
-        DO(volume_segment_snapshot(&segments[0], snapshot.at, snapshot.length, &needed));
+        save(&segments[0], &snapshot);
         double middle = now();
         DO(volume_segment_resume(&plan, 0, 0, snapshot.at, snapshot.length, &again));
         double later = now();
@@ -187,14 +196,14 @@ static void whole_segment(void) {
         lower(&paged, (now() - later) / READS);
         volume_close(&again);
     }
-    price("`volume_segment_snapshot`, a record", saved);
+    price("`volume_segment_snapshot` and `volume_snapshot_read`, a record", saved);
     price("`volume_segment_resume`, a record", resumed);
     price("`volume_segment_page`, a block that many records changed", paged);
     free_bytes(&snapshot);
 }
 
-/* Messages of 256 records: a copy's pieces are written for a buffer that is too small, and read by a segment that is
- * whole, which refuses them. */
+/* Measures messages of 256 records: a copy's pieces are written for a buffer that is too small, and read by a whole
+ * segment, which refuses them. */
 static void full_messages(void) {
     static const uint8_t ask[] = {1, COPY_ASK, 0, 0, 0, 0, 1};
     struct bytes piece;

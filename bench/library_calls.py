@@ -3,14 +3,14 @@
 
     python3 bench/library_calls.py [LIBRARY]
 
-LIBRARY is a folder that `scripts/build_library` made. With none the library is drafted without its proof, as
-`bench/draft.py` drafts the program: the kit's run-time checks are taken out, functions are marked as their sources mark
-them, and the kit's clang compiles at -O3. It wants `cc`. Each price is the least of several rounds over a log of 20,000
+LIBRARY is a folder made by `scripts/build_library`. Without it the library is built without its proof, as
+`bench/draft.py` builds the program: the kit's run-time checks are removed, functions are marked as in their sources,
+and the kit's clang compiles at -O3. It needs `cc`. Each price is the least of several rounds over a log of 20,000
 records of 64 bytes, in nanoseconds of a processor.
 
-A draft is also compared with the core where valgrind is: of the instructions of each call those count as the core's that
-the calls into the crates below volume_c take (`decode`, `Segment::deliver`, `encode` ..), which are kept out of line, and
-the freeing of what they returned, which each caller of the core does.
+If valgrind is there, such a build is also compared with the core. The instructions of a call that count as the core's are
+those of the calls into the crates below volume_c (`decode`, `Segment::deliver`, `encode` ..), which are kept out of line,
+and those that free their results, which each caller of the core needs.
 """
 import importlib.machinery
 import importlib.util
@@ -29,7 +29,8 @@ CORE = [
     ("message_bytes", "decoding", None, "decode"),
     ("message_bytes", "encoding", None, "encode"),
     ("message_bytes", "contents", None, "read_contents"),
-    ("message_bytes", "writing", None, "put_contents"),
+    ("message_bytes", "writing", None, "put_contents_head"),
+    ("message_bytes", "writing", None, "write_records"),
     ("segment_core", "segment", "Segment", "deliver"),
     ("segment_core", "segment", "Segment", "prepare_any"),
     ("segment_core", "segment::paging", "Segment", "page_at"),
@@ -46,7 +47,7 @@ COMPARED = [
     ["volume_client_take"],
     ["volume_writer_issue"],
     ["volume_segment_page"],
-    ["volume_segment_snapshot"],
+    ["volume_segment_snapshot", "volume_snapshot_read"],
     ["volume_segment_resume"],
 ]
 
@@ -60,7 +61,7 @@ def script(name):
 
 
 def without_checks(text, apart=()):
-    """The text of a module as it is about compiled over its proof, with some functions kept out of line."""
+    """The text of a module without its checks, nearly as it is compiled with a proof, with some functions kept out of line."""
     text = text.replace("call void @llvm.trap()\n", "\n").replace('"target-cpu"="x86-64"', '"target-cpu"="x86-64-v2"')
     for unused in draft.UNUSED:
         text = text.replace(unused, "")
@@ -73,18 +74,18 @@ def without_checks(text, apart=()):
 
 
 def crate_of(function):
-    """The crate whose work a function does; what drops a type is the work of the type's crate."""
+    """The crate whose work a function does. Dropping a type is the work of the type's crate."""
     crate, _, rest = function.partition("::")
     return rest.partition("++")[0] if "++" in rest else crate
 
 
 def is_own(function):
-    """Whether a function is the library's own: an export, or one of crates/volume_c."""
+    """Whether a function belongs to the library: an export, or one of crates/volume_c."""
     return function.startswith("volume_") and crate_of(function).startswith("volume_") and not function.startswith("volume_model")
 
 
 def calls_of(profile):
-    """Of a profile of callgrind all instructions, and those of calls from the library's own functions into other crates."""
+    """From a profile of callgrind: all instructions, and those of calls from the library's functions into other crates."""
     names, function, callee, total, core = {}, "", None, 0, 0
 
     def named(text):
@@ -108,7 +109,7 @@ def calls_of(profile):
 
 
 def compared(program, room):
-    """The instructions of calls, and how many of them are the core's."""
+    """The instructions of each call, and how many of them are the core's."""
     print("\n| Call | Instructions | of them the core's | Library to core |\n|---|---|---|---|")
     profile, words = room / "callgrind", [program, TOP / "examples/long_log.json", "1024", "1"]
     for names in COMPARED:

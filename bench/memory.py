@@ -1,13 +1,13 @@
 #!/usr/bin/env python3
-"""Measures the most memory that `plan_tool check`, `search` and `run` take over the largest inputs that they admit.
+"""Measures the most memory that `plan_tool check`, `search` and `run` take over the largest inputs that they accept.
 
     python3 bench/memory.py [crates/plan_tool/out/plan_tool [OTHER]]
 
-Where OTHER is named, a program that takes the same words, it is measured beside. The inputs are made here: plans of 16 groups of 64
+OTHER is a program with the same commands, which is measured too. The inputs are made here: plans of 16 groups of 64
 configurations, with certificates for `check` and without for `search`; a plan of nearly 16 MiB whose three certificates have almost
 100,000 nodes each; scripts of nearly 100,000 lines; and one of nearly 16 MiB, whose lines issue 32 changes of 64 bytes each. Each job
-ends with status 0, and where there is an OTHER it prints the same. Memory is the most that a process had in use at a time, by GNU
-`time`, which has to be there; it is the least of some runs.
+must end with status 0, and OTHER must print the same. Memory is the most that a process used at once, by GNU
+`time`, which has to be installed; the least of some runs counts.
 """
 import json
 import os
@@ -33,24 +33,24 @@ def plan_text(configurations, groups=1, lal=10):
 
 
 def certified(groups):
-    """So many groups of 64 configurations of six copies."""
+    """Certified groups of 64 configurations of six copies."""
     return plan_text([configuration(None)] + [configuration(0)] * 63, groups)
 
 
 def uncertified(read, write, members, groups=16):
-    """So many groups of 64 configurations that read and write so, without certificates."""
+    """Groups of 64 configurations with these expressions and members, without certificates."""
     bare = {"members": members, "full": members, "read": read, "write": write, "meets": None, "step": None}
     return plan_text([{"parent": None, **bare}] + [{"parent": 0, **bare}] * 63, groups)
 
 
 def halves(least):
-    """Two of three zones of six, in each of which so many are there."""
+    """Two of three zones of six, with `least` members of each."""
     zones = [list(range(6 * zone, 6 * zone + 6)) for zone in range(3)]
     return {"k": 2, "of": [{"k": least, "of": zone} for zone in zones]}
 
 
 def many_nodes():
-    """A certificate of six copies' claim with almost 100,000 nodes: cases of member 63, which is nowhere, and a match in each."""
+    """A certificate for six copies with almost 100,000 nodes: cases of member 63, which doesn't exist, and a match in each."""
     clash = '{"rule":"clash","left":0,"right":0}'
     pairs = ",".join(f"[{member},{member}]" for member in MEMBERS)
     matched = f'{{"rule":"match","left":0,"right":0,"pairs":[{pairs}],"then":[{",".join([clash] * 6)}]}}'

@@ -1,10 +1,10 @@
 #!/usr/bin/env python3
-"""Measures how fast records are encoded, decoded and made into pages.
+"""Measures how fast records are encoded, decoded and applied to pages.
 
     python3 bench/records.py
 
-It builds a small program over the crates `redo_record` and `pages` in a folder of its own, which takes some minutes, and then times it: for each job the
-time of many rounds less that of a few, so that its start doesn't count.
+It builds a small program over the crates `redo_record` and `pages` in another folder, which takes some minutes, and then times it: for each job the
+time of many rounds minus that of a few, so that the start doesn't count.
 """
 import pathlib
 import subprocess

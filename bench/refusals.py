@@ -1,24 +1,23 @@
 #!/usr/bin/env python3
-"""Refuses each growth of memory in turn, and sees that no answer changes by it.
+"""Lets each allocation fail in turn, and checks that no answer changes.
 
     python3 bench/refusals.py [crates/plan_tool/out/plan_tool] [--calls]
 
-Growths are refused by a small library that is loaded before the C library (`LD_PRELOAD`): the N-th call that asks it for memory gets
-none. It is built by `cc`. N goes from 1 on until no call is refused any more.
+A small library that is loaded before the C library (`LD_PRELOAD`) lets the N-th call for memory fail. It is built by `cc`. N goes from 1
+on until no call fails any more.
 
 First the program itself: `check` and `search` of plans of all kinds, certified, without certificates, with a wrong one, and half a
-text; `run` and `fleet` of two scripts, one that writes three bytes and one in which a member joins. Each run has to end as with ample
+text; `run` and `fleet` of two scripts, one that writes three bytes and one in which a member joins. Each run has to end as with enough
 memory, or with status 2, nothing on standard output, and `input: 9 NoMemory` on standard error.
 
-With `--calls`, then the calls of the library, by two small programs that are built in folders of their own, each in some two minutes, with no
-proof and with the checks at run time that `rt try` puts in. Each tells a story twice. `core_stories.py` tells what `TapedPlan`'s calls, `read_plan`, `lent_claims`,
+With `--calls`, then the calls of the library, by two small programs that are built in other folders, each in some two minutes, without a
+proof and with the run-time checks of `rt try`. Each runs its scenarios twice. `core_stories.py` prints what `TapedPlan`'s calls, `read_plan`, `lent_claims`,
 `claims`, `check`, `check_plan`, `copy_in`, `search_one`, `search_all` by one worker and by three, and `write_plan` answer, over plans of every format, with
-full members and such as keep the log alone, with weights, with certificates of each rule, and over texts with faults; `fleet_stories.py`
-what a fleet's calls give by one pass or three, each step's numbers, the closed journal and how the world's run of it ends, of the same two
-scripts, and compares its answers with those of a run where a member restarts between lines and between the pieces of a copy. A growth is
-refused while it tells the first time. A call that answers want of memory is made once more, on the same values, and
-the story goes on, with what it answers then; so where such a call had added anything, or changed what a later one sees, or answered another
-fault, the stories would differ.
+full members and members that keep only the log, with weights, with certificates of each rule, and over texts with faults. `fleet_stories.py`
+prints the results of a fleet's calls with one pass or three over the same two scripts: each step's numbers, the closed journal and the end of
+the world's run of it. It also compares them with a run in which a member restarts between lines and between the pieces of a copy. An
+allocation fails during the first of the two times. A call that answers `NoMemory` is made again, on the same values, and the scenario goes on
+with that answer. So if such a call had added anything, changed what a later one sees, or answered another fault, the outputs would differ.
 """
 import concurrent.futures
 import json
@@ -133,20 +132,20 @@ CORE_CRATES = ["volume_model", "quorum_expr", "refutation", "quorum_checker", "p
 
 FLEET_CRATES = ["volume_model", "plan", "redo_record", "wire", "epochs", "writer_core", "recovery", "world", "board", "journal", "node_fleet"]
 
-# Those of one pass and of three, and what the cores answer.
+# The scenarios with one pass and with three, and those of the cores.
 FLEET_STORIES = ["one pass", "three passes"]
 CORE_STORIES = ["reading", "claims", "checking", "copying", "searching", "searching by three", "writing"]
 
 PLANS = ["six_copies.json", "member_replaced.json", "every_rule.json", "large_and_small.json", "uncertified.json", "growing.json", "write_three.json", "two_zones.json"]
 
-# What the fleet's program prints of restarts between a script's lines, each step of which is answered as by a run of the same events, and of
-# three passes that take the four acknowledgements of a commit on threads of their own.
+# The output of the fleet's program for restarts between a script's lines, where each step has the result of a run of the same events, and for
+# three passes that take the four acknowledgements of a commit on three threads.
 COMPARED = {
     "restarts": "15 scripts with a restart, 0 answered otherwise than by a run\n",
     "threads": "a new fleet reads 0; 4 steps on threads, durable 3 in all and 3 of step 17, 9 read by three\n",
 }
 
-# Plans and scripts, and by how many drivers a fleet runs each: what it comes to may not depend on the order of lines that drivers share.
+# Plans and scripts, and the numbers of drivers with which a fleet runs each. The result must not depend on the order in which drivers take lines.
 SCRIPTS = [("six_copies.json", "three_bytes_written.script", ("1", "3")), ("member_replaced.json", "early_acknowledgement.script", ("1",))]
 
 HALF = 200  # characters of half a text
@@ -163,7 +162,7 @@ def example_text(name):
 
 
 def with_tail(plan):
-    """A plan with other members and expressions: two members keep whole pages, and three the log alone."""
+    """A plan with other members and expressions: two members keep whole pages, and three only the log."""
     zones = {"k": 1, "of": [{"k": 2, "of": "full"}, {"k": 2, "of": [{"k": 1, "of": "full"}, {"k": 2, "of": "tail"}]}]}
     this = {"members": [0, 1, 2, 3, 4], "full": [0, 1], "read": {"k": 4, "of": "all", "weights": [2, 2, 1, 1, 1]}, "write": zones}
     configuration = {"parent": None, **this, "meets": None, "step": None}
@@ -177,7 +176,7 @@ def changed(name, change):
 
 
 def of_configuration(number, key, value):
-    """A change of what a configuration of the first group has under a key."""
+    """A change of the value at a key of a configuration of the first group."""
 
     def change(plan):
         plan["groups"][0]["configurations"][number][key] = value
@@ -186,7 +185,7 @@ def of_configuration(number, key, value):
 
 
 def plan_texts():
-    """Plans of each kind, and texts that are none, by the names of their constants."""
+    """Plans of each kind, and texts that aren't plans, by the names of their constants."""
     shown = {f"PLAN_{i}": example_text(name) for i, name in enumerate(PLANS)}
     shown["SORTED"] = json.dumps(json.loads(example("member_replaced.json")), sort_keys=True)
     shown["REVERSED"] = changed("six_copies.json", lambda plan: dict(reversed(plan.items())))
@@ -210,7 +209,7 @@ def constants(shown, listed):
 
 
 class Refusing:
-    """Runs programs with one growth refused."""
+    """Runs programs in which one allocation fails."""
 
     def __init__(self, folder):
         self.library, self.flag, self.refused = folder / "refusing.so", folder / "refused", 0
@@ -219,14 +218,14 @@ class Refusing:
         subprocess.run(["cc", "-O2", "-shared", "-fPIC", "-o", self.library, source], check=True)
 
     def run(self, words, number):
-        """A run with that growth refused: its status, its outputs, and whether it came to that growth."""
+        """A run in which allocation `number` fails: its status, its outputs, and whether it reached that allocation."""
         self.flag.unlink(missing_ok=True)
         names = {"LD_PRELOAD": str(self.library), "REFUSED": str(number), "REFUSALS": str(self.flag)}
         ran = subprocess.run(words, env={**os.environ, **names}, capture_output=True, text=True, timeout=60)
         return ran.returncode, ran.stdout, ran.stderr, self.flag.exists()
 
     def growths(self, words):
-        """How many growths a run asks for."""
+        """The number of allocations of a run."""
         least, most = 0, 1 << 20
         while least < most:
             middle = (least + most) // 2
@@ -237,7 +236,7 @@ class Refusing:
         return least
 
     def sweep(self, name, words, count, is_right):
-        """Refuses growths 1 to `count`, each in a run of its own, as many runs side by side as there are processors; whether nothing was wrong."""
+        """Lets allocations 1 to `count` fail, each in another run, in parallel on all processors. Returns whether nothing was wrong."""
         with concurrent.futures.ThreadPoolExecutor(os.cpu_count()) as pool:
             answers = pool.map(lambda number: self.run(words, number)[:3], range(1, count + 1))
             wrong = [(number, said) for number, said in enumerate(answers, 1) if not is_right(*said)]
@@ -249,7 +248,7 @@ class Refusing:
 
 
 def program_jobs(folder):
-    """What the program is asked to do: a name, and the words."""
+    """The program's jobs: a name, and the words of the command line."""
     half = folder / "half.json"
     half.write_text(example("six_copies.json")[:HALF])
     plans = [(name, TOP / "examples" / name) for name in PLANS] + [("half a text", half)]
@@ -265,7 +264,7 @@ def program_jobs(folder):
 
 
 def sweep_program(refusing, folder, tool):
-    """Sweeps the program; whether nothing was wrong."""
+    """Sweeps the program. Returns whether nothing was wrong."""
     right = True
     for name, words in program_jobs(folder):
         words = [tool, *map(str, words)]
@@ -276,7 +275,7 @@ def sweep_program(refusing, folder, tool):
 
 
 def sweep_stories(refusing, program, stories):
-    """Sweeps the stories that a program tells; whether nothing was wrong."""
+    """Sweeps the scenarios of a program. Returns whether nothing was wrong."""
     right = True
     for name in stories:
         told = subprocess.run([program, name, "aloud"], capture_output=True, text=True, check=True).stdout
@@ -287,18 +286,18 @@ def sweep_stories(refusing, program, stories):
 
 
 def core_program():
-    """The program that tells what the cores answer: its name, its crates, the texts of its proofs and its modules."""
+    """The program for the cores: its name, its crates, the texts of its proofs and its modules."""
     return "core_stories", CORE_CRATES, {}, {"stories": CORES, "texts": constants(plan_texts(), True)}
 
 
 def fleet_program():
-    """The same of a fleet's calls."""
+    """The same for a fleet's calls."""
     shown = {"SIX": example_text("six_copies.json"), "REPLACED": example_text("member_replaced.json"), "LONG": example_text("long_log.json")}
     return "fleet_stories", FLEET_CRATES, {"stories/over/Invariants.antt": SITE}, {"stories": FLEETS, "texts": constants(shown, False)}
 
 
 def sweep_calls(refusing, folder):
-    """Sweeps the calls of the library; whether nothing was wrong."""
+    """Sweeps the calls of the library. Returns whether nothing was wrong."""
     right = True
     for (name, crates, proofs, modules), stories in ((core_program(), CORE_STORIES), (fleet_program(), FLEET_STORIES)):
         work = folder / name
@@ -311,7 +310,7 @@ def sweep_calls(refusing, folder):
 
 
 def compare(program, story, due):
-    """Compares what a program tells of a story with what is due; whether it is that."""
+    """Compares a program's output for a scenario with the expected one. Returns whether they are equal."""
     said = subprocess.run([program, story, "aloud"], capture_output=True, text=True).stdout
     print(f"{story}: {said}", end="", flush=True)
     return said == due

@@ -3,8 +3,8 @@
 
     python3 bench/searches.py
 
-It builds a small program over the crates `plan` and `cert_search` in a folder of its own, which takes some minutes, and then times it on two plans: one of
-2,032 claims that hold by counting equal members, and one whose claims are those of steps among sets of six. It times `search_all` alone, many
+It builds a small program over the crates `plan` and `cert_search` in another folder, which takes some minutes, and then times it on two plans: one of
+2,032 claims that are true because enough members are equal, and one with the claims of steps among sets of six. It times only `search_all`, many
 times in one process, and the best of five processes counts.
 """
 import json
@@ -95,7 +95,7 @@ SIX, WITH_G, WITH_H, WITH_BOTH = [0, 1, 2, 3, 4, 5], [0, 1, 2, 3, 4, 6], [0, 1, 
 
 
 def configuration(parent, sets):
-    """Reads 3 of one of the sets, writes 4 of each."""
+    """A configuration that reads 3 of one of the sets, and writes 4 of each."""
     members = sorted({member for six in sets for member in six})
     return {
         "parent": parent,
@@ -118,7 +118,7 @@ def steps_text():
 
 
 def microseconds(program, plan, workers, rounds):
-    """The microseconds a claim, in the best of five runs of so many searches."""
+    """The microseconds for each claim, in the best of five runs of `rounds` searches."""
     words = [program, str(plan), str(workers), str(rounds)]
     best = min(int(subprocess.run(words, check=True, capture_output=True, text=True).stdout) for _ in range(5))
     return best / rounds / 2032 / 1000

@@ -1,12 +1,12 @@
 #!/usr/bin/env python3
-"""Runs `plan_tool` on the deepest inputs that there are, with a stack of 256 kB.
+"""Runs `plan_tool` on the deepest possible inputs, with a stack of 256 kB.
 
     python3 bench/stack.py [crates/plan_tool/out/plan_tool]
 
 The plan has 16 groups of 64 configurations. Each expression is 6 deep; the first certificate of each group is 40 deep, and that of the
-first group has almost 100,000 nodes too. `check`, `search`, `run` and `fleet` have to answer as they do with the stack that a process
-has by itself, and what they answer of the plan is worked out here. The same is tried of texts that are nested too deep to be a plan.
-(The limit is that of the first thread. The threads of a search and of a fleet have stacks of the kit's own size.)
+first group has almost 100,000 nodes too. `check`, `search`, `run` and `fleet` have to answer as with a normal stack,
+and with the answers expected here. The same is tried for texts that are nested too deep to be a plan.
+(The limit is that of the first thread. The threads of a search and of a fleet have stacks of the kit's size.)
 """
 import os
 import resource
@@ -40,17 +40,17 @@ def closing():
 
 
 def split(left, right):
-    """The cases of member 63, which is nowhere."""
+    """The cases of member 63, which doesn't exist."""
     return f'{{"rule":"split","member":63,"left":{left},"right":{right}}}'
 
 
 def cases(count):
-    """So many closing certificates, as flat as can be."""
+    """`count` closing certificates, as flat as possible."""
     return closing() if count == 1 else split(cases(count // 2), cases(count - count // 2))
 
 
 def chain(depth):
-    """A certificate so deep."""
+    """A certificate of this depth."""
     text = closing()
     for _ in range(depth - 6):
         text = split(closing(), text)
@@ -58,7 +58,7 @@ def chain(depth):
 
 
 def wide_and_deep():
-    """One that is 40 deep and has almost 100,000 nodes."""
+    """A certificate that is 40 deep and has almost 100,000 nodes."""
     return split(cases((NODES - 12 * DEPTH) // 12), chain(DEPTH - 1))
 
 
@@ -79,14 +79,14 @@ def plan(certified):
 
 
 def nested():
-    """Texts that are nested too deep, and what is said of them."""
+    """Texts that are nested too deep, and the expected answers."""
     start = '{"format":1,"lal":10,"groups":'
     yield "brackets", start + "[" * 8_000_000, "input: 13 Malformed\n"
     yield "rules", start + '[{"configurations":[{"parent":null,"meets":' + '{"rule":"open","then":' * 500_000, "input: 13 Malformed\n"
 
 
 def run(words, small):
-    """A run, with a small stack or with its own: its status and its outputs."""
+    """Runs the program with a small stack or a normal one. Returns its status and its outputs."""
 
     def limit():
         resource.setrlimit(resource.RLIMIT_STACK, (SMALL, SMALL))
@@ -96,7 +96,7 @@ def run(words, small):
 
 
 def tried(name, words, due=None):
-    """Whether a run with a small stack answers as with its own, and as is due."""
+    """Whether a run with a small stack answers as with a normal one, and as expected."""
     small, own = run(words, True), run(words, False)
     right = small == own and small[0] >= 0 and (due is None or small == due)
     print(f"{name}: {'as ever' if right else 'OTHERWISE'}, status {small[0]}, {(small[1] + small[2])[:70]!r}", flush=True)

@@ -3,14 +3,14 @@
 
     python3 bench/steps.py [--draft OUT] [OTHER]
 
-It builds a small program over the crate `node_fleet` in a folder of its own, which takes some minutes, and then times it, with one pass and with four that
-step in turn. A round issues sixteen transactions of one change of 8 bytes, or of eight, of which the journal keeps a copy (issued) or which it is given
-(given), in turn, delivers each record to four of six nodes, takes each acknowledgement, and restarts a node 64 times; each of the four is a window. Where OTHER is named, a program that takes the same words and prints the
-same lines, both run in turn. Told are, in nanoseconds a call, the least of the runs' lower quarters, and the least window.
+It builds a small program over the crate `node_fleet` in another folder, which takes some minutes, and then times it, with one pass and with four that
+step in turn. A round issues sixteen transactions of one change of 8 bytes, or of eight, which the journal copies (issued) or takes
+(given) in turn; delivers each record to four of six nodes; takes each acknowledgement; and restarts a node 64 times. Each of these four is a window.
+If OTHER is named, a program with the same words and the same output, both run in turn. Printed are, in nanoseconds for each call, the least of the runs' lower quartiles, and the least window.
 
-With `--draft` the program is built without its proof, as `bench/draft.py` builds plan_tool, and is left as OUT. Where other work is on the machine its
-instructions say more than its times: each kind of step is a call of its own in it (`issue`, `give`, `deliver`, `take`, `restart`), so that
-`valgrind --tool=callgrind` tells what each takes in all, and the difference of two runs that make more and fewer rounds is what the steps between them took.
+With `--draft` the program is built without its proof, as `bench/draft.py` builds plan_tool, and is left as OUT. If the machine is busy with other work,
+instructions say more than times: each kind of step is a separate function (`issue`, `give`, `deliver`, `take`, `restart`), so that
+`valgrind --tool=callgrind` counts each, and the difference between two runs with more and fewer rounds is the cost of the additional steps.
 
     valgrind --tool=callgrind --toggle-collect='step_work::take::*' OUT CHANGES PASSES ROUNDS
 """
@@ -408,19 +408,19 @@ RUNS = 7
 
 
 def run(program, job):
-    """Of each kind the least window and the lower quarter, in nanoseconds a call."""
+    """The least window and the lower quartile of each kind, in nanoseconds for each call."""
     text = subprocess.run([program, *map(str, job)], check=True, capture_output=True, text=True).stdout
     lines = (line.split() for line in text.splitlines())
     return {kind: (int(least) / 10, int(quarter) / 10) for kind, least, quarter in lines}
 
 
 def least(runs):
-    """Of each kind the least of all runs."""
+    """The least of all runs for each kind."""
     return {kind: tuple(min(run[kind][i] for run in runs) for i in range(2)) for kind in runs[0]}
 
 
 def measured(programs, job):
-    """Of each program what it takes, with all of them run in turn."""
+    """The times of each program, with all of them run in turn."""
     runs = {program: [] for program in programs}
     for _ in range(RUNS):
         for program in programs:

@@ -1,10 +1,10 @@
 #!/usr/bin/env python3
-"""Checks the pages of the repository: line lengths, page lengths, words that aren't the field's, and links to files.
+"""Checks the pages of the repository: lengths of lines and pages, words that readers from the field don't know, and links to files.
 
     python3 scripts/documents.py
 
 A page is README.md, CONTRIBUTING.md, examples/README.md or a page of docs/. Each fault is printed with its page and line; the status is 1
-where there is one.
+if there is one.
 """
 import pathlib
 import re

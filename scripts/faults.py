@@ -1,10 +1,10 @@
 #!/usr/bin/env python3
-"""Checks that docs/FAULTS.md says of each refusal what the program's table says of it, and that both have all refusals.
+"""Checks that docs/FAULTS.md has the same words for each refusal as the program's table, and that both have all refusals.
 
     python3 scripts/faults.py
 
 The table is `FAULTS` of crates/explain/src/faults.rt, which `plan_tool explain N` prints; numbers and names are those of `Fault` in
-crates/volume_model/src/fault.rt. Each difference is printed; the status is 1 where there is one.
+crates/volume_model/src/fault.rt. Each difference is printed; the status is 1 if there is one.
 """
 import pathlib
 import re
@@ -26,12 +26,12 @@ def joined(text):
 
 
 def of_page():
-    """Returns what the page says: number, name, what refuses, and why."""
+    """Returns the page's entries: number, name, what refuses, and why."""
     return [(int(number), name, joined(of), joined(words)) for number, name, of, words in ITEM.findall(PAGE.read_text())]
 
 
 def of_table(numbers):
-    """Returns what the table says, in the same form."""
+    """Returns the table's entries, in the same form."""
     return [(numbers[name], name, joined(of), joined(words)) for name, of, words in ENTRY.findall(TABLE.read_text())]
 
 

@@ -1,8 +1,8 @@
 #!/usr/bin/env python3
-"""Writes include/volume.h from the exports of crates/volume_c, so that there is one list of them.
+"""Writes include/volume.h from the exports of crates/volume_c.
 
     python3 scripts/header.py             writes the header
-    python3 scripts/header.py --check     the status is 1 where the header isn't what would be written
+    python3 scripts/header.py --check     the status is 1 if the header is out of date
 
 Each export is a function under `#[unsafe(no_mangle)]` of a file of crates/volume_c/src; its comment is its doc comment. The structs are
 those under `#[repr(C)]` that an export takes, the numbers those of `Fault` in crates/volume_model and of crates/volume_c/src/status.rt.
@@ -15,7 +15,7 @@ import textwrap
 TOP = pathlib.Path(__file__).resolve().parent.parent
 SOURCES = TOP / "crates/volume_c/src"
 HEADER = TOP / "include/volume.h"
-FILES = ["handle_calls", "plan_calls", "segment_calls", "frames", "client_calls", "authority_calls", "advance_calls"]
+FILES = ["handle_calls", "plan_calls", "segment_calls", "snapshot_calls", "frames", "client_calls", "authority_calls", "advance_calls"]
 STRUCTS = {"VolumeChange": "changes", "VolumePoints": "client_calls", "VolumeSegmentState": "segment_calls",
            "VolumeReadiness": "advance_calls"}
 NUMBERS = {"u8": "uint8_t", "u16": "uint16_t", "u32": "uint32_t", "u64": "uint64_t", "usize": "size_t", "bool": "bool"}
@@ -56,7 +56,7 @@ HEAD = """\
 extern "C" {
 #endif
 
-/* A plan or an actor; all zeros where it is empty. */
+/* A plan, an actor or a snapshot; all zeros where it is empty. */
 struct volume_handle {
     void *at;
     bool live;
@@ -78,7 +78,7 @@ def snake(name):
 
 
 def comment(docs, indent=""):
-    """A doc comment as a comment of C, its lines filled anew."""
+    """A doc comment as a comment of C, wrapped again."""
     lines = [line.strip().removeprefix("///").strip() for line in docs.strip().splitlines()]
     paragraphs = re.split(r"\n\n+", "\n".join(lines))
     filled = []
@@ -89,7 +89,7 @@ def comment(docs, indent=""):
 
 
 def parameter(text):
-    """A parameter as those of C: a slice is a pointer and a number."""
+    """A parameter in C: a slice is a pointer and a length."""
     name, kind = (part.strip() for part in text.split(":", 1))
     if kind == "Global":
         return []

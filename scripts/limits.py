@@ -1,5 +1,5 @@
 #!/usr/bin/env python3
-"""Runs the program over texts that are as long as they may be, and over texts that are one byte or one line longer.
+"""Runs the program over texts of the greatest allowed length, and over texts that are one byte or one line longer.
 
     python3 scripts/limits.py [crates/plan_tool/out/plan_tool]
 
@@ -28,7 +28,7 @@ def bad(line):
 
 
 def comment(length):
-    """A comment of so many bytes."""
+    """A comment of this many bytes."""
     return b"#" * length
 
 
@@ -53,13 +53,13 @@ def scripts():
 
 
 def answer(tool, *words):
-    """Runs the program; returns its status and both outputs."""
+    """Runs the program. Returns its status and both outputs."""
     ran = subprocess.run([tool, *map(str, words)], capture_output=True, text=True, timeout=SECONDS)
     return ran.returncode, ran.stdout, ran.stderr
 
 
 def cases(tool, folder):
-    """Yields what was tried, the answer, and the answer that is due."""
+    """Yields what was tried, the answer, and the expected answer."""
     plan, script = folder / "plan.json", folder / "text.script"
     for name, text, due in plans():
         plan.write_bytes(text)

@@ -1,12 +1,11 @@
 #!/usr/bin/env python3
-"""Runs each command that README, docs/ and examples/ show, and compares what it prints with what they show.
+"""Runs each command that README, docs/ and examples/ show, and compares its output with the output shown.
 
     python3 scripts/shown_outputs.py [crates/plan_tool/out/plan_tool]
 
-A shown command is an indented line that begins with `$`; the indented lines behind it are its output, standard output and standard error
-together, and a line `..` stands for any number of lines. Commands of one page run in one folder, one after the other, in which the
-examples lie and `plan_tool` is on the path; what a command writes to a file is there for the next one. A line in brackets, which
-needs the kit, is left out.
+A shown command is an indented line that begins with `$`. The indented lines after it are its standard output and standard error together;
+a line `..` stands for any number of lines. The commands of a page run in order in one folder, which has the examples and in which
+`plan_tool` is on the path; a file that a command writes is there for the next one. A command in brackets needs the kit and isn't run.
 """
 import os
 import pathlib
@@ -39,7 +38,7 @@ def shown(page):
 
 
 def fits(said, due):
-    """Whether the lines that were printed are those that are due, in which `..` stands for any number of lines."""
+    """Whether the printed lines are the expected ones, in which `..` stands for any number of lines."""
     if not due:
         return not said
     if due[0] == "..":
@@ -56,7 +55,7 @@ def run(command, folder, tool):
 
 
 def check(page, tool):
-    """Runs the commands of a page; returns how many ran, and how many printed something else."""
+    """Runs the commands of a page. Returns how many ran, and how many printed something else."""
     ran = wrong = 0
     with tempfile.TemporaryDirectory() as folder:
         shutil.copytree(TOP / "examples", f"{folder}/examples")

@@ -12,7 +12,7 @@ import sys
 
 TOP = pathlib.Path(__file__).resolve().parent.parent
 
-# What is named differently by now, with its name.
+# Old names, each with the present one.
 NAMES = {
     "Told": "a result, outcome or completion", "told": "a result", "poised": "reserve_step", "IsPoised": "IsReadyToStep", "Standing": "GroupState",
     "Standings": "GroupStates", "Covered": "DurabilityTracker", "Waits": "PendingRecords", "woken": "released", "awaited": "pending",
@@ -21,7 +21,7 @@ NAMES = {
     "LentClaim": "ClaimRef", "AnswersLate": "AnswersAfterGrowth", "act_late": "act_after_growth", "Halts": "RecordsAttempt",
     "conclude": "commit_or_note", "leave": "leak", "Reach": "StealHandle", "Turn": "Assignment",
 }
-# Where a word of the list means something else: (crate, word).
+# (crate, word): the word means something else in this crate.
 OTHER = {("volume_model", "Lasts"), ("writer_core", "leave"), ("explain", "leave")}
 PHRASES = [
     r"want of memory", r"short way", r"(?:is|are|was|were) told", r"tells", r"who(?:ever)? waits", r"stands apart", r"by itself", r"but for",
