@@ -5,13 +5,11 @@ ghost use Rattle.plan.specs.LentClaims.{lent_state};
 ghost use Rattle.quorum_checker.specs.Claim.{first_state};
 ghost use Rattle.explain.specs.Answers.{IsClaimAnswer};
 
-use crate::deciding::{Decision, decide};
 use crate::facts::{ClaimFacts, ClaimState, Members, WitnessFacts};
-use crate::showing::{Witness, no_certificate};
 use crate::wording::nodes;
 use cert_search::search_one;
 use plan::ClaimRef;
-use quorum_checker::Claim;
+use quorum_checker::{Claim, Decision, Witness, decide, no_certificate};
 use refutation::Certificate;
 use std::alloc::Global;
 use volume_model::Fault;

@@ -1,11 +1,9 @@
 //! What a plan says, in words: what each configuration survives, and why a claim fails.
 #![tactic(auto)]
 
-mod cases;
 mod certificate_place;
 mod claims;
 mod configurations;
-mod deciding;
 mod explaining;
 mod expression_place;
 mod facts;
@@ -14,22 +12,17 @@ mod json_walk;
 mod line_fault;
 mod line_forms;
 mod line_words;
-mod naming;
 mod page;
 mod placing;
-mod plain;
 mod plan_place;
 mod report;
-mod showing;
 mod survival;
 mod text_place;
-mod tolerance;
 mod trail;
 mod wording;
 
 pub use claims::{ClaimAnswer, answer_claim};
 pub use configurations::plan_facts;
-pub use deciding::{Decision, decide, find_witness};
 pub use explaining::explain;
 pub use facts::{
     BlockFacts, ClaimFacts, ClaimState, ConfigurationFacts, Members, QuorumFacts, StepFacts,
@@ -37,12 +30,9 @@ pub use facts::{
 };
 pub use faults::{FAULTS, FaultWords, add_meaning, fault_lines, fault_words};
 pub use line_words::bad_line;
-pub use naming::members_named;
 pub use page::{COLUMNS, Page};
 pub use placing::{place_lines, warning_lines};
 pub use report::{json_report, known_configurations};
-pub use showing::{Witness, no_certificate, shows};
 pub use survival::{Survival, survival_of};
 pub use text_place::{FaultPlace, fault_place};
-pub use tolerance::{stopping_members, stopping_set};
 pub use wording::{add_expr, add_members};

@@ -3,12 +3,11 @@
 ghost use Rattle.std.specs.Prelude.{◌≡◌, ℕ, IfOk, IfSome};
 ghost use Rattle.std.specs.FinSet.{contains};
 ghost use Rattle.quorum_expr.specs.Expr.{formula_of};
-ghost use Rattle.explain.specs.Tolerance.{IsLeastLoss, is_stopping};
+ghost use Rattle.quorum_checker.specs.Tolerance.{IsLeastLoss, is_stopping};
 
 use crate::facts::{BlockFacts, Members, QuorumFacts};
-use crate::naming::members_named;
-use crate::tolerance::{stopping_members, stopping_set};
 use crate::wording::{add_expr, nodes};
+use quorum_checker::{members_named, stopping_members, stopping_set};
 use quorum_expr::{Expr, MemberSet, holds};
 use std::alloc::{AllocError, Allocator, Global};
 use volume_model::Fault;

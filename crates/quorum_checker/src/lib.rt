@@ -1,4 +1,5 @@
-//! The checker of certificates, which decides whether a certificate refutes a claim.
+//! Decides whether a certificate refutes a claim, and finds the witness of a claim that has none: two disjoint sets.
+//! Finds the smallest losses that stop an expression.
 #![tactic(auto)]
 
 ghost use Rattle.std.specs.Prelude.{◌≡◌, ◌≢◌, None, Some, OnOk, IfErr};
@@ -14,25 +15,35 @@ ghost use Rattle.quorum_checker.specs.Claim.{first_state};
 ghost use Rattle.quorum_checker.specs.FirstFault.{first_fault};
 ghost use Rattle.quorum_checker.specs.Items.{shown};
 
+mod cases;
 mod claim;
+mod deciding;
 mod fault;
 mod item;
 mod items;
+mod naming;
 mod node;
 mod path;
+mod plain;
 mod rules;
+mod showing;
+mod tolerance;
 mod weights;
 
 pub use claim::Claim;
+pub use deciding::{Decision, decide, find_witness};
 pub use fault::FaultAt;
 pub use item::Item;
 use items::Items;
+pub use naming::members_named;
 pub use node::children;
 pub use path::Path;
 use quorum_expr::MemberSet;
 use refutation::Certificate;
 use rules::check_rule;
+pub use showing::{Witness, no_certificate, shows};
 use std::alloc::{Allocator, Global};
+pub use tolerance::{stopping_members, stopping_set};
 use volume_model::Fault;
 
 /// Checks that a certificate refutes a claim. Allocates only the lists of items.

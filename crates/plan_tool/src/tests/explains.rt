@@ -2,7 +2,8 @@
 
 ghost use Rattle.std.specs.Prelude.{◌<◌};
 
-use explain::{explain, stopping_members, stopping_set};
+use explain::explain;
+use quorum_checker::{stopping_members, stopping_set};
 use plan::read_plan;
 use quorum_expr::{Expr, MemberSet, holds};
 use std::alloc::{AllocError, Global};

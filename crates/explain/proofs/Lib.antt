@@ -1,8 +1,0 @@
-mod Disjoint
-mod Split
-mod Named
-mod Complete
-mod Apart
-mod Decided
-mod Losses
-mod PlainLosses

@@ -1,9 +1,0 @@
-use Rattle.std.proofs.Common.{◌≡◌, drop}
-use Rattle.quorum_expr.specs.Expr.{formula_of, weighed}
-use Rattle.explain.specs.Naming.{named_by}
-use Rattle.explain.proofs.naming.+members_named.Given as goal
-
--- those so far, with those of the children that are left, are those of all
-abbrev pub invariant-loop-child : goal.invariant-loop-child
-invariant-loop-child g l =
-    named_by (weighed formula_of (drop l.child-index l.child-items)) l.members ≡ named_by (weighed formula_of l.child-items) l.initial.members
