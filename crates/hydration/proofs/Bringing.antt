@@ -21,10 +21,10 @@ use Rattle.redo_record.specs.declared.record_set.RecordSet.{RecordSet}
 use Rattle.redo_record.specs.RecordSet.{records_of}
 use Rattle.redo_record.specs.Union.{all_records}
 use Rattle.redo_record.proofs.Rows.{all_records-permuted}
-use Rattle.hydration.specs.declared.collected.Collected.{Collected}
+use Rattle.hydration.specs.declared.kept_copy.KeptCopy.{KeptCopy}
 use Rattle.hydration.specs.declared.kept.Kept.{Kept}
 use Rattle.hydration.specs.Kept.{all_kept, kept_of, sets_kept}
-use Rattle.hydration.specs.Collected.{all_collected, collected_of, contents_kept}
+use Rattle.hydration.specs.KeptCopies.{all_kept_copies, kept_copy_of, contents_kept}
 use Rattle.hydration.specs.Pieces.{seen_pieces}
 
 united-all : (kept : List KeptPiece) → all_records (map (λ (piece : KeptPiece). piece.contents.records) kept) ≡ united (map (λ (piece : KeptPiece). piece.contents) kept)
@@ -97,18 +97,18 @@ pub newest-broken : (copy : Copy) (rest : List Copy) (last behind : model.Lineag
 newest-broken copy rest last behind broken h = h ∙ ap (λ (cs : List model.Contents). newest_with last (cs ++ brought rest)) (sym (brought-by false copy broken))
 
 -- the first copy, before the rest
-pub copies-first : (copies : List Collected) (c : Collected) → 0 < length copies → c ≡ get_or copies 0 c → all_collected copies ≡ collected_of c ∷ all_collected (take (length copies - 1) (drop 1 copies))
+pub copies-first : (copies : List KeptCopy) (c : KeptCopy) → 0 < length copies → c ≡ get_or copies 0 c → all_kept_copies copies ≡ kept_copy_of c ∷ all_kept_copies (take (length copies - 1) (drop 1 copies))
 copies-first [] c within is = absurd (omega arith)
 copies-first (x ∷ rest) c within is =
     let many : length (x ∷ rest) - 1 ≡ length rest = omega arith in
-    ap (λ (y : Collected). collected_of y ∷ all_collected rest) (sym is)
-    ∙ ap (λ l. collected_of c ∷ all_collected l) (sym (ap (λ n. take n rest) many ∙ take_all (length rest) rest (omega arith)))
+    ap (λ (y : KeptCopy). kept_copy_of y ∷ all_kept_copies rest) (sym is)
+    ∙ ap (λ l. kept_copy_of c ∷ all_kept_copies l) (sym (ap (λ n. take n rest) many ∙ take_all (length rest) rest (omega arith)))
 
 -- the newest lineage, with a first copy that is complete
-pub newest-front : (copies : List Collected) (c : Collected) (last behind now : model.Lineage) → 0 < length copies → c ≡ get_or copies 0 c → is_complete (seen_pieces c.pieces) ≡ true
-    → now ≡ newest_with behind (contents_kept c.pieces.kept.items) → behind ≡ newest_with last (brought (all_collected (take (length copies - 1) (drop 1 copies)))) → now ≡ newest_with last (brought (all_collected copies))
+pub newest-front : (copies : List KeptCopy) (c : KeptCopy) (last behind now : model.Lineage) → 0 < length copies → c ≡ get_or copies 0 c → is_complete (seen_pieces c.pieces) ≡ true
+    → now ≡ newest_with behind (contents_kept c.pieces.kept.items) → behind ≡ newest_with last (brought (all_kept_copies (take (length copies - 1) (drop 1 copies)))) → now ≡ newest_with last (brought (all_kept_copies copies))
 newest-front copies c last behind now within is complete newest h =
-    newest-complete (collected_of c) (all_collected (take (length copies - 1) (drop 1 copies))) last behind now complete newest h
+    newest-complete (kept_copy_of c) (all_kept_copies (take (length copies - 1) (drop 1 copies))) last behind now complete newest h
     ∙ sym (ap (λ l. newest_with last (brought l)) (copies-first copies c within is))
 
 -- the records of a copy, by the test
@@ -119,29 +119,29 @@ pub united-broken : (copy : Copy) (records : List Redo) → is_complete copy.pie
 united-broken copy records broken h = h ∙ ap united (sym (brought-by false copy broken))
 
 -- the copy at hand, before the rest
-opened : (copies : List Collected) (i : ℕ) (c : Collected) → i < length copies → c ≡ get_or copies i c → all_collected (drop i copies) ≡ collected_of c ∷ all_collected (drop (i + 1) copies)
-opened copies i c within is = ap all_collected (drop_more copies i c within) ∙ ap (λ (x : Collected). collected_of x ∷ all_collected (drop (i + 1) copies)) (sym is)
+opened : (copies : List KeptCopy) (i : ℕ) (c : KeptCopy) → i < length copies → c ≡ get_or copies i c → all_kept_copies (drop i copies) ≡ kept_copy_of c ∷ all_kept_copies (drop (i + 1) copies)
+opened copies i c within is = ap all_kept_copies (drop_more copies i c within) ∙ ap (λ (x : KeptCopy). kept_copy_of x ∷ all_kept_copies (drop (i + 1) copies)) (sym is)
 
 joins : (x sender : ℕ) (a rest : Bool) → ((nat_eq x sender || a) || rest) ≡ (a || ((nat_eq sender x && true) || rest))
 joins x sender a rest = grind (arith, nat_tests)
 
 -- a sender more
-pub copied-more : (copies : List Collected) (i : ℕ) (c : Collected) (s : FinSet nat_cmp) (whole : ℕ → Bool) → i < length copies → c ≡ get_or copies i c → is_complete (collected_of c).pieces ≡ true
-    → ((x : ℕ) → (contains s x || copied_by (all_collected (drop i copies)) x) ≡ whole x)
-    → (x : ℕ) → (contains (insert s c.from) x || copied_by (all_collected (drop (i + 1) copies)) x) ≡ whole x
+pub copied-more : (copies : List KeptCopy) (i : ℕ) (c : KeptCopy) (s : FinSet nat_cmp) (whole : ℕ → Bool) → i < length copies → c ≡ get_or copies i c → is_complete (kept_copy_of c).pieces ≡ true
+    → ((x : ℕ) → (contains s x || copied_by (all_kept_copies (drop i copies)) x) ≡ whole x)
+    → (x : ℕ) → (contains (insert s c.from) x || copied_by (all_kept_copies (drop (i + 1) copies)) x) ≡ whole x
 copied-more copies i c s whole within is complete h x =
-    ap (λ b. b || copied_by (all_collected (drop (i + 1) copies)) x) (contains-put s c.from x)
-    ∙ joins x c.from (contains s x) (copied_by (all_collected (drop (i + 1) copies)) x)
-    ∙ ap (λ b. contains s x || ((nat_eq c.from x && b) || copied_by (all_collected (drop (i + 1) copies)) x)) (sym complete)
+    ap (λ b. b || copied_by (all_kept_copies (drop (i + 1) copies)) x) (contains-put s c.from x)
+    ∙ joins x c.from (contains s x) (copied_by (all_kept_copies (drop (i + 1) copies)) x)
+    ∙ ap (λ b. contains s x || ((nat_eq c.from x && b) || copied_by (all_kept_copies (drop (i + 1) copies)) x)) (sym complete)
     ∙ sym (ap (λ l. contains s x || copied_by l x) (opened copies i c within is)) ∙ h x
 
 -- a copy that isn't complete
-pub copied-same : (copies : List Collected) (i : ℕ) (c : Collected) (s : FinSet nat_cmp) (whole : ℕ → Bool) → i < length copies → c ≡ get_or copies i c → is_complete (collected_of c).pieces ≡ false
-    → ((x : ℕ) → (contains s x || copied_by (all_collected (drop i copies)) x) ≡ whole x)
-    → (x : ℕ) → (contains s x || copied_by (all_collected (drop (i + 1) copies)) x) ≡ whole x
+pub copied-same : (copies : List KeptCopy) (i : ℕ) (c : KeptCopy) (s : FinSet nat_cmp) (whole : ℕ → Bool) → i < length copies → c ≡ get_or copies i c → is_complete (kept_copy_of c).pieces ≡ false
+    → ((x : ℕ) → (contains s x || copied_by (all_kept_copies (drop i copies)) x) ≡ whole x)
+    → (x : ℕ) → (contains s x || copied_by (all_kept_copies (drop (i + 1) copies)) x) ≡ whole x
 copied-same copies i c s whole within is broken h x =
-    ap (λ b. contains s x || (b || copied_by (all_collected (drop (i + 1) copies)) x)) (sym (and_false (nat_eq c.from x)))
-    ∙ ap (λ b. contains s x || ((nat_eq c.from x && b) || copied_by (all_collected (drop (i + 1) copies)) x)) (sym broken)
+    ap (λ b. contains s x || (b || copied_by (all_kept_copies (drop (i + 1) copies)) x)) (sym (and_false (nat_eq c.from x)))
+    ∙ ap (λ b. contains s x || ((nat_eq c.from x && b) || copied_by (all_kept_copies (drop (i + 1) copies)) x)) (sym broken)
     ∙ sym (ap (λ l. contains s x || copied_by l x) (opened copies i c within is)) ∙ h x
   where
     and_false : (b : Bool) → (b && false) ≡ false

@@ -7,10 +7,10 @@ use Rattle.volume_model.specs.Lineage.{Contents}
 use Rattle.volume_model.specs.Pieces as model
 use Rattle.volume_model.specs.Pieces.{Piece, Copy, first_piece, pieces_from, with_series, with_copy}
 use Rattle.hydration.specs.declared.change.Change.{Change}
-use Rattle.hydration.specs.declared.collected.Collected.{Collected}
+use Rattle.hydration.specs.declared.kept_copy.KeptCopy.{KeptCopy}
 use Rattle.hydration.specs.Pieces.{seen_pieces}
 use Rattle.hydration.specs.Changes.{changed}
-use Rattle.hydration.specs.Collected.{all_collected, collected_of}
+use Rattle.hydration.specs.KeptCopies.{all_kept_copies, kept_copy_of}
 use Rattle.hydration.specs.Hydration.{changed_at, place_of}
 
 none_some : (n : ℕ) → None ≡ Some n → ⊥
@@ -115,52 +115,52 @@ none-with (copy ∷ rest) sender series piece c h =
     with-rest copy rest sender series piece c f.0 ∙ ap (λ cs. copy ∷ cs) (none-with rest sender series piece c f.1)
 
 -- a copy that is changed at its place
-pub changed-set : (copies : List Collected) (p : ℕ) (new : Collected) (change : Change) (d : Collected) → p < length copies
-    → collected_of new ≡ record { sender = (get_or copies p d).from; pieces = changed change (collected_of (get_or copies p d)).pieces } → all_collected (set copies p new) ≡ changed_at p change (all_collected copies)
+pub changed-set : (copies : List KeptCopy) (p : ℕ) (new : KeptCopy) (change : Change) (d : KeptCopy) → p < length copies
+    → kept_copy_of new ≡ record { sender = (get_or copies p d).from; pieces = changed change (kept_copy_of (get_or copies p d)).pieces } → all_kept_copies (set copies p new) ≡ changed_at p change (all_kept_copies copies)
 changed-set [] p new change d h is = absurd (omega arith)
-changed-set (copy ∷ rest) zero new change d h is = ap (λ c. c ∷ all_collected rest) is
-changed-set (copy ∷ rest) (suc p) new change d h is = ap (λ cs. collected_of copy ∷ cs) (changed-set rest p new change d (omega arith) is)
+changed-set (copy ∷ rest) zero new change d h is = ap (λ c. c ∷ all_kept_copies rest) is
+changed-set (copy ∷ rest) (suc p) new change d h is = ap (λ cs. kept_copy_of copy ∷ cs) (changed-set rest p new change d (omega arith) is)
 
-pub same-set : (copies : List Collected) (p : ℕ) (new : Collected) (d : Collected) → p < length copies → collected_of new ≡ collected_of (get_or copies p d) → all_collected (set copies p new) ≡ all_collected copies
+pub same-set : (copies : List KeptCopy) (p : ℕ) (new : KeptCopy) (d : KeptCopy) → p < length copies → kept_copy_of new ≡ kept_copy_of (get_or copies p d) → all_kept_copies (set copies p new) ≡ all_kept_copies copies
 same-set [] p new d h is = absurd (omega arith)
-same-set (copy ∷ rest) zero new d h is = ap (λ c. c ∷ all_collected rest) is
-same-set (copy ∷ rest) (suc p) new d h is = ap (λ cs. collected_of copy ∷ cs) (same-set rest p new d (omega arith) is)
+same-set (copy ∷ rest) zero new d h is = ap (λ c. c ∷ all_kept_copies rest) is
+same-set (copy ∷ rest) (suc p) new d h is = ap (λ cs. kept_copy_of copy ∷ cs) (same-set rest p new d (omega arith) is)
 
 -- the element at a place, as a copy
-pub collected-at : (copies : List Collected) (p : ℕ) (d : Collected) → p < length copies → get_or (all_collected copies) p (collected_of d) ≡ collected_of (get_or copies p d)
-collected-at [] p d h = absurd (omega arith)
-collected-at (copy ∷ rest) zero d h = refl
-collected-at (copy ∷ rest) (suc p) d h = collected-at rest p d (omega arith)
+pub kept_copy-at : (copies : List KeptCopy) (p : ℕ) (d : KeptCopy) → p < length copies → get_or (all_kept_copies copies) p (kept_copy_of d) ≡ kept_copy_of (get_or copies p d)
+kept_copy-at [] p d h = absurd (omega arith)
+kept_copy-at (copy ∷ rest) zero d h = refl
+kept_copy-at (copy ∷ rest) (suc p) d h = kept_copy-at rest p d (omega arith)
 
 -- the copies from one of them on
-opened : (copies : List Collected) (i : ℕ) (copy : Collected) → i < length copies → copy ≡ get_or copies i copy → all_collected (drop i copies) ≡ collected_of copy ∷ all_collected (drop (i + 1) copies)
-opened copies i copy within is = ap all_collected (drop_more copies i copy within) ∙ ap (λ (x : Collected). collected_of x ∷ all_collected (drop (i + 1) copies)) (sym is)
+opened : (copies : List KeptCopy) (i : ℕ) (copy : KeptCopy) → i < length copies → copy ≡ get_or copies i copy → all_kept_copies (drop i copies) ≡ kept_copy_of copy ∷ all_kept_copies (drop (i + 1) copies)
+opened copies i copy within is = ap all_kept_copies (drop_more copies i copy within) ∙ ap (λ (x : KeptCopy). kept_copy_of x ∷ all_kept_copies (drop (i + 1) copies)) (sym is)
 
 further : (i : ℕ) (o : Option ℕ) → option_map (λ k. i + k) (option_map suc o) ≡ option_map (λ k. (i + 1) + k) o
 further i None = refl
 further i (Some k) = (let e : i + suc k ≡ (i + 1) + k = omega arith in ap Some e)
 
 -- one copy more that is passed
-pub place-more : (copies : List Collected) (i : ℕ) (copy : Collected) (sender : ℕ) → i < length copies → copy ≡ get_or copies i copy → (copy.from == sender) ≡ false
-    → place_of (all_collected copies) sender ≡ option_map (λ k. i + k) (place_of (all_collected (drop i copies)) sender) → place_of (all_collected copies) sender ≡ option_map (λ k. (i + 1) + k) (place_of (all_collected (drop (i + 1) copies)) sender)
+pub place-more : (copies : List KeptCopy) (i : ℕ) (copy : KeptCopy) (sender : ℕ) → i < length copies → copy ≡ get_or copies i copy → (copy.from == sender) ≡ false
+    → place_of (all_kept_copies copies) sender ≡ option_map (λ k. i + k) (place_of (all_kept_copies (drop i copies)) sender) → place_of (all_kept_copies copies) sender ≡ option_map (λ k. (i + 1) + k) (place_of (all_kept_copies (drop (i + 1) copies)) sender)
 place-more copies i copy sender within is other h =
-    let rest = all_collected (drop (i + 1) copies) in
-    let step : place_of (all_collected (drop i copies)) sender ≡ option_map suc (place_of rest sender) = ap (λ cs. place_of cs sender) (opened copies i copy within is) ∙ past_first (collected_of copy) rest sender other in
+    let rest = all_kept_copies (drop (i + 1) copies) in
+    let step : place_of (all_kept_copies (drop i copies)) sender ≡ option_map suc (place_of rest sender) = ap (λ cs. place_of cs sender) (opened copies i copy within is) ∙ past_first (kept_copy_of copy) rest sender other in
     h ∙ ap (option_map (λ k. i + k)) step ∙ further i (place_of rest sender)
 
-pub place-here : (copies : List Collected) (i : ℕ) (copy : Collected) (sender : ℕ) → i < length copies → copy ≡ get_or copies i copy → (copy.from == sender) ≡ true
-    → place_of (all_collected copies) sender ≡ option_map (λ k. i + k) (place_of (all_collected (drop i copies)) sender) → place_of (all_collected copies) sender ≡ Some i
+pub place-here : (copies : List KeptCopy) (i : ℕ) (copy : KeptCopy) (sender : ℕ) → i < length copies → copy ≡ get_or copies i copy → (copy.from == sender) ≡ true
+    → place_of (all_kept_copies copies) sender ≡ option_map (λ k. i + k) (place_of (all_kept_copies (drop i copies)) sender) → place_of (all_kept_copies copies) sender ≡ Some i
 place-here copies i copy sender within is same h =
-    let rest = all_collected (drop (i + 1) copies) in
-    let step : place_of (all_collected (drop i copies)) sender ≡ Some zero = ap (λ cs. place_of cs sender) (opened copies i copy within is) ∙ here_first (collected_of copy) rest sender same in
+    let rest = all_kept_copies (drop (i + 1) copies) in
+    let step : place_of (all_kept_copies (drop i copies)) sender ≡ Some zero = ap (λ cs. place_of cs sender) (opened copies i copy within is) ∙ here_first (kept_copy_of copy) rest sender same in
     let e : i + zero ≡ i = omega arith in
     h ∙ ap (option_map (λ k. i + k)) step ∙ ap Some e
 
-pub place-end : (copies : List Collected) (i sender : ℕ) → length copies ≤ i → place_of (all_collected copies) sender ≡ option_map (λ k. i + k) (place_of (all_collected (drop i copies)) sender) → place_of (all_collected copies) sender ≡ None
-place-end copies i sender ended h = h ∙ ap (λ cs. option_map (λ k. i + k) (place_of (all_collected cs) sender)) (drop_all i copies ended)
+pub place-end : (copies : List KeptCopy) (i sender : ℕ) → length copies ≤ i → place_of (all_kept_copies copies) sender ≡ option_map (λ k. i + k) (place_of (all_kept_copies (drop i copies)) sender) → place_of (all_kept_copies copies) sender ≡ None
+place-end copies i sender ended h = h ∙ ap (λ cs. option_map (λ k. i + k) (place_of (all_kept_copies cs) sender)) (drop_all i copies ended)
 
-pub place-start : (copies : List Collected) (sender : ℕ) → place_of (all_collected copies) sender ≡ option_map (λ k. 0 + k) (place_of (all_collected copies) sender)
-place-start copies sender = same (place_of (all_collected copies) sender)
+pub place-start : (copies : List KeptCopy) (sender : ℕ) → place_of (all_kept_copies copies) sender ≡ option_map (λ k. 0 + k) (place_of (all_kept_copies copies) sender)
+place-start copies sender = same (place_of (all_kept_copies copies) sender)
   where
     same : (o : Option ℕ) → o ≡ option_map (λ k. 0 + k) o
     same None = refl
@@ -170,22 +170,22 @@ abbrev make : ℕ → model.Pieces → Copy
 make sender pieces = record { sender = sender; pieces = pieces }
 
 -- the copy at a place with other pieces
-module _ (copies : List Collected) (p : ℕ) (old new : Collected) (within : p < length copies) (is : old ≡ get_or copies p old) (from : new.from ≡ old.from) where
-  pub pieces-changed : (change : Change) → seen_pieces new.pieces ≡ changed change (seen_pieces old.pieces) → all_collected (set copies p new) ≡ changed_at p change (all_collected copies)
+module _ (copies : List KeptCopy) (p : ℕ) (old new : KeptCopy) (within : p < length copies) (is : old ≡ get_or copies p old) (from : new.from ≡ old.from) where
+  pub pieces-changed : (change : Change) → seen_pieces new.pieces ≡ changed change (seen_pieces old.pieces) → all_kept_copies (set copies p new) ≡ changed_at p change (all_kept_copies copies)
   pieces-changed change made =
       changed-set copies p new change old within
-      (ap (make new.from) made ∙ ap (λ n. make n (changed change (seen_pieces old.pieces))) from ∙ ap (λ (c : Collected). make c.from (changed change (seen_pieces c.pieces))) is)
+      (ap (make new.from) made ∙ ap (λ n. make n (changed change (seen_pieces old.pieces))) from ∙ ap (λ (c : KeptCopy). make c.from (changed change (seen_pieces c.pieces))) is)
 
-  pub pieces-same : seen_pieces new.pieces ≡ seen_pieces old.pieces → all_collected (set copies p new) ≡ all_collected copies
-  pieces-same same = same-set copies p new old within (ap (make new.from) same ∙ ap (λ n. make n (seen_pieces old.pieces)) from ∙ ap collected_of is)
+  pub pieces-same : seen_pieces new.pieces ≡ seen_pieces old.pieces → all_kept_copies (set copies p new) ≡ all_kept_copies copies
+  pieces-same same = same-set copies p new old within (ap (make new.from) same ∙ ap (λ n. make n (seen_pieces old.pieces)) from ∙ ap kept_copy_of is)
 
 -- the place of a sender's copy, among those that are kept
-pub place-inside : (copies : List Collected) (sender p : ℕ) → place_of (all_collected copies) sender ≡ Some p → p < length copies
-place-inside copies sender p h = subst (λ n. p < n) (length-map copies collected_of) (place-within (all_collected copies) sender p h)
+pub place-inside : (copies : List KeptCopy) (sender p : ℕ) → place_of (all_kept_copies copies) sender ≡ Some p → p < length copies
+place-inside copies sender p h = subst (λ n. p < n) (length-map copies kept_copy_of) (place-within (all_kept_copies copies) sender p h)
 
 -- what is kept of a sender whose copy stands at a place
-pub place-at : (copies : List Collected) (sender p : ℕ) (copy : Collected) → place_of (all_collected copies) sender ≡ Some p → copy ≡ get_or copies p copy → pieces_from (all_collected copies) sender ≡ Some (seen_pieces copy.pieces)
+pub place-at : (copies : List KeptCopy) (sender p : ℕ) (copy : KeptCopy) → place_of (all_kept_copies copies) sender ≡ Some p → copy ≡ get_or copies p copy → pieces_from (all_kept_copies copies) sender ≡ Some (seen_pieces copy.pieces)
 place-at copies sender p copy h is =
-    place-pieces (all_collected copies) sender p (collected_of copy) h
-    ∙ ap (λ (c : Copy). Some c.pieces) (collected-at copies p copy (place-inside copies sender p h))
-    ∙ ap (λ (c : Collected). Some (seen_pieces c.pieces)) (sym is)
+    place-pieces (all_kept_copies copies) sender p (kept_copy_of copy) h
+    ∙ ap (λ (c : Copy). Some c.pieces) (kept_copy-at copies p copy (place-inside copies sender p h))
+    ∙ ap (λ (c : KeptCopy). Some (seen_pieces c.pieces)) (sym is)

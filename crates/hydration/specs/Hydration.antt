@@ -7,20 +7,20 @@ use Rattle.volume_model.specs.Pieces.{Copy, first_piece, is_bad_piece, pieces_fr
 use Rattle.wire.specs.declared.message.CopyReport.{CopyReport}
 use Rattle.wire.specs.Contents.{contents_of, piece_in}
 use Rattle.hydration.specs.declared.change.Change.{Change}
-use Rattle.hydration.specs.declared.collected.Collected.{Collected}
-use Rattle.hydration.specs.declared.collected.Keeping.{Keeping}
-use Rattle.hydration.specs.declared.collected.Keeping.TheVariants.{New, At}
-use Rattle.hydration.specs.declared.copied.State.{State}
+use Rattle.hydration.specs.declared.kept_copy.KeptCopy.{KeptCopy}
+use Rattle.hydration.specs.declared.kept_copy.Keeping.{Keeping}
+use Rattle.hydration.specs.declared.kept_copy.Keeping.TheVariants.{New, At}
+use Rattle.hydration.specs.declared.copied.HydratedState.{HydratedState}
 use Rattle.hydration.specs.declared.hydration.Hydration.{Hydration}
 use Rattle.hydration.specs.Changes.{CanChange, changed}
-use Rattle.hydration.specs.Collected.{all_collected, collected_of}
+use Rattle.hydration.specs.KeptCopies.{all_kept_copies, kept_copy_of}
 
 -- the copies kept, in the order in which their members' first pieces came
 abbrev pub copies_of : Hydration → List Copy
-copies_of h = all_collected h.copies.items
+copies_of h = all_kept_copies h.copies.items
 
 -- the model's volume epoch and contents of a hydrated node
-abbrev pub state_of : State → Hydrated
+abbrev pub state_of : HydratedState → Hydrated
 state_of s = record { volume = s.volume; contents = contents_of s.contents }
 
 -- the piece can't belong to those kept of its sender
@@ -52,12 +52,12 @@ changed_at (suc place) change (copy ∷ rest) = copy ∷ changed_at place change
 
 -- the copies after the prepared piece is kept
 abbrev pub kept_by : Keeping → List Copy → List Copy
-kept_by (New collected) copies = copies ++ collected_of collected ∷ []
+kept_by (New kept_copy) copies = copies ++ kept_copy_of kept_copy ∷ []
 kept_by (At place change) copies = changed_at place change copies
 
 -- the copy is new and has only this piece
-abbrev pub first_kept : CopyReport → Collected → Type 0
-first_kept report collected = collected_of collected ≡ record {
+abbrev pub first_kept : CopyReport → KeptCopy → Type 0
+first_kept report kept_copy = kept_copy_of kept_copy ≡ record {
   sender = report.from;
   pieces = first_piece
       report.part.value.series (piece_in report.piece report.of) (contents_of report.part.value.contents);
@@ -78,9 +78,9 @@ HasRoom h = length h.copies.items < vec_capacity h.copies
 -- the change of the copy at this place is possible
 pub record CanChangeAt (h : Hydration) (place : ℕ) (change : Change) : Type 0 where
   pub within : place < length h.copies.items
-  pub can : (d : Collected) → CanChange (slice_index_or h.copies.items place d).pieces change
+  pub can : (d : KeptCopy) → CanChange (slice_index_or h.copies.items place d).pieces change
 
 -- the prepared piece can be kept
 abbrev pub CanKeep : Hydration → Keeping → Type 0
-CanKeep h (New collected) = HasRoom h
+CanKeep h (New kept_copy) = HasRoom h
 CanKeep h (At place change) = CanChangeAt h place change

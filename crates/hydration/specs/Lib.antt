@@ -2,5 +2,5 @@ pub mod Copies
 pub mod Kept
 pub mod Pieces
 pub mod Changes
-pub mod Collected
+pub mod KeptCopies
 pub mod Hydration

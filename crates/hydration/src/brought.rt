@@ -7,18 +7,18 @@ ghost use Rattle.volume_model.specs.Pieces.{brought, brought_by, copied_by, unit
 ghost use Rattle.volume_model.specs.PieceLaws.{united_copy};
 ghost use Rattle.lineage.specs.Lineage.{lineage_of};
 ghost use Rattle.redo_record.specs.RecordSet.{records_of};
-ghost use Rattle.hydration.specs.Collected.{all_collected, collected_of, contents_kept};
+ghost use Rattle.hydration.specs.KeptCopies.{all_kept_copies, kept_copy_of, contents_kept};
 
-use crate::collected::Collected;
 use crate::kept::Kept;
+use crate::kept_copy::KeptCopy;
 use lineage::Lineage;
 use quorum_expr::MemberSet;
 use redo_record::RecordSet;
 use std::alloc::{AllocError, Global};
 
 /// Returns the members whose copy is complete.
-pub(crate) fn copied_by(copies: &[Collected]) -> MemberSet
-    ensures { set.contains result ≡ copied_by (all_collected copies.now) }
+pub(crate) fn copied_by(copies: &[KeptCopy]) -> MemberSet
+    ensures { set.contains result ≡ copied_by (all_kept_copies copies.now) }
 {
     let mut members = MemberSet::empty();
     for copy in copies {
@@ -43,8 +43,8 @@ fn newest_of<'a>(kept: &'a [Kept], last: &'a Lineage) -> &'a Lineage
 }
 
 /// Returns the newest lineage of the complete copies and `last`.
-fn newest_brought<'a>(copies: &'a [Collected], last: &'a Lineage) -> &'a Lineage
-    ensures { lineage_of result.now ≡ newest_with (lineage_of last.now) (brought (all_collected copies.now)) }
+fn newest_brought<'a>(copies: &'a [KeptCopy], last: &'a Lineage) -> &'a Lineage
+    ensures { lineage_of result.now ≡ newest_with (lineage_of last.now) (brought (all_kept_copies copies.now)) }
 {
     match copies {
         [] => last,
@@ -63,16 +63,16 @@ fn newest_brought<'a>(copies: &'a [Collected], last: &'a Lineage) -> &'a Lineage
 ///
 /// # Errors
 /// `AllocError` if memory runs out.
-pub(crate) fn newest_copied(alloc: Global, copies: &[Collected]) -> Result<Lineage, AllocError>
-    ensures { IfOk result (λ lineage. lineage_of lineage ≡ newest (brought (all_collected copies.now))) }
+pub(crate) fn newest_copied(alloc: Global, copies: &[KeptCopy]) -> Result<Lineage, AllocError>
+    ensures { IfOk result (λ lineage. lineage_of lineage ≡ newest (brought (all_kept_copies copies.now))) }
 {
     let none = Lineage::empty(alloc);
     newest_brought(copies, &none).clone()
 }
 
 /// Returns the records of a copy if it is complete, else no records.
-fn united_records(alloc: Global, copy: &Collected) -> Result<RecordSet, AllocError>
-    ensures { IfOk result (λ set. records_of set ≡ united (brought_by (collected_of copy.now))) }
+fn united_records(alloc: Global, copy: &KeptCopy) -> Result<RecordSet, AllocError>
+    ensures { IfOk result (λ set. records_of set ≡ united (brought_by (kept_copy_of copy.now))) }
 {
     if copy.pieces.is_complete() {
         copy.pieces.join(alloc)
@@ -88,10 +88,10 @@ fn united_records(alloc: Global, copy: &Collected) -> Result<RecordSet, AllocErr
 pub(crate) fn copied_in(
     alloc: Global,
     lineage: &Lineage,
-    copies: &[Collected],
+    copies: &[KeptCopy],
 ) -> Result<RecordSet, AllocError>
     ensures { IfOk result (λ set. records_of set ≡ found_in (lineage_of lineage.now)
-        (map (united_copy (lineage_of lineage.now)) (all_collected copies.now))) }
+        (map (united_copy (lineage_of lineage.now)) (all_kept_copies copies.now))) }
 {
     match copies {
         [] => Ok(RecordSet::new(alloc)),

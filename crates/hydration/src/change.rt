@@ -9,7 +9,7 @@ pub enum Change {
     /// The pieces stay as they are.
     Nothing,
     /// One more piece is kept.
-    More(Kept),
+    Append(Kept),
     /// The pieces of another series replace the kept ones.
-    Anew(Pieces),
+    Replace(Pieces),
 }

@@ -17,7 +17,7 @@ pub struct Copied {
 
 /// The state of a node that becomes whole.
 #[derive(Drop)]
-pub struct State {
+pub struct HydratedState {
     /// The volume epoch of the lineage's last entry.
     pub volume: u32,
     /// The newest lineage, and the records that are live in it.

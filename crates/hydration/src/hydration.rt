@@ -12,8 +12,8 @@ ghost use Rattle.hydration.specs.Hydration.{copies_of, first_kept, is_bad, just,
 
 use crate::brought::{copied_by, copied_in, newest_copied};
 use crate::change::Change;
-use crate::collected::{Collected, Keeping};
-use crate::copied::State;
+use crate::copied::HydratedState;
+use crate::kept_copy::{Keeping, KeptCopy};
 use crate::pieces::Pieces;
 use quorum_expr::{Expr, MEMBERS, MemberSet, holds};
 use std::alloc::{AllocError, Global};
@@ -24,7 +24,7 @@ use wire::{Contents, CopyReport};
 #[derive(Drop)]
 pub struct Hydration {
     alloc: Global,
-    copies: Vec<Collected>,
+    copies: Vec<KeptCopy>,
 }
 
 impl Hydration {
@@ -66,11 +66,11 @@ impl Hydration {
     }
 
     /// Prepares to keep the first piece of a member: reserves room and copies the piece.
-    fn prepare_new(&mut self, report: &CopyReport) -> Result<Collected, AllocError>
+    fn prepare_new(&mut self, report: &CopyReport) -> Result<KeptCopy, AllocError>
         requires member { report.now.from < 64 }
         requires piece { report.now.piece < report.now.of }
         ensures copy { IfOk result (first_kept report.now) }
-        ensures room { IfOk result (λ collected. HasRoom self.new) }
+        ensures room { IfOk result (λ kept_copy. HasRoom self.new) }
         ensures same { copies_of self.new ≡ copies_of self.old }
     {
         self.copies.reserve(1)?;
@@ -81,7 +81,7 @@ impl Hydration {
             report.of,
             &report.part.contents,
         )?;
-        Ok(Collected {
+        Ok(KeptCopy {
             from: report.from,
             pieces,
         })
@@ -142,7 +142,7 @@ impl Hydration {
         ensures { copies_of self.new ≡ kept_by keeping (copies_of self.old) }
     {
         match keeping {
-            Keeping::New(collected) => self.copies.push(collected).unwrap(),
+            Keeping::New(kept_copy) => self.copies.push(kept_copy).unwrap(),
             Keeping::At(place, change) => self.copies[place].pieces.apply(change),
         }
     }
@@ -171,7 +171,7 @@ impl Hydration {
     ///
     /// # Errors
     /// `NoMemory` if memory runs out.
-    pub fn finish(&self, alloc: Global, read: &Expr<Global>) -> Result<Option<State>, Fault>
+    pub fn finish(&self, alloc: Global, read: &Expr<Global>) -> Result<Option<HydratedState>, Fault>
         ensures state { Gives (option_map state_of) result (Ok (finished (formula_of read.now) (copies_of self.now))) }
         ensures memory { OnErr result (result ≡ Err NoMemory) }
         ensures enough { OnErr result (IsSome (finished (formula_of read.now) (copies_of self.now))) }
@@ -182,7 +182,7 @@ impl Hydration {
         let copies = self.copies.as_slice();
         let lineage = newest_copied(alloc, copies)?;
         let records = copied_in(alloc, &lineage, copies)?;
-        Ok(Some(State {
+        Ok(Some(HydratedState {
             volume: lineage.last_epoch(),
             contents: Contents { lineage, records },
         }))

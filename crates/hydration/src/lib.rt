@@ -3,17 +3,17 @@
 
 mod brought;
 mod change;
-mod collected;
 mod copied;
 mod found;
 mod hydration;
 mod kept;
+mod kept_copy;
 mod pieces;
 
 pub use change::Change;
-pub use collected::{Collected, Keeping};
-pub use copied::{Copied, State};
+pub use copied::{Copied, HydratedState};
 pub use found::{newest_with, senders, with_found};
 pub use hydration::Hydration;
 pub use kept::Kept;
+pub use kept_copy::{Keeping, KeptCopy};
 pub use pieces::Pieces;

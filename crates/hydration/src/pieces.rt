@@ -135,7 +135,7 @@ impl Pieces {
             return Ok(Change::Nothing);
         }
         self.kept.reserve(1)?;
-        Ok(Change::More(Kept {
+        Ok(Change::Append(Kept {
             number: piece,
             contents: contents.clone()?,
         }))
@@ -171,7 +171,7 @@ impl Pieces {
             return Ok(Change::Nothing);
         }
         let pieces = Pieces::first(alloc, series, piece, of, contents)?;
-        Ok(Change::Anew(pieces))
+        Ok(Change::Replace(pieces))
     }
 
     /// Makes the change that was prepared last. Allocates nothing.
@@ -181,11 +181,11 @@ impl Pieces {
     {
         match change {
             Change::Nothing => {}
-            Change::More(kept) => {
+            Change::Append(kept) => {
                 self.marks[usize::from(kept.number)] = true;
                 self.kept.push(kept).unwrap();
             }
-            Change::Anew(pieces) => *self = pieces,
+            Change::Replace(pieces) => *self = pieces,
         }
     }
 
@@ -196,8 +196,8 @@ impl Pieces {
     {
         match change {
             Change::Nothing => self.is_complete(),
-            Change::More(_) => self.kept.len() + 1 == usize::from(self.of),
-            Change::Anew(pieces) => pieces.is_complete(),
+            Change::Append(_) => self.kept.len() + 1 == usize::from(self.of),
+            Change::Replace(pieces) => pieces.is_complete(),
         }
     }
 
@@ -222,12 +222,12 @@ impl Pieces {
     {
         match change {
             Change::Nothing => self.join(alloc),
-            Change::More(last) => {
+            Change::Append(last) => {
                 let mut parts = parts_of(alloc, &self.kept)?;
                 parts.push(last.contents.records.clone()?)?;
                 joined(alloc, parts)
             }
-            Change::Anew(pieces) => pieces.join(alloc),
+            Change::Replace(pieces) => pieces.join(alloc),
         }
     }
 }

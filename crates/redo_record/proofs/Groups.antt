@@ -4,7 +4,7 @@ use Rattle.std.proofs.lemmas.Bool.{and_parts}
 use Rattle.volume_model.specs.Lists.{every}
 use Rattle.volume_model.specs.Redo.{Redo, with_record, with_records}
 use Rattle.volume_model.proofs.Basics.{IsIn-append}
-use Rattle.redo_record.specs.Groups.{AreOf, IsHome}
+use Rattle.redo_record.specs.Groups.{AreOf, IsKnownGroup}
 use Rattle.redo_record.proofs.Places.{with_record-from}
 use Rattle.redo_record.proofs.Merging.{with_records-from}
 
@@ -19,15 +19,15 @@ of-every group (r ∷ rest) h s (inl e) = subst (λ (z : Redo). z.group ≡ grou
 of-every group (r ∷ rest) h s (inr i) = of-every group rest (and_parts (r.group == group) (every (λ t. t.group == group) rest) h).1 s i
 
 -- a group that is kept, and none
-pub home-some : (group : ℕ) (records : List Redo) → AreOf group records → IsHome (Some group) records
-home-some group records all other e = subst (λ n. AreOf n records) (ap (λ o. held o) e) all
+pub known_group-some : (group : ℕ) (records : List Redo) → AreOf group records → IsKnownGroup (Some group) records
+known_group-some group records all other e = subst (λ n. AreOf n records) (ap (λ o. held o) e) all
   where
     held : Option ℕ → ℕ
     held None = group
     held (Some n) = n
 
-pub home-none : (records : List Redo) → IsHome None records
-home-none records group e = absurd (none_some group e)
+pub known_group-none : (records : List Redo) → IsKnownGroup None records
+known_group-none records group e = absurd (none_some group e)
   where
     none_some : (n : ℕ) → None ≡ Some n → ⊥
     none_some n h = cc
@@ -42,9 +42,9 @@ pub of-both : (group : ℕ) (records more : List Redo) → AreOf group records �
 of-both group records more all also s i = elim (IsIn-append records more s i) [ inl j ↦ all s j | inr j ↦ also s j ]
 
 -- what is kept for a list is kept for the same records in another order
-pub home-with_record : (home : Option ℕ) (r : Redo) (records : List Redo) → IsHome home (r ∷ records) → IsHome home (with_record r records)
-home-with_record home r records kept group e s i = kept group e s (with_record-from r records s i)
+pub known_group-with_record : (known_group : Option ℕ) (r : Redo) (records : List Redo) → IsKnownGroup known_group (r ∷ records) → IsKnownGroup known_group (with_record r records)
+known_group-with_record known_group r records kept group e s i = kept group e s (with_record-from r records s i)
 
-pub home-with_records : (home : Option ℕ) (records others : List Redo) → IsHome home records → IsHome home others → IsHome home (with_records records others)
-home-with_records home records others own also group e s i =
+pub known_group-with_records : (known_group : Option ℕ) (records others : List Redo) → IsKnownGroup known_group records → IsKnownGroup known_group others → IsKnownGroup known_group (with_records records others)
+known_group-with_records known_group records others own also group e s i =
     elim (with_records-from records others s i) [ inl j ↦ own group e s j | inr j ↦ also group e s j ]

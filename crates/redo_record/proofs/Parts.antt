@@ -4,7 +4,7 @@ use Rattle.std.proofs.lemmas.List.{take_all, take-take, drop-take, drop-drop, dr
 use Rattle.volume_model.specs.Pieces.{piece_records}
 use Rattle.volume_model.specs.Redo.{Redo}
 use Rattle.volume_model.proofs.Basics.{IsIn-take, IsIn-drop}
-use Rattle.redo_record.specs.Groups.{IsHome}
+use Rattle.redo_record.specs.Groups.{IsKnownGroup}
 use Rattle.redo_record.specs.Order.{IsInOrder}
 use Rattle.redo_record.proofs.Merging.{ordered-drop}
 use Rattle.redo_record.proofs.Places.{IsOrdered, ordered-from, in_order-from}
@@ -53,5 +53,5 @@ pub in_order-part : (records : List Redo) (from len : ℕ) → IsInOrder records
 in_order-part records from len order = in_order-from (take len (drop from records)) (ordered-take len (drop from records) (ordered-drop from records (ordered-from records order)))
 
 -- a part of records of a group is of the group
-pub home-part : (home : Option ℕ) (records : List Redo) (from len : ℕ) → IsHome home records → IsHome home (take len (drop from records))
-home-part home records from len kept group e s i = kept group e s (IsIn-drop from records s (IsIn-take len (drop from records) s i))
+pub known_group-part : (known_group : Option ℕ) (records : List Redo) (from len : ℕ) → IsKnownGroup known_group records → IsKnownGroup known_group (take len (drop from records))
+known_group-part known_group records from len kept group e s i = kept group e s (IsIn-drop from records s (IsIn-take len (drop from records) s i))

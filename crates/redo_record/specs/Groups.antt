@@ -8,5 +8,5 @@ abbrev pub AreOf : ℕ → List Redo → Type 0
 AreOf group records = (r : Redo) → IsIn r records → r.group ≡ group
 
 -- if a group is kept, each of the records is of it
-abbrev pub IsHome : Option ℕ → List Redo → Type 0
-IsHome home records = (group : ℕ) → home ≡ Some group → AreOf group records
+abbrev pub IsKnownGroup : Option ℕ → List Redo → Type 0
+IsKnownGroup known_group records = (group : ℕ) → known_group ≡ Some group → AreOf group records

@@ -2,12 +2,12 @@ pub mod Payload
 pub mod Record
 pub mod SharedRecord
 pub mod Packet
-pub mod Shared
-pub mod Window
+pub mod SharedRecords
+pub mod RecordRange
 pub mod Ranges
 pub mod Head
 pub mod Spelling
-pub mod Text
+pub mod RecordBuffer
 pub mod Order
 pub mod Places
 pub mod Union

@@ -3,23 +3,23 @@
 ghost use Rattle.std.specs.Prelude.{◌≡◌, Ok, IfOk, IfErr};
 ghost use Rattle.volume_model.specs.declared.fault.Fault.TheVariants.{NoMemory};
 ghost use Rattle.redo_record.specs.Record.{redo_of};
-ghost use Rattle.redo_record.specs.Text.{text_bytes};
+ghost use Rattle.redo_record.specs.RecordBuffer.{buffer_bytes};
 ghost use Rattle.redo_record.specs.Ranges.{IsSpellable};
 ghost use Rattle.redo_record.specs.Spelling.{spelled, decoded};
 
 use crate::packet::Packet;
 use crate::record::Record;
-use crate::text::Text;
+use crate::record_buffer::RecordBuffer;
 use std::alloc::Global;
 use volume_model::Fault;
 
 /// Returns the canonical bytes of a record, on the stack.
-pub fn spell(record: &Record) -> Text
-    ensures spelled { text_bytes result ≡ spelled (redo_of «record».now) }
+pub fn spell(record: &Record) -> RecordBuffer
+    ensures spelled { buffer_bytes result ≡ spelled (redo_of «record».now) }
     ensures spellable { IsSpellable (redo_of «record».now) }
 {
     let written = record.bytes.as_slice();
-    let mut text = Text::new();
+    let mut text = RecordBuffer::new();
     text.write(&record.lsn.to_be_bytes());
     text.write(&record.volume_epoch.to_be_bytes());
     text.write(&record.prev_volume.to_be_bytes());

@@ -11,11 +11,11 @@ mod packet;
 mod payload;
 mod placing;
 mod record;
+mod record_buffer;
+mod record_range;
 mod record_set;
-mod shared;
 mod shared_record;
-mod text;
-mod window;
+mod shared_records;
 
 pub use decoding::decode;
 pub use encoding::encode;

@@ -3,13 +3,13 @@
 ghost use Rattle.std.specs.Prelude.{◌≡◌, IsTrue, is_ok};
 ghost use Rattle.redo_record.specs.Head.{redo_in};
 ghost use Rattle.redo_record.specs.Spelling.{spelled, decoded};
-ghost use Rattle.redo_record.specs.Text.{text_bytes};
+ghost use Rattle.redo_record.specs.RecordBuffer.{buffer_bytes};
 
 use crate::decoding::{checked_head, record_from};
 use crate::encoding::spell;
 use crate::head::{HEAD_BYTES, head_of};
 use crate::record::Record;
-use crate::text::Text;
+use crate::record_buffer::RecordBuffer;
 use volume_model::Fault;
 
 /// The canonical bytes of a record, as they are sent or stored.
@@ -17,9 +17,9 @@ use volume_model::Fault;
 /// A packet allocates nothing, and its bytes always encode a record.
 #[derive(Clone, Copy)]
 pub struct Packet {
-    text: Text,
-    ghost allowed: { IsTrue (is_ok (decoded (text_bytes text))) },
-    ghost canonical: { spelled (redo_in (text_bytes text)) ≡ text_bytes text },
+    text: RecordBuffer,
+    ghost allowed: { IsTrue (is_ok (decoded (buffer_bytes text))) },
+    ghost canonical: { spelled (redo_in (buffer_bytes text)) ≡ buffer_bytes text },
 }
 
 impl Packet {
@@ -45,7 +45,7 @@ impl Packet {
             (λ fault. decoded bytes.now ≡ Err fault) }
     {
         let _head = checked_head(bytes)?;
-        let mut text = Text::new();
+        let mut text = RecordBuffer::new();
         text.write(bytes);
         Ok(Packet { text })
     }

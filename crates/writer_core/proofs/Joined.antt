@@ -13,7 +13,7 @@ use Rattle.redo_record.specs.declared.record_set.RecordSet.{RecordSet}
 use Rattle.redo_record.specs.Order.{IsInOrder, ComesAfter}
 use Rattle.redo_record.specs.SharedRecord.{shared_redo}
 use Rattle.redo_record.specs.RecordSet.{packets_of, records_of}
-use Rattle.redo_record.specs.Shared.{packets_in}
+use Rattle.redo_record.specs.SharedRecords.{packets_in}
 use Rattle.redo_record.proofs.Before.{IsBefore}
 use Rattle.redo_record.proofs.Copied.{IsCopy, redos-copied}
 use Rattle.redo_record.proofs.Parts.{part-shown}

@@ -1,7 +1,7 @@
 use Rattle.std.proofs.Common.{◌≡◌, ◌≤◌, length, drop}
 use Rattle.volume_model.specs.Lineage.{newest_with}
 use Rattle.lineage.specs.Lineage.{lineage_of}
-use Rattle.hydration.specs.Collected.{contents_kept}
+use Rattle.hydration.specs.KeptCopies.{contents_kept}
 use Rattle.hydration.proofs.brought.newest_of.Given as goal
 
 abbrev pub invariant-loop-left : goal.invariant-loop-left

@@ -5,7 +5,7 @@ use Rattle.volume_model.specs.Redo.{Redo}
 use Rattle.redo_record.specs.Payload.{HasRoom}
 use Rattle.redo_record.proofs.KeptRanges.{redo_of-ranges}
 use Rattle.redo_record.specs.Record.{redo_of}
-use Rattle.redo_record.specs.Text.{text_bytes}
+use Rattle.redo_record.specs.RecordBuffer.{buffer_bytes}
 use Rattle.redo_record.proofs.Spelled.{text, text-same, text-written, spelled-text}
 use Rattle.redo_record.proofs.encoding.spell.Goals as goal
 
@@ -18,7 +18,7 @@ pub returns-clause-spelled : goal.returns-clause-spelled
 returns-clause-spelled c =
     let r : Redo = redo_of c.args.«record».now in
     let long : c.as_slice-written.result.now ≡ r.bytes = c.as_slice-written.ensures.value in
-    let one : text_bytes c.write-10.new.self ≡ text c.to_be_bytes.result c.to_be_bytes-2.result c.to_be_bytes-3.result c.to_be_bytes-4.result c.to_be_bytes-5.result r.group c.to_be_bytes-6.result c.to_be_bytes-7.result c.from.result (length c.as_slice-written.result.now) c.as_slice-written.result.now =
+    let one : buffer_bytes c.write-10.new.self ≡ text c.to_be_bytes.result c.to_be_bytes-2.result c.to_be_bytes-3.result c.to_be_bytes-4.result c.to_be_bytes-5.result r.group c.to_be_bytes-6.result c.to_be_bytes-7.result c.from.result (length c.as_slice-written.result.now) c.as_slice-written.result.now =
     text-written _ _ _ _ _ _ _ _ _ _ _ _ _ _ _ _ _ _ _ _ _ _ c.new-text.ensures c.write.ensures c.write-2.ensures c.write-3.ensures c.write-4.ensures c.write-5.ensures c.write-6.ensures c.write-7.ensures c.write-8.ensures c.write-9.ensures c.write-10.ensures in
     one
     ∙ ap (λ xs. text c.to_be_bytes.result c.to_be_bytes-2.result c.to_be_bytes-3.result c.to_be_bytes-4.result c.to_be_bytes-5.result r.group c.to_be_bytes-6.result c.to_be_bytes-7.result c.from.result (length xs) xs) long

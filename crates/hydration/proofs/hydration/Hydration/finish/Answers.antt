@@ -4,8 +4,8 @@ use Rattle.volume_model.specs.Formula.{sat}
 use Rattle.volume_model.specs.Pieces.{brought, copied_by}
 use Rattle.volume_model.specs.Lineage.{found_in, newest}
 use Rattle.volume_model.specs.PieceLaws.{united_copy}
-use Rattle.hydration.specs.declared.collected.Collected.{Collected}
-use Rattle.hydration.specs.Collected.{all_collected}
+use Rattle.hydration.specs.declared.kept_copy.KeptCopy.{KeptCopy}
+use Rattle.hydration.specs.KeptCopies.{all_kept_copies}
 use Rattle.lineage.specs.Lineage.{lineage_of}
 use Rattle.redo_record.specs.RecordSet.{records_of}
 use Rattle.quorum_expr.specs.Expr.{formula_of}
@@ -20,6 +20,6 @@ returns-clause-state c =
     let enough : sat read (copied_by copies) ≡ true = ap (sat read) (sym c.senders.ensures) ∙ sym c.holds.ensures ∙ c.if-not-holds.false in
     let lineage = lineage_of c.in_ok-lineage.lineage in
     ap Ok (finished-complete read copies lineage (records_of c.in_ok-records.records) c.last_epoch.result enough
-    (c.in_ok-lineage.ensures ∙ ap (λ (ks : List Collected). newest (brought (all_collected ks))) c.as_slice-copies.ensures.value)
-    (c.in_ok-records.ensures ∙ ap (λ (ks : List Collected). found_in lineage (map (united_copy lineage) (all_collected ks))) c.as_slice-copies.ensures.value)
+    (c.in_ok-lineage.ensures ∙ ap (λ (ks : List KeptCopy). newest (brought (all_kept_copies ks))) c.as_slice-copies.ensures.value)
+    (c.in_ok-records.ensures ∙ ap (λ (ks : List KeptCopy). found_in lineage (map (united_copy lineage) (all_kept_copies ks))) c.as_slice-copies.ensures.value)
     c.last_epoch.ensures)

@@ -6,8 +6,8 @@ use Rattle.hydration.specs.declared.change.Change.{Change}
 use Rattle.hydration.proofs.Marks.{complete-more}
 use Rattle.hydration.proofs.pieces.Pieces.is_complete_with.Goals as goal
 
-pub returns-in-More : goal.returns-in-More
-returns-in-More c =
+pub returns-in-Append : goal.returns-in-Append
+returns-in-Append c =
     let s = c.args.self.now in
-    let can : CanAdd s c.in-More.field-0 = subst (CanChange s) c.in-More.is c.requires in
-    complete-more s c.in-More.field-0 can c.len.result c.from.result c.len.ensures c.from.ensures ∙ ap (λ (change : Change). is_complete (changed change (seen_pieces s))) (sym c.in-More.is)
+    let can : CanAdd s c.in-Append.field-0 = subst (CanChange s) c.in-Append.is c.requires in
+    complete-more s c.in-Append.field-0 can c.len.result c.from.result c.len.ensures c.from.ensures ∙ ap (λ (change : Change). is_complete (changed change (seen_pieces s))) (sym c.in-Append.is)

@@ -3,7 +3,7 @@ use Rattle.std.proofs.lemmas.List.{length-drop}
 use Rattle.redo_record.specs.Head.{head_in, redo_in}
 use Rattle.redo_record.specs.Packet.{packet_redo}
 use Rattle.redo_record.specs.Spelling.{spelled, decoded}
-use Rattle.redo_record.specs.Text.{text_bytes}
+use Rattle.redo_record.specs.RecordBuffer.{buffer_bytes}
 use Rattle.redo_record.proofs.Spelled.{allowed_facts}
 use Rattle.redo_record.proofs.Checked.{IsSpelling, spelling-of_ok, spelling-again}
 use Rattle.redo_record.proofs.packet.Packet.from_bytes.Goals as goal
@@ -16,7 +16,7 @@ write-requires c =
 
 pub invariant_of-result : goal.invariant_of-result
 invariant_of-result c =
-    let same : text_bytes c.write.new.self ≡ c.args.bytes.now = c.write.ensures ∙ ap (λ xs. xs ++ c.args.bytes.now) c.new-text.ensures in
+    let same : buffer_bytes c.write.new.self ≡ c.args.bytes.now = c.write.ensures ∙ ap (λ xs. xs ++ c.args.bytes.now) c.new-text.ensures in
     let is : IsSpelling c.args.bytes.now = spelling-of_ok c.args.bytes.now (ap is_ok c.in_ok-_head.ensures.exact) in
     record {
       allowed = ap (λ bytes. is_ok (decoded bytes)) same ∙ ap is_ok c.in_ok-_head.ensures.exact;
@@ -26,5 +26,5 @@ invariant_of-result c =
 pub returns : goal.returns
 unfolding packet_redo
 returns c =
-    let same : text_bytes c.write.new.self ≡ c.args.bytes.now = c.write.ensures ∙ ap (λ xs. xs ++ c.args.bytes.now) c.new-text.ensures in
+    let same : buffer_bytes c.write.new.self ≡ c.args.bytes.now = c.write.ensures ∙ ap (λ xs. xs ++ c.args.bytes.now) c.new-text.ensures in
     (spelling-of_ok c.args.bytes.now (ap is_ok c.in_ok-_head.ensures.exact)).redo ∙ ap (λ b. Ok (redo_in b)) (sym same)

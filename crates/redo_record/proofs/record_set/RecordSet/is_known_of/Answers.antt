@@ -5,4 +5,4 @@ use Rattle.redo_record.proofs.record_set.RecordSet.is_known_of.Goals as goal
 
 pub returns-in-Some : goal.returns-in-Some
 returns-in-Some c same =
-    subst (λ group. AreOf group (records_of c.args.self.now)) (eqb-true c.in-Some.home c.args.group same) (c.args.self.now.of_home c.in-Some.home c.in-Some.is)
+    subst (λ group. AreOf group (records_of c.args.self.now)) (eqb-true c.in-Some.known_group c.args.group same) (c.args.self.now.of_known_group c.in-Some.known_group c.in-Some.is)

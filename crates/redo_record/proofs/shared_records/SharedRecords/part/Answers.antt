@@ -1,11 +1,11 @@
 use Rattle.std.proofs.Common.{◌≡◌, ◌+◌, ◌-◌, ◌++◌, List, take, drop, ap, ◌∙◌, arith}
 use Rattle.std.proofs.lemmas.Result.{IfOk-weaker}
 use Rattle.redo_record.specs.declared.shared_record.SharedRecord.{SharedRecord}
-use Rattle.redo_record.specs.Shared.{redos_in}
+use Rattle.redo_record.specs.SharedRecords.{redos_in}
 use Rattle.redo_record.proofs.Copied.{redos, redos-appended}
 use Rattle.redo_record.proofs.Parts.{part-shown}
 use Rattle.redo_record.specs.SharedRecord.{shared_redo}
-use Rattle.redo_record.proofs.shared.Shared.part.Goals as goal
+use Rattle.redo_record.proofs.shared_records.SharedRecords.part.Goals as goal
 
 pub returns : goal.returns
 returns c =

@@ -2,9 +2,9 @@ use Rattle.std.proofs.Common.{◌≡◌, ◌++◌, List, refl, ap, sym, subst, �
 use Rattle.std.specs.Arc.{arc_value}
 use Rattle.std.specs.Result.{IsOk}
 use Rattle.volume_model.specs.Redo.{Redo}
-use Rattle.redo_record.specs.Shared.{packets_in, redos_in}
+use Rattle.redo_record.specs.SharedRecords.{packets_in, redos_in}
 use Rattle.redo_record.proofs.Copied.{redos, redos-made, redos-appended, on_err}
-use Rattle.redo_record.proofs.shared.Shared.extend_from_slice.Goals as goal
+use Rattle.redo_record.proofs.shared_records.SharedRecords.extend_from_slice.Goals as goal
 
 pub returns-in_err-packets-in-Some-clause-err : goal.returns-in_err-packets-in-Some-clause-err
 returns-in_err-packets-in-Some-clause-err c =

@@ -1,45 +1,45 @@
-//! Windows of shared lists of records.
+//! Ranges of shared lists of records.
 
 ghost use Rattle.std.specs.Prelude.{◌+◌, ◌≤◌, length};
-ghost use Rattle.redo_record.specs.Shared.{redos_in};
+ghost use Rattle.redo_record.specs.SharedRecords.{redos_in};
 
-use crate::shared::Shared;
 use crate::shared_record::SharedRecord;
+use crate::shared_records::SharedRecords;
 use std::alloc::{AllocError, Global};
 
-/// A window of a shared list of records: all of it, or a range.
+/// A range of a shared list of records, which may be all of it.
 #[derive(Drop)]
-pub struct Window {
-    shared: Shared,
+pub struct RecordRange {
+    shared: SharedRecords,
     from: usize,
     len: usize,
     ghost within: { from + len ≤ length (redos_in shared) },
 }
 
-impl Window {
+impl RecordRange {
     ghost use Rattle.std.specs.Prelude.{◌≡◌, [], ◌∷◌, ◌++◌, map, take, drop, IfOk, OnOk, OnErr};
     ghost use Rattle.std.specs.List.{insert};
     ghost use Rattle.redo_record.specs.SharedRecord.{shared_redo};
-    ghost use Rattle.redo_record.specs.Window.{packets_seen, redos_seen, IsWhole};
+    ghost use Rattle.redo_record.specs.RecordRange.{packets_seen, redos_seen, IsWhole};
 
-    /// Makes an empty window.
-    pub fn new(alloc: Global) -> Window
+    /// Makes an empty range.
+    pub fn new(alloc: Global) -> RecordRange
         ensures { redos_seen result ≡ [] }
     {
-        Window {
-            shared: Shared::new(alloc),
+        RecordRange {
+            shared: SharedRecords::new(alloc),
             from: 0,
             len: 0,
         }
     }
 
-    /// Makes a window of all these records. Fails only with `NoMemory`.
-    pub fn from_vec(alloc: Global, packets: Vec<SharedRecord>) -> Result<Window, AllocError>
-        ensures { IfOk result (λ window. redos_seen window ≡ map shared_redo packets.items) }
+    /// Makes a range of all these records. Fails only with `NoMemory`.
+    pub fn from_vec(alloc: Global, packets: Vec<SharedRecord>) -> Result<RecordRange, AllocError>
+        ensures { IfOk result (λ range. redos_seen range ≡ map shared_redo packets.items) }
     {
-        let shared = Shared::from_vec(alloc, packets)?;
+        let shared = SharedRecords::from_vec(alloc, packets)?;
         let len = shared.len();
-        Ok(Window {
+        Ok(RecordRange {
             shared,
             from: 0,
             len,
@@ -54,20 +54,20 @@ impl Window {
         &self.shared.as_slice()[self.from..self.from + self.len]
     }
 
-    /// Returns a window of `len` of the records, from place `from` on, without copying them. Fails only with
+    /// Returns a range of `len` of the records, from place `from` on, without copying them. Fails only with
     /// `NoMemory`.
-    pub fn part(&self, from: usize, len: usize) -> Result<Window, AllocError>
+    pub fn part(&self, from: usize, len: usize) -> Result<RecordRange, AllocError>
         requires { from + len ≤ length (redos_seen self.now) }
         ensures { IfOk result (λ part. redos_seen part ≡ take len (drop from (redos_seen self.now))) }
     {
-        Ok(Window {
+        Ok(RecordRange {
             shared: self.shared.clone()?,
             from: self.from + from,
             len,
         })
     }
 
-    /// Copies the window's records into a list of its own, if the shared list has others too.
+    /// Copies the range's records into a list of its own, if the shared list has others too.
     fn make_whole(&mut self) -> Result<(), AllocError>
         ensures ok { OnOk result (IsWhole self.new) }
         ensures same { redos_seen self.new ≡ redos_seen self.old }
@@ -114,13 +114,13 @@ impl Window {
     }
 }
 
-impl Clone for Window {
+impl Clone for RecordRange {
     ghost use Rattle.std.specs.Prelude.{◌≡◌};
-    ghost use Rattle.redo_record.specs.Window.{redos_seen};
+    ghost use Rattle.redo_record.specs.RecordRange.{redos_seen};
 
-    ghost is_clone = { λ window copy. redos_seen copy ≡ redos_seen window };
+    ghost is_clone = { λ range copy. redos_seen copy ≡ redos_seen range };
 
-    fn clone(&self) -> Result<Window, AllocError> {
+    fn clone(&self) -> Result<RecordRange, AllocError> {
         self.part(0, self.len)
     }
 }

@@ -6,32 +6,32 @@ use std::sync::Arc;
 
 /// A list of records. Clones share it, and copy it on write.
 #[derive(Drop)]
-pub struct Shared {
+pub struct SharedRecords {
     alloc: Global,
     packets: Option<Arc<Vec<SharedRecord>>>,
 }
 
-impl Shared {
+impl SharedRecords {
     ghost use Rattle.std.specs.Prelude.{◌≡◌, ◌+◌, ◌≤◌, [], ◌∷◌, ◌++◌, length, map, take, drop, IfOk, OnOk, OnErr};
     ghost use Rattle.std.specs.List.{insert};
     ghost use Rattle.redo_record.specs.SharedRecord.{shared_redo};
-    ghost use Rattle.redo_record.specs.Shared.{packets_in, redos_in};
+    ghost use Rattle.redo_record.specs.SharedRecords.{packets_in, redos_in};
 
     /// Makes an empty list.
-    pub fn new(alloc: Global) -> Shared
+    pub fn new(alloc: Global) -> SharedRecords
         ensures { redos_in result ≡ [] }
     {
-        Shared {
+        SharedRecords {
             alloc,
             packets: None,
         }
     }
 
     /// Makes a list of these records. Fails only with `NoMemory`.
-    pub fn from_vec(alloc: Global, packets: Vec<SharedRecord>) -> Result<Shared, AllocError>
+    pub fn from_vec(alloc: Global, packets: Vec<SharedRecord>) -> Result<SharedRecords, AllocError>
         ensures { IfOk result (λ shared. redos_in shared ≡ map shared_redo packets.items) }
     {
-        Ok(Shared {
+        Ok(SharedRecords {
             alloc,
             packets: Some(Arc::new(alloc, packets)?),
         })
@@ -55,13 +55,13 @@ impl Shared {
     }
 
     /// Copies `len` records, from place `from` on, into a new list. Fails only with `NoMemory`.
-    pub fn part(&self, from: usize, len: usize) -> Result<Shared, AllocError>
+    pub fn part(&self, from: usize, len: usize) -> Result<SharedRecords, AllocError>
         requires { from + len ≤ length (redos_in self.now) }
         ensures { IfOk result (λ part. redos_in part ≡ take len (drop from (redos_in self.now))) }
     {
         let mut packets: Vec<SharedRecord> = Vec::new(self.alloc);
         packets.extend_from_slice(&self.as_slice()[from..from + len])?;
-        Shared::from_vec(self.alloc, packets)
+        SharedRecords::from_vec(self.alloc, packets)
     }
 
     /// Adds a record at the end. On error the list is unchanged.
@@ -118,14 +118,14 @@ impl Shared {
     }
 }
 
-impl Clone for Shared {
+impl Clone for SharedRecords {
     ghost use Rattle.std.specs.Prelude.{◌≡◌};
-    ghost use Rattle.redo_record.specs.Shared.{redos_in};
+    ghost use Rattle.redo_record.specs.SharedRecords.{redos_in};
 
     ghost is_clone = { λ shared copy. redos_in copy ≡ redos_in shared };
 
-    fn clone(&self) -> Result<Shared, AllocError> {
-        Ok(Shared {
+    fn clone(&self) -> Result<SharedRecords, AllocError> {
+        Ok(SharedRecords {
             alloc: self.alloc,
             packets: self.packets.clone()?,
         })

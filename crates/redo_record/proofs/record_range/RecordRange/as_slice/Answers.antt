@@ -3,8 +3,8 @@ use Rattle.redo_record.specs.declared.shared_record.SharedRecord.{SharedRecord}
 use Rattle.redo_record.specs.SharedRecord.{shared_redo}
 use Rattle.redo_record.proofs.Copied.{redos}
 use Rattle.redo_record.proofs.Parts.{part-shown}
-use Rattle.redo_record.specs.Shared.{packets_in}
-use Rattle.redo_record.proofs.window.Window.as_slice.Goals as goal
+use Rattle.redo_record.specs.SharedRecords.{packets_in}
+use Rattle.redo_record.proofs.record_range.RecordRange.as_slice.Goals as goal
 
 -- the packets that are read
 read : (packets kept : List SharedRecord) (from len : ℕ) → packets ≡ kept → take ((from + len) - from) (drop from packets) ≡ take len (drop from kept)

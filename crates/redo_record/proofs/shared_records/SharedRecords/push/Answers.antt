@@ -4,9 +4,9 @@ use Rattle.std.specs.Arc.{arc_value}
 use Rattle.std.specs.Result.{IsOk}
 use Rattle.volume_model.specs.Redo.{Redo}
 use Rattle.redo_record.specs.SharedRecord.{shared_redo}
-use Rattle.redo_record.specs.Shared.{packets_in, redos_in}
+use Rattle.redo_record.specs.SharedRecords.{packets_in, redos_in}
 use Rattle.redo_record.proofs.Copied.{redos, redos-made, on_err}
-use Rattle.redo_record.proofs.shared.Shared.push.Goals as goal
+use Rattle.redo_record.proofs.shared_records.SharedRecords.push.Goals as goal
 
 pub returns-in_err-packets-in-Some-clause-err : goal.returns-in_err-packets-in-Some-clause-err
 returns-in_err-packets-in-Some-clause-err c =

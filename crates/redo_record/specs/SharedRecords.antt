@@ -5,7 +5,7 @@ use Rattle.std.specs.Global.{Global}
 use Rattle.std.specs.declared.sync.Arc.{Arc}
 use Rattle.volume_model.specs.Redo.{Redo}
 use Rattle.redo_record.specs.declared.shared_record.SharedRecord.{SharedRecord}
-use Rattle.redo_record.specs.declared.shared.Shared.{Shared}
+use Rattle.redo_record.specs.declared.shared_records.SharedRecords.{SharedRecords}
 use Rattle.redo_record.specs.SharedRecord.{shared_redo}
 
 -- the packets of a list, which may be missing
@@ -14,5 +14,5 @@ packets_in None = []
 packets_in (Some packets) = (arc_value packets).items
 
 -- the records of the packets, in order
-abbrev pub redos_in : Shared → List Redo
+abbrev pub redos_in : SharedRecords → List Redo
 redos_in shared = map shared_redo (packets_in shared.packets)

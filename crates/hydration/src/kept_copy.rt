@@ -7,7 +7,7 @@ use crate::pieces::Pieces;
 
 /// The pieces kept of a member's copy.
 #[derive(Drop)]
-pub struct Collected {
+pub struct KeptCopy {
     /// The member.
     pub from: u8,
     /// The pieces.
@@ -19,7 +19,7 @@ pub struct Collected {
 #[derive(Drop)]
 pub enum Keeping {
     /// The first piece of a member's copy.
-    New(Collected),
+    New(KeptCopy),
     /// A change of the copy at this place.
     At(usize, Change),
 }

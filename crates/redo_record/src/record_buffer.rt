@@ -3,34 +3,34 @@
 ghost use Rattle.std.specs.Prelude.{◌≤◌};
 
 /// The most bytes of an encoded record.
-pub const MOST_TEXT: usize = 109;
+pub const MOST_RECORD_BYTES: usize = 109;
 
 /// A buffer of 109 bytes, filled from the front.
 #[derive(Clone, Copy)]
-pub struct Text {
-    place: [u8; MOST_TEXT],
+pub struct RecordBuffer {
+    place: [u8; MOST_RECORD_BYTES],
     length: usize,
     ghost in_place: { length ≤ 109 },
 }
 
-impl Text {
+impl RecordBuffer {
     ghost use Rattle.std.specs.Prelude.{◌≡◌, ◌+◌, [], ◌++◌, length};
-    ghost use Rattle.redo_record.specs.Text.{text_bytes};
+    ghost use Rattle.redo_record.specs.RecordBuffer.{buffer_bytes};
 
     /// Makes an empty buffer.
-    pub fn new() -> Text
-        ensures { text_bytes result ≡ [] }
+    pub fn new() -> RecordBuffer
+        ensures { buffer_bytes result ≡ [] }
     {
-        Text {
-            place: [0; MOST_TEXT],
+        RecordBuffer {
+            place: [0; MOST_RECORD_BYTES],
             length: 0,
         }
     }
 
     /// Appends these bytes.
     pub fn write(&mut self, bytes: &[u8])
-        requires { length (text_bytes self.old) + length bytes.now ≤ 109 }
-        ensures { text_bytes self.new ≡ text_bytes self.old ++ bytes.now }
+        requires { length (buffer_bytes self.old) + length bytes.now ≤ 109 }
+        ensures { buffer_bytes self.new ≡ buffer_bytes self.old ++ bytes.now }
     {
         let end = self.length + bytes.len();
         self.place[self.length..end].copy_from_slice(bytes);
@@ -39,7 +39,7 @@ impl Text {
 
     /// Returns the bytes.
     pub fn as_slice(&self) -> &[u8]
-        ensures { result.now ≡ text_bytes self.now }
+        ensures { result.now ≡ buffer_bytes self.now }
     {
         &self.place[..self.length]
     }
