@@ -1,7 +1,7 @@
 use Rattle.std.proofs.Common.{◌≡◌, ◌-◌, ◌≤◌, ◌++◌, length, take, replicate, max}
 use Rattle.volume_model.specs.Client.{no_group}
 use Rattle.writer_core.specs.GroupStates.{groups_of}
-use Rattle.writer_core.proofs.moving.extend.Given as goal
+use Rattle.writer_core.proofs.places.extend.Given as goal
 
 abbrev pub invariant-more : goal.invariant-more
 invariant-more l = record {

@@ -5,36 +5,36 @@ ghost use Rattle.std.specs.Prelude.{◌≤◌};
 use redo_record::Payload;
 
 /// The most bytes that are stored inline.
-pub const MOST_FEW: usize = 7;
+pub const MOST_INLINE: usize = 7;
 
 /// 1 to 7 bytes, stored inline.
 #[derive(Clone, Copy)]
-pub struct FewBytes {
+pub struct InlineBytes {
     length: u8,
-    place: [u8; MOST_FEW],
+    place: [u8; MOST_INLINE],
     ghost not_empty: { 1 ≤ length },
     ghost in_place: { length ≤ 7 },
 }
 
-impl FewBytes {
+impl InlineBytes {
     ghost use Rattle.std.specs.Prelude.{◌≡◌, ◌≤◌, length};
     ghost use Rattle.redo_record.specs.Payload.{payload_bytes, HasRoom};
-    ghost use Rattle.writer_core.specs.Changes.{few_bytes};
+    ghost use Rattle.writer_core.specs.Changes.{inline_bytes};
 
     /// Returns these bytes.
     #[inline(always)]
-    pub fn new(bytes: &[u8]) -> FewBytes
+    pub fn new(bytes: &[u8]) -> InlineBytes
         requires some { 1 ≤ length bytes.now }
-        requires few { length bytes.now ≤ MOST_FEW }
-        ensures { few_bytes result ≡ bytes.now }
+        requires few { length bytes.now ≤ MOST_INLINE }
+        ensures { inline_bytes result ≡ bytes.now }
     {
-        let mut place = [0; MOST_FEW];
-        for at in 0..MOST_FEW {
+        let mut place = [0; MOST_INLINE];
+        for at in 0..MOST_INLINE {
             if at < bytes.len() {
                 place[at] = bytes[at];
             }
         }
-        FewBytes {
+        InlineBytes {
             length: bytes.len() as u8,
             place,
         }
@@ -43,7 +43,7 @@ impl FewBytes {
     /// Returns the bytes.
     #[inline(always)]
     pub fn as_slice(&self) -> &[u8]
-        ensures value { result.now ≡ few_bytes self.now }
+        ensures value { result.now ≡ inline_bytes self.now }
         ensures room { HasRoom (length result.now) }
     {
         &self.place[..self.length as usize]
@@ -51,7 +51,7 @@ impl FewBytes {
 
     /// Returns the bytes as a record's payload.
     pub fn payload(&self) -> Payload
-        ensures { payload_bytes result ≡ few_bytes self.now }
+        ensures { payload_bytes result ≡ inline_bytes self.now }
     {
         match Payload::new(self.as_slice()) {
             Some(payload) => payload,

@@ -4,7 +4,7 @@ use Rattle.volume_model.specs.Plan.{is_configuration}
 use Rattle.volume_model.specs.Message.{place_in}
 use Rattle.plan.specs.CheckedModel.{checked_model}
 use Rattle.wire.specs.Message.{place_of}
-use Rattle.writer_core.proofs.moving.are_places.Given as goal
+use Rattle.writer_core.proofs.places.are_places.Given as goal
 
 abbrev pub invariant-loop-group : goal.invariant-loop-group
 invariant-loop-group l =

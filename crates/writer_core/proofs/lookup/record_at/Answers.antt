@@ -5,7 +5,7 @@ use Rattle.std.proofs.lemmas.List.Sorted.{IsPartitionPoint-from_clause, IsPartit
 use Rattle.redo_record.specs.declared.shared_record.SharedRecord.{SharedRecord}
 use Rattle.redo_record.specs.SharedRecord.{shared_redo}
 use Rattle.writer_core.proofs.Finding.{lsn-rises, record-found, record-missing}
-use Rattle.writer_core.proofs.reading.record_at.Goals as goal
+use Rattle.writer_core.proofs.lookup.record_at.Goals as goal
 
 pub returns-in_err-packet : goal.returns-in_err-packet
 returns-in_err-packet c =

@@ -1,5 +1,5 @@
 use Rattle.std.proofs.Common.{◌≡◌, length, take}
-use Rattle.writer_core.proofs.few_bytes.FewBytes.new.Given as goal
+use Rattle.writer_core.proofs.inline_bytes.InlineBytes.new.Given as goal
 
 abbrev pub invariant-loop-at : goal.invariant-loop-at
 invariant-loop-at l = record {

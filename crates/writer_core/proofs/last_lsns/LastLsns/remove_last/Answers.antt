@@ -2,8 +2,8 @@ use Rattle.std.proofs.Common.{◌≡◌, ap, arith, inr, refl, sym, subst}
 use Rattle.writer_core.specs.Kept.{PutsIn}
 use Rattle.writer_core.proofs.Entering.{puts-none}
 use Rattle.writer_core.proofs.Leaving.{IsAbsentOr, puts-inserted, last_lsns-left}
-use Rattle.writer_core.proofs.last_lsns.LastLsns.leave.Goals as goal
-use Rattle.writer_core.proofs.last_lsns.LastLsns.leave.Goals.{then-prev_block-eq0, else-prev_block-eq0}
+use Rattle.writer_core.proofs.last_lsns.LastLsns.remove_last.Goals as goal
+use Rattle.writer_core.proofs.last_lsns.LastLsns.remove_last.Goals.{then-prev_block-eq0, else-prev_block-eq0}
 
 pub returns : goal.returns
 returns c =

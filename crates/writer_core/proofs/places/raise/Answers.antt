@@ -5,7 +5,7 @@ use Rattle.volume_model.specs.Client.{ClientGroup, place_of}
 use Rattle.volume_model.specs.ClientPoints.{raised_group}
 use Rattle.writer_core.specs.GroupStates.{group_at, groups_of, ArePlaced}
 use Rattle.writer_core.proofs.Placing.{group-is, placed-set, raised-more}
-use Rattle.writer_core.proofs.moving.raise.Goals as goal
+use Rattle.writer_core.proofs.places.raise.Goals as goal
 
 pub loop-group-preserved : goal.loop-group-preserved
 loop-group-preserved c =

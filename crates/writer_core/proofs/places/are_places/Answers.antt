@@ -3,7 +3,7 @@ use Rattle.plan.specs.CheckedModel.{checked_model}
 use Rattle.volume_model.specs.Plan.{Plan}
 use Rattle.wire.specs.Message.{place_of}
 use Rattle.writer_core.proofs.Below.{below-more, is_place, is_place-at, places-fail}
-use Rattle.writer_core.proofs.moving.are_places.Goals as goal
+use Rattle.writer_core.proofs.places.are_places.Goals as goal
 
 pub returns-then-not-is_configuration : goal.returns-then-not-is_configuration
 returns-then-not-is_configuration c =

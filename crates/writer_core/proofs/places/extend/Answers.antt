@@ -5,7 +5,7 @@ use Rattle.writer_core.specs.declared.group_state.GroupState.{GroupState}
 use Rattle.writer_core.specs.GroupStates.{groups_of}
 use Rattle.writer_core.proofs.OneMore.{front_on}
 use Rattle.writer_core.proofs.Placing.{taken-up}
-use Rattle.writer_core.proofs.moving.extend.Goals as goal
+use Rattle.writer_core.proofs.places.extend.Goals as goal
 
 pub more-preserved : goal.more-preserved
 more-preserved c =

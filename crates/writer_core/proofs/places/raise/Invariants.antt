@@ -2,7 +2,7 @@ use Rattle.std.proofs.Common.{◌≡◌, ◌++◌, take, drop}
 use Rattle.plan.specs.CheckedModel.{checked_model}
 use Rattle.volume_model.specs.ClientPoints.{raised, raised_from}
 use Rattle.writer_core.specs.GroupStates.{groups_of, ArePlaced}
-use Rattle.writer_core.proofs.moving.raise.Given as goal
+use Rattle.writer_core.proofs.places.raise.Given as goal
 
 abbrev pub invariant-loop-group : goal.invariant-loop-group
 invariant-loop-group l = record {
