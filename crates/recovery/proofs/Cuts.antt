@@ -15,9 +15,9 @@ use Rattle.writer_core.proofs.Finding.{above, all-log}
 use Rattle.redo_record.specs.declared.«record».Record.{Record}
 use Rattle.redo_record.specs.Record.{redo_of}
 use Rattle.recovery.specs.Chains.{leads}
-use Rattle.recovery.specs.Cutting.{log_of_records, IsCutOf}
-use Rattle.recovery.specs.Led.{is_led}
-use Rattle.recovery.specs.declared.cutting.Cutting.{Cutting}
+use Rattle.recovery.specs.CutReader.{log_of_records, IsCutOf}
+use Rattle.recovery.specs.GroundedLsns.{is_grounded}
+use Rattle.recovery.specs.declared.cut_reader.CutReader.{CutReader}
 use Rattle.recovery.proofs.Links.{IsBack, leads-above, cut-next}
 
 pub log-back : (records : List SharedRecord) → IsBack (log_of records)
@@ -95,8 +95,8 @@ module _ (r : Redo) (log : List Redo) (grows : is_growing (r ∷ log) ≡ true) 
   ]
 
   -- the numbers that lead down to 0 are no greater
-  pub led-below : (has : ℕ → Bool) → ((n : ℕ) → (n == 0 || has n) ≡ leads log n) → (n : ℕ) → has n ≡ true → n ≤ r.lsn
-  led-below has before n e = elim (cases_lt r.lsn n) [
+  pub grounded-below : (has : ℕ → Bool) → ((n : ℕ) → (n == 0 || has n) ≡ leads log n) → (n : ℕ) → has n ≡ true → n ≤ r.lsn
+  grounded-below has before n e = elim (cases_lt r.lsn n) [
     | inl l ↦ (
         let (below, rest) = both (last_lsn log) r.lsn (is_growing log) grows in
         absurd (true≢false (sym (or_right (n == 0) (has n) e) ∙ before n ∙ leads-above log rest n (omega (arith, below)))))
@@ -104,17 +104,17 @@ module _ (r : Redo) (log : List Redo) (grows : is_growing (r ∷ log) ≡ true) 
   ]
 
   -- one that leads down to 0 is added
-  pub led-more : (has has' : ℕ → Bool) → ((n : ℕ) → (n == 0 || has n) ≡ leads log n) → ((q : ℕ) → has' q ≡ (if r.lsn == q then true else has q)) → leads log r.prev_volume ≡ true → (n : ℕ) → (n == 0 || has' n) ≡ leads (r ∷ log) n
-  led-more has has' before adds led n =
+  pub grounded-more : (has has' : ℕ → Bool) → ((n : ℕ) → (n == 0 || has n) ≡ leads log n) → ((q : ℕ) → has' q ≡ (if r.lsn == q then true else has q)) → leads log r.prev_volume ≡ true → (n : ℕ) → (n == 0 || has' n) ≡ leads (r ∷ log) n
+  grounded-more has has' before adds grounded n =
       let now : has' n ≡ cond (nat_eq r.lsn n) true (has n) = adds n in
       elim (cases_Bool (nat_eq r.lsn n)) [
-        | inl h ↦ (let e : has' n ≡ true = now ∙ ap (λ b. cond b true (has n)) h in rw (e, h, led) (or_true (n == 0)))
+        | inl h ↦ (let e : has' n ≡ true = now ∙ ap (λ b. cond b true (has n)) h in rw (e, h, grounded) (or_true (n == 0)))
         | inr h ↦ (let e : has' n ≡ has n = now ∙ ap (λ b. cond b true (has n)) h in rw (e, h) (before n))
       ]
 
   -- the cut, where the record leads down to 0 or not
-  pub cut-led : (b : Bool) → leads log r.prev_volume ≡ true → r.point ≡ b → cut_of (r ∷ log) ≡ (if b then r.lsn else cut_of log)
-  cut-led b led point = cut-more ∙ ap₂ (λ x y. if x && y then r.lsn else cut_of log) led point
+  pub cut-grounded : (b : Bool) → leads log r.prev_volume ≡ true → r.point ≡ b → cut_of (r ∷ log) ≡ (if b then r.lsn else cut_of log)
+  cut-grounded b grounded point = cut-more ∙ ap₂ (λ x y. if x && y then r.lsn else cut_of log) grounded point
 
   pub cut-same : leads log r.prev_volume ≡ false → cut_of (r ∷ log) ≡ cut_of log
   cut-same fails = cut-more ∙ ap (λ x. if x && r.point then r.lsn else cut_of log) fails
@@ -134,25 +134,25 @@ or_false true = refl
 or_false false = refl
 
 -- nothing is read
-pub cut-of_none : (cutting : Cutting) → ((n : ℕ) → is_led cutting.led n ≡ false) → cutting.cut ≡ 0 → IsCutOf cutting []
-cut-of_none cutting none cut = record {
+pub cut-of_none : (reader : CutReader) → ((n : ℕ) → is_grounded reader.grounded n ≡ false) → reader.cut ≡ 0 → IsCutOf reader []
+cut-of_none reader none cut = record {
   growing = refl;
   back = λ r i. absurd i;
-  led = λ n. ap (λ b. n == 0 || b) (none n) ∙ or_false (n == 0);
+  grounded = λ n. ap (λ b. n == 0 || b) (none n) ∙ or_false (n == 0);
   cut = cut;
 }
 
-module _ (old : Cutting) (log : List Redo) (is : IsCutOf old log) (p : ℕ) where
+module _ (old : CutReader) (log : List Redo) (is : IsCutOf old log) (p : ℕ) where
   pub leads-zero : p ≡ 0 → leads log p ≡ true
-  leads-zero e = sym (is.led p) ∙ ap (λ b. b || is_led old.led p) (eq-eqb p 0 e)
+  leads-zero e = sym (is.grounded p) ∙ ap (λ b. b || is_grounded old.grounded p) (eq-eqb p 0 e)
 
-  pub leads-led : is_led old.led p ≡ true → leads log p ≡ true
-  leads-led e = sym (is.led p) ∙ ap (λ b. p == 0 || b) e ∙ or_true (p == 0)
+  pub leads-grounded : is_grounded old.grounded p ≡ true → leads log p ≡ true
+  leads-grounded e = sym (is.grounded p) ∙ ap (λ b. p == 0 || b) e ∙ or_true (p == 0)
 
-  pub leads-none : (p ≡ 0 → ⊥) → is_led old.led p ≡ false → leads log p ≡ false
-  leads-none ne e = sym (is.led p) ∙ ap (λ b. b || is_led old.led p) (ne_eqb p 0 ne) ∙ e
+  pub leads-none : (p ≡ 0 → ⊥) → is_grounded old.grounded p ≡ false → leads log p ≡ false
+  leads-none ne e = sym (is.grounded p) ∙ ap (λ b. b || is_grounded old.grounded p) (ne_eqb p 0 ne) ∙ e
 
-module _ (old : Cutting) (r : Redo) (log : List Redo) (own : r.prev_volume < r.lsn) (is : IsCutOf old log) (above : last_lsn log < r.lsn) where
+module _ (old : CutReader) (r : Redo) (log : List Redo) (own : r.prev_volume < r.lsn) (is : IsCutOf old log) (above : last_lsn log < r.lsn) where
   grows : is_growing (r ∷ log) ≡ true
   grows = more-grows r log is.growing above
 
@@ -160,23 +160,23 @@ module _ (old : Cutting) (r : Redo) (log : List Redo) (own : r.prev_volume < r.l
   goes_back = more-back r log own is.back
 
   -- a record is read that leads down to 0
-  pub cut-of_led : (new : Cutting) → leads log r.prev_volume ≡ true → ((n : ℕ) → is_led new.led n ≡ (if r.lsn == n then true else is_led old.led n)) → (b : Bool) → r.point ≡ b → new.cut ≡ (if b then r.lsn else old.cut) → IsCutOf new (r ∷ log)
-  cut-of_led new led adds b point cut = record {
+  pub cut-of_grounded : (new : CutReader) → leads log r.prev_volume ≡ true → ((n : ℕ) → is_grounded new.grounded n ≡ (if r.lsn == n then true else is_grounded old.grounded n)) → (b : Bool) → r.point ≡ b → new.cut ≡ (if b then r.lsn else old.cut) → IsCutOf new (r ∷ log)
+  cut-of_grounded new grounded adds b point cut = record {
     growing = grows;
     back = goes_back;
-    led = led-more r log grows goes_back (is_led old.led) (is_led new.led) is.led adds led;
-    cut = cut ∙ ap (λ (n : ℕ). if b then r.lsn else n) is.cut ∙ sym (cut-led r log grows goes_back b led point);
+    grounded = grounded-more r log grows goes_back (is_grounded old.grounded) (is_grounded new.grounded) is.grounded adds grounded;
+    cut = cut ∙ ap (λ (n : ℕ). if b then r.lsn else n) is.cut ∙ sym (cut-grounded r log grows goes_back b grounded point);
   }
 
   -- a record is read that leads nowhere
-  pub cut-of_same : (new : Cutting) → leads log r.prev_volume ≡ false → ((n : ℕ) → is_led new.led n ≡ is_led old.led n) → new.cut ≡ old.cut → IsCutOf new (r ∷ log)
+  pub cut-of_same : (new : CutReader) → leads log r.prev_volume ≡ false → ((n : ℕ) → is_grounded new.grounded n ≡ is_grounded old.grounded n) → new.cut ≡ old.cut → IsCutOf new (r ∷ log)
   cut-of_same new none keeps cut = record {
     growing = grows;
     back = goes_back;
-    led = λ n. ap (λ b. n == 0 || b) (keeps n) ∙ is.led n ∙ sym (leads-not r log grows goes_back none n);
+    grounded = λ n. ap (λ b. n == 0 || b) (keeps n) ∙ is.grounded n ∙ sym (leads-not r log grows goes_back none n);
     cut = cut ∙ is.cut ∙ sym (cut-same r log grows goes_back none);
   }
 
   -- the numbers read so far that lead down to 0 are no greater
-  pub below-next : (n : ℕ) → is_led old.led n ≡ true → n ≤ r.lsn
-  below-next n e = led-below r log grows goes_back (is_led old.led) is.led n e
+  pub below-next : (n : ℕ) → is_grounded old.grounded n ≡ true → n ≤ r.lsn
+  below-next n e = grounded-below r log grows goes_back (is_grounded old.grounded) is.grounded n e

@@ -3,5 +3,5 @@ pub mod Chains
 pub mod Reported
 pub mod Finds
 pub mod Recoveries
-pub mod Led
-pub mod Cutting
+pub mod GroundedLsns
+pub mod CutReader

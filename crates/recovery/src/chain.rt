@@ -6,7 +6,7 @@ ghost use Rattle.redo_record.specs.RecordSet.{records_of};
 ghost use Rattle.writer_core.specs.Logs.{log_of, log_of_set, is_growing};
 ghost use Rattle.recovery.specs.Chains.{IsChainTo};
 
-use crate::cutting::are_growing;
+use crate::cut_reader::are_growing;
 use redo_record::{RecordSet, SharedRecord};
 use std::alloc::{AllocError, Global};
 

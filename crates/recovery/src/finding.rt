@@ -12,7 +12,7 @@ ghost use Rattle.recovery.specs.Finds.{live_records};
 ghost use Rattle.recovery.specs.Reported.{reports_in};
 
 use crate::chain::{chain_of, firsts};
-use crate::cutting::shared_cut_of;
+use crate::cut_reader::shared_cut_of;
 use crate::found::Found;
 use crate::reported::{found_in, newest_lineage};
 use std::alloc::Global;

@@ -3,14 +3,14 @@
 #![tactic(auto)]
 
 mod chain;
-mod cutting;
+mod cut_reader;
 mod finding;
 mod found;
-mod led;
+mod grounded_lsns;
+mod messages;
 mod recovery;
 mod reported;
-mod speaking;
 
-pub use cutting::{cut_of, is_growing};
+pub use cut_reader::{cut_of, is_growing};
 pub use found::Found;
 pub use recovery::Recovery;

@@ -6,8 +6,8 @@ ghost use Rattle.recovery.specs.Cuts.{are_older};
 
 use crate::finding::find;
 use crate::found::Found;
+use crate::messages::{fences, installs, later_fences, later_installs};
 use crate::reported::records_said;
-use crate::speaking::{fences, installs, later_fences, later_installs};
 use plan::CheckedPlan;
 use std::alloc::Global;
 use std::sync::Arc;

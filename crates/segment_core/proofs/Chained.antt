@@ -14,7 +14,7 @@ use Rattle.segment_core.specs.Chains.{AreChainsOf}
 use Rattle.segment_core.specs.Rising.{AreGrowing}
 use Rattle.segment_core.specs.Pending.{IsReached, IsPending, IsReleased}
 use Rattle.segment_core.specs.Pending.IsReleased.{itself, next}
-use Rattle.segment_core.specs.PendingRecords.{waiters, IsPendingIn, AreReleased}
+use Rattle.segment_core.specs.PendingRecords.{pending_under, IsPendingIn, AreReleased}
 use Rattle.segment_core.proofs.Rise.{is_in}
 use Rattle.segment_core.proofs.Releasing.{CanTell, keeps_number, one_waits, waits_still, waits_now, still_number, waited, not_released, waits_on, reaches_number, released_number}
 
@@ -42,7 +42,7 @@ one_greatest P Q a b to from p q =
     let m : b ≤ a = elim q.is_one [ inl z ↦ omega arith | inr h ↦ p.at_least_each b (from b h) ] in
     omega arith
 
-pub same_chains : (records : List Redo) (old new : Chains) → ((k : ℕ) → waiters new.pending k ≡ waiters old.pending k) → new.point ≡ old.point → AreChainsOf records old → AreChainsOf records new
+pub same_chains : (records : List Redo) (old new : Chains) → ((k : ℕ) → pending_under new.pending k ≡ pending_under old.pending k) → new.point ≡ old.point → AreChainsOf records old → AreChainsOf records new
 same_chains records old new same point c = record {
   kept = λ k m w. subst (IsIn m) (sym (same k)) (c.kept k m w);
   add_pending = λ k m w. c.add_pending k m (subst (IsIn m) (same k) w);
@@ -55,7 +55,7 @@ scl-pending r records far fall = one_greatest (IsGroundedNumber records) (IsGrou
 
 -- a record waits
 pub one_more_waits : (r : Redo) (records : List Redo) (old new : Chains) → (IsReached records r.prev_group → ⊥) → GroupLinksFall (with_record r records)
-    → ((k : ℕ) → waiters new.pending k ≡ (if k == r.prev_group then waiters old.pending k ++ r.lsn ∷ [] else waiters old.pending k)) → new.point ≡ old.point → AreChainsOf records old → AreChainsOf (with_record r records) new
+    → ((k : ℕ) → pending_under new.pending k ≡ (if k == r.prev_group then pending_under old.pending k ++ r.lsn ∷ [] else pending_under old.pending k)) → new.point ≡ old.point → AreChainsOf records old → AreChainsOf (with_record r records) new
 one_more_waits r records old new far fall is point c = record {
   kept = λ k m w. kept k m (one_waits r records far k m w);
   add_pending = λ k m w. add_pending k m w;
@@ -77,16 +77,16 @@ one_more_waits r records old new far fall is point c = record {
     in_of (z ∷ zs) x y (inl e) = inl (inl e)
     in_of (z ∷ zs) x y (inr i) = elim (in_of zs x y i) [ inl j ↦ inl (inr j) | inr e ↦ inr e ]
 
-    kept : (k m : ℕ) → IsPending records k m ⊎ ((r.prev_group ≡ k) × (r.lsn ≡ m)) → IsIn m (waiters new.pending k)
+    kept : (k m : ℕ) → IsPending records k m ⊎ ((r.prev_group ≡ k) × (r.lsn ≡ m)) → IsIn m (pending_under new.pending k)
     kept k m (inl w) = elim (cases_eq k r.prev_group) [
-      | inl e ↦ subst (IsIn m) (sym (is k ∙ (rw (eq-eqb k r.prev_group e) refl))) (front_in (waiters old.pending k) r.lsn m (c.kept k m w))
+      | inl e ↦ subst (IsIn m) (sym (is k ∙ (rw (eq-eqb k r.prev_group e) refl))) (front_in (pending_under old.pending k) r.lsn m (c.kept k m w))
       | inr ne ↦ subst (IsIn m) (sym (is k ∙ (rw (ne_eqb k r.prev_group ne) refl))) (c.kept k m w)
     ]
-    kept k m (inr p) = subst (IsIn m) (sym (is k ∙ (rw (eq-eqb k r.prev_group (sym p.0)) refl))) (subst (λ x. IsIn x (waiters old.pending k ++ r.lsn ∷ [])) p.1 (last_in (waiters old.pending k) r.lsn))
+    kept k m (inr p) = subst (IsIn m) (sym (is k ∙ (rw (eq-eqb k r.prev_group (sym p.0)) refl))) (subst (λ x. IsIn x (pending_under old.pending k ++ r.lsn ∷ [])) p.1 (last_in (pending_under old.pending k) r.lsn))
 
-    add_pending : (k m : ℕ) → IsIn m (waiters new.pending k) → IsPending (with_record r records) k m
+    add_pending : (k m : ℕ) → IsIn m (pending_under new.pending k) → IsPending (with_record r records) k m
     add_pending k m i = elim (cases_eq k r.prev_group) [
-      | inl e ↦ elim (in_of (waiters old.pending k) r.lsn m (subst (IsIn m) (is k ∙ (rw (eq-eqb k r.prev_group e) refl)) i)) [
+      | inl e ↦ elim (in_of (pending_under old.pending k) r.lsn m (subst (IsIn m) (is k ∙ (rw (eq-eqb k r.prev_group e) refl)) i)) [
         | inl j ↦ waits_still r records far k m (c.add_pending k m j)
         | inr f ↦ subst (λ x. IsPending (with_record r records) x m) (sym e) (subst (IsPending (with_record r records) r.prev_group) (sym f) (waits_now r records far))
       ]
@@ -152,25 +152,25 @@ module _ (r : Redo) (records : List Redo) (released : List ℕ) (old : Chains) (
       greatest : IsGreatest (IsGroundedNumber all) (max old.point last)
       greatest = record { is_one = one (cases_lt old.point last); at_least_each = λ m p. each m (reaches_number r records near tell m p) }
 
-  pub one_more_lands : (new : Chains) → ((k : ℕ) → waiters new.pending k ≡ (if any (λ n. n == k) released then [] else waiters old.pending k)) → new.point ≡ scl (with_record r records) → AreChainsOf (with_record r records) new
+  pub one_more_lands : (new : Chains) → ((k : ℕ) → pending_under new.pending k ≡ (if any (λ n. n == k) released then [] else pending_under old.pending k)) → new.point ≡ scl (with_record r records) → AreChainsOf (with_record r records) new
   one_more_lands new is point = record { kept = λ k m w. kept k m w; add_pending = λ k m i. add_pending k m i; point = point }
     where
       eq_of : (x k : ℕ) → (x == k) ≡ true → x ≡ k
       eq_of x k h = grind (arith, nat_tests)
 
-      asleep : (k : ℕ) → any (λ n. n == k) released ≡ false → (if any (λ n. n == k) released then [] else waiters old.pending k) ≡ waiters old.pending k
+      asleep : (k : ℕ) → any (λ n. n == k) released ≡ false → (if any (λ n. n == k) released then [] else pending_under old.pending k) ≡ pending_under old.pending k
       asleep k e = rw e refl
 
-      awake : (k : ℕ) → any (λ n. n == k) released ≡ true → (if any (λ n. n == k) released then [] else waiters old.pending k) ≡ []
+      awake : (k : ℕ) → any (λ n. n == k) released ≡ true → (if any (λ n. n == k) released then [] else pending_under old.pending k) ≡ []
       awake k e = rw e refl
 
-      kept : (k m : ℕ) → IsPending all k m → IsIn m (waiters new.pending k)
+      kept : (k m : ℕ) → IsPending all k m → IsIn m (pending_under new.pending k)
       kept k m w = elim (cases_Bool (any (λ n. n == k) released)) [
         | inl e ↦ absurd (let (x, i, f) = any_passes (λ n. n == k) released e in not_released r records near tell k m w (wakes k (subst (λ n. IsIn n released) (eq_of x k f) i)))
         | inr e ↦ subst (IsIn m) (sym (is k ∙ asleep k e)) (c.kept k m (waited r records near tell k m w))
       ]
 
-      add_pending : (k m : ℕ) → IsIn m (waiters new.pending k) → IsPending all k m
+      add_pending : (k m : ℕ) → IsIn m (pending_under new.pending k) → IsPending all k m
       add_pending k m i = elim (cases_Bool (any (λ n. n == k) released)) [
         | inl e ↦ absurd (subst (IsIn m) (is k ∙ awake k e) i)
         | inr e ↦ waits_on r records near tell k m (c.add_pending k m (subst (IsIn m) (is k ∙ asleep k e) i)) (λ w. true≢false (sym (any_from (λ n. n == k) released k (woke k w) (eq-eqb k k refl)) ∙ e))

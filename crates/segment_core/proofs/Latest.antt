@@ -7,7 +7,7 @@ use Rattle.std.proofs.Math.Seq.{drop-cons}
 use Rattle.std.specs.List.{filter, list_any, remove}
 use Rattle.volume_model.specs.Lists.{any, IsIn}
 use Rattle.segment_core.specs.declared.pending_record.PendingRecord.{PendingRecord}
-use Rattle.segment_core.specs.Recent.{recent_waiters}
+use Rattle.segment_core.specs.RecentPending.{recent_under}
 
 eq-true : (x n : ℕ) → (x == n) ≡ true → x ≡ n
 eq-true x n h = grind (arith, nat_tests)
@@ -16,7 +16,7 @@ swapped : (x n : ℕ) → (x == n) ≡ (n == x)
 swapped x n = grind (arith, nat_tests)
 
 -- somebody waits for the number
-pub some_recent : (b : ℕ) (pending : List PendingRecord) → list_any (λ w. w.before == b) pending ≡ true → (m : ℕ) × IsIn m (recent_waiters pending b)
+pub some_recent : (b : ℕ) (pending : List PendingRecord) → list_any (λ w. w.before == b) pending ≡ true → (m : ℕ) × IsIn m (recent_under pending b)
 some_recent b [] some = absurd (true≢false (sym some))
 some_recent b (w ∷ pending) some =
     elim (cases_Bool (w.before == b)) [
@@ -25,7 +25,7 @@ some_recent b (w ∷ pending) some =
     ]
 
 -- or nobody does
-pub no_recent : (b : ℕ) (pending : List PendingRecord) → list_any (λ w. w.before == b) pending ≡ false → recent_waiters pending b ≡ []
+pub no_recent : (b : ℕ) (pending : List PendingRecord) → list_any (λ w. w.before == b) pending ≡ false → recent_under pending b ≡ []
 no_recent b [] none = refl
 no_recent b (w ∷ pending) none =
     elim (cases_Bool (w.before == b)) [
@@ -54,10 +54,10 @@ abbrev pub is_left : List ℕ → PendingRecord → Bool
 is_left released w = not (list_any (λ n. n == w.before) released)
 
 -- those that waited for a released number are gone, and all others are left
-pub left_over : (released : List ℕ) (pending : List PendingRecord) (k : ℕ) → recent_waiters (filter (is_left released) pending) k ≡ (if any (λ n. n == k) released then [] else recent_waiters pending k)
+pub left_over : (released : List ℕ) (pending : List PendingRecord) (k : ℕ) → recent_under (filter (is_left released) pending) k ≡ (if any (λ n. n == k) released then [] else recent_under pending k)
 left_over released [] k = elim (cases_Bool (any (λ n. n == k) released)) [ inl e ↦ rw e refl | inr e ↦ rw e refl ]
 left_over released (w ∷ pending) k =
-    let rest : recent_waiters (filter (is_left released) pending) k ≡ (if any (λ n. n == k) released then [] else recent_waiters pending k) = left_over released pending k in
+    let rest : recent_under (filter (is_left released) pending) k ≡ (if any (λ n. n == k) released then [] else recent_under pending k) = left_over released pending k in
     let same : list_any (λ n. n == w.before) released ≡ any (λ n. n == w.before) released = same_any (λ n. n == w.before) released in
     elim (cases_Bool (w.before == k)) [
       | inl e ↦ elim (cases_Bool (any (λ n. n == k) released)) [
@@ -71,10 +71,10 @@ left_over released (w ∷ pending) k =
     ]
 
 -- one more waits, behind the others
-pub one_behind : (w : PendingRecord) (pending : List PendingRecord) (k : ℕ) → recent_waiters (pending ++ w ∷ []) k ≡ (if w.before == k then recent_waiters pending k ++ w.number ∷ [] else recent_waiters pending k)
+pub one_behind : (w : PendingRecord) (pending : List PendingRecord) (k : ℕ) → recent_under (pending ++ w ∷ []) k ≡ (if w.before == k then recent_under pending k ++ w.number ∷ [] else recent_under pending k)
 one_behind w [] k = refl
 one_behind w (v ∷ pending) k =
-    let rest : recent_waiters (pending ++ w ∷ []) k ≡ (if w.before == k then recent_waiters pending k ++ w.number ∷ [] else recent_waiters pending k) = one_behind w pending k in
+    let rest : recent_under (pending ++ w ∷ []) k ≡ (if w.before == k then recent_under pending k ++ w.number ∷ [] else recent_under pending k) = one_behind w pending k in
     elim (cases_Bool (v.before == k)) [
       | inl e ↦ elim (cases_Bool (w.before == k)) [
         | inl f ↦ rw (e, f) (ap (λ ms. v.number ∷ ms) (rw f at rest))
@@ -84,41 +84,41 @@ one_behind w (v ∷ pending) k =
     ]
 
 -- and so it does behind the earlier ones
-pub one_behind_all : (w : PendingRecord) (pending : List PendingRecord) (earlier : List ℕ) (k : ℕ) → earlier ++ recent_waiters (pending ++ w ∷ []) k ≡ (if k == w.before then (earlier ++ recent_waiters pending k) ++ w.number ∷ [] else earlier ++ recent_waiters pending k)
+pub one_behind_all : (w : PendingRecord) (pending : List PendingRecord) (earlier : List ℕ) (k : ℕ) → earlier ++ recent_under (pending ++ w ∷ []) k ≡ (if k == w.before then (earlier ++ recent_under pending k) ++ w.number ∷ [] else earlier ++ recent_under pending k)
 one_behind_all w pending earlier k =
-    let this : recent_waiters (pending ++ w ∷ []) k ≡ (if w.before == k then recent_waiters pending k ++ w.number ∷ [] else recent_waiters pending k) = one_behind w pending k in
+    let this : recent_under (pending ++ w ∷ []) k ≡ (if w.before == k then recent_under pending k ++ w.number ∷ [] else recent_under pending k) = one_behind w pending k in
     elim (cases_Bool (w.before == k)) [
-      | inl e ↦ (let f : (k == w.before) ≡ true = swapped k w.before ∙ e in rw f (ap (λ ms. earlier ++ ms) (rw e at this) ∙ sym (append_assoc earlier (recent_waiters pending k) (w.number ∷ []))))
+      | inl e ↦ (let f : (k == w.before) ≡ true = swapped k w.before ∙ e in rw f (ap (λ ms. earlier ++ ms) (rw e at this) ∙ sym (append_assoc earlier (recent_under pending k) (w.number ∷ []))))
       | inr e ↦ (let f : (k == w.before) ≡ false = swapped k w.before ∙ e in rw f (ap (λ ms. earlier ++ ms) (rw e at this)))
     ]
 
 -- the first of them is moved behind the earlier ones
-pub moved_over : (pending : List PendingRecord) (w : PendingRecord) (earlier later : ℕ → List ℕ) → 0 < length pending → w ≡ get_or pending 0 w → ((k : ℕ) → later k ≡ (if k == w.before then earlier k ++ w.number ∷ [] else earlier k)) → (k : ℕ) → later k ++ recent_waiters (remove pending 0) k ≡ earlier k ++ recent_waiters pending k
+pub moved_over : (pending : List PendingRecord) (w : PendingRecord) (earlier later : ℕ → List ℕ) → 0 < length pending → w ≡ get_or pending 0 w → ((k : ℕ) → later k ≡ (if k == w.before then earlier k ++ w.number ∷ [] else earlier k)) → (k : ℕ) → later k ++ recent_under (remove pending 0) k ≡ earlier k ++ recent_under pending k
 moved_over [] w earlier later some at is k = absurd (omega arith)
 moved_over (v ∷ pending) w earlier later some at is k =
-    subst (λ (u : PendingRecord). later k ++ recent_waiters pending k ≡ earlier k ++ recent_waiters (u ∷ pending) k) at (elim (cases_Bool (w.before == k)) [
+    subst (λ (u : PendingRecord). later k ++ recent_under pending k ≡ earlier k ++ recent_under (u ∷ pending) k) at (elim (cases_Bool (w.before == k)) [
       | inl e ↦ (
           let f : (k == w.before) ≡ true = swapped k w.before ∙ e in
           let more : later k ≡ (if k == w.before then earlier k ++ w.number ∷ [] else earlier k) = is k in
-          rw e (ap (λ ms. ms ++ recent_waiters pending k) (rw f at more) ∙ append_assoc (earlier k) (w.number ∷ []) (recent_waiters pending k)))
+          rw e (ap (λ ms. ms ++ recent_under pending k) (rw f at more) ∙ append_assoc (earlier k) (w.number ∷ []) (recent_under pending k)))
       | inr e ↦ (
           let f : (k == w.before) ≡ false = swapped k w.before ∙ e in
           let more : later k ≡ (if k == w.before then earlier k ++ w.number ∷ [] else earlier k) = is k in
-          rw e (ap (λ ms. ms ++ recent_waiters pending k) (rw f at more)))
+          rw e (ap (λ ms. ms ++ recent_under pending k) (rw f at more)))
     ])
 
 -- the next one waits for the number
-pub next_waits : (pending : List PendingRecord) (i b : ℕ) (d : PendingRecord) → i < length pending → (get_or pending i d).before ≡ b → recent_waiters (drop i pending) b ≡ (get_or pending i d).number ∷ recent_waiters (drop (i + 1) pending) b
+pub next_waits : (pending : List PendingRecord) (i b : ℕ) (d : PendingRecord) → i < length pending → (get_or pending i d).before ≡ b → recent_under (drop i pending) b ≡ (get_or pending i d).number ∷ recent_under (drop (i + 1) pending) b
 next_waits pending i b d l e =
     let next : i + 1 ≡ suc i = omega arith in
     let f : ((get_or pending i d).before == b) ≡ true = grind (arith, nat_tests) in
-    let this : recent_waiters (get_or pending i d ∷ drop (i + 1) pending) b ≡ (get_or pending i d).number ∷ recent_waiters (drop (i + 1) pending) b = rw f refl in
-    ap (λ ws. recent_waiters ws b) (drop-cons pending i d l) ∙ ap (λ j. recent_waiters (get_or pending i d ∷ drop j pending) b) (sym next) ∙ this
+    let this : recent_under (get_or pending i d ∷ drop (i + 1) pending) b ≡ (get_or pending i d).number ∷ recent_under (drop (i + 1) pending) b = rw f refl in
+    ap (λ ws. recent_under ws b) (drop-cons pending i d l) ∙ ap (λ j. recent_under (get_or pending i d ∷ drop j pending) b) (sym next) ∙ this
 
 -- or it waits for another one
-pub next_waits_not : (pending : List PendingRecord) (i b : ℕ) (d : PendingRecord) → i < length pending → (get_or pending i d).before ≢ b → recent_waiters (drop i pending) b ≡ recent_waiters (drop (i + 1) pending) b
+pub next_waits_not : (pending : List PendingRecord) (i b : ℕ) (d : PendingRecord) → i < length pending → (get_or pending i d).before ≢ b → recent_under (drop i pending) b ≡ recent_under (drop (i + 1) pending) b
 next_waits_not pending i b d l ne =
     let next : i + 1 ≡ suc i = omega arith in
     let f : ((get_or pending i d).before == b) ≡ false = grind (arith, nat_tests) in
-    let this : recent_waiters (get_or pending i d ∷ drop (i + 1) pending) b ≡ recent_waiters (drop (i + 1) pending) b = rw f refl in
-    ap (λ ws. recent_waiters ws b) (drop-cons pending i d l) ∙ ap (λ j. recent_waiters (get_or pending i d ∷ drop j pending) b) (sym next) ∙ this
+    let this : recent_under (get_or pending i d ∷ drop (i + 1) pending) b ≡ recent_under (drop (i + 1) pending) b = rw f refl in
+    ap (λ ws. recent_under ws b) (drop-cons pending i d l) ∙ ap (λ j. recent_under (get_or pending i d ∷ drop j pending) b) (sym next) ∙ this

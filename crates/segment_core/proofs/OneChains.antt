@@ -10,7 +10,7 @@ use Rattle.segment_core.specs.declared.chains.Chains.{Chains}
 use Rattle.segment_core.specs.Chains.{AreChainsOf}
 use Rattle.segment_core.specs.OneChain.{IsOneChain}
 use Rattle.segment_core.specs.Pending.{IsReached}
-use Rattle.segment_core.specs.PendingRecords.{waiters}
+use Rattle.segment_core.specs.PendingRecords.{pending_under}
 use Rattle.segment_core.proofs.Chained.{one_greatest}
 
 -- one record more, right behind the last
@@ -62,7 +62,7 @@ last_is_point records m fall is = one_greatest (IsGroundedNumber records) (IsGro
     greatest = record { is_one = last_reached records 0 m records (λ r i. i) is (inl refl); at_least_each = each }
 
 -- where nobody is kept waiting, the chains are those of the records
-pub one_chain : (records : List Redo) (chains : Chains) (m : ℕ) → ((k : ℕ) → waiters chains.pending k ≡ []) → chains.point ≡ m → GroupLinksFall records → IsOneChain 0 records m → AreChainsOf records chains
+pub one_chain : (records : List Redo) (chains : Chains) (m : ℕ) → ((k : ℕ) → pending_under chains.pending k ≡ []) → chains.point ≡ m → GroupLinksFall records → IsOneChain 0 records m → AreChainsOf records chains
 one_chain records chains m none point fall is = record {
   kept = λ k n w. let (r, i, e, f) = w.1 in absurd (w.0 (subst (IsReached records) e (each_reached records 0 m records (λ t j. j) is (inl refl) r i)));
   add_pending = λ k n i. absurd (subst (IsIn n) (none k) i);

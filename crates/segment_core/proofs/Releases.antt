@@ -5,7 +5,7 @@ use Rattle.std.proofs.lemmas.Bool.Decides.{nat_tests}
 use Rattle.std.specs.Ordering.{nat_cmp}
 use Rattle.std.specs.BTreeMap.{BTreeMap, get, is_at}
 use Rattle.volume_model.specs.Lists.{any, IsIn}
-use Rattle.segment_core.specs.declared.waiters.Waiters.{Waiters}
+use Rattle.segment_core.specs.declared.pending_lsns.PendingLsns.{PendingLsns}
 use Rattle.segment_core.specs.Listed.{numbers_in}
 
 -- a number is found on its own, and by no other
@@ -13,7 +13,7 @@ pub found_by : (x k : ℕ) → is_at (nat_cmp x) k ≡ (x == k)
 found_by x k = grind (arith, nat_tests)
 
 -- nobody waits for the number that is taken out
-pub taken_out : (old new : BTreeMap ℕ Waiters) (x : ℕ) → ((k : ℕ) → get nat_cmp new k ≡ cond (is_at (nat_cmp x) k) None (get nat_cmp old k)) → (k : ℕ) → numbers_in (get nat_cmp new k) ≡ (if x == k then [] else numbers_in (get nat_cmp old k))
+pub taken_out : (old new : BTreeMap ℕ PendingLsns) (x : ℕ) → ((k : ℕ) → get nat_cmp new k ≡ cond (is_at (nat_cmp x) k) None (get nat_cmp old k)) → (k : ℕ) → numbers_in (get nat_cmp new k) ≡ (if x == k then [] else numbers_in (get nat_cmp old k))
 taken_out old new x is k =
     elim (cases_Bool (x == k)) [
       | inl e ↦ rw e (ap numbers_in (is k ∙ ap (λ b. cond b None (get nat_cmp old k)) (found_by x k ∙ e)))

@@ -6,8 +6,8 @@ use Rattle.segment_core.specs.declared.earlier.Earlier.{Earlier}
 use Rattle.segment_core.specs.Listed.{numbers_in, IsRoomy}
 
 -- the LSNs pending under the LSN
-abbrev pub earlier_waiters : Earlier → ℕ → List ℕ
-earlier_waiters earlier k = numbers_in (get nat_cmp earlier.waiting k)
+abbrev pub earlier_under : Earlier → ℕ → List ℕ
+earlier_under earlier k = numbers_in (get nat_cmp earlier.waiting k)
 
 -- there is room for one more record pending under the LSN
 abbrev pub IsRoomyFor : ℕ → Earlier → Type 0

@@ -2,18 +2,18 @@
 use Rattle.std.specs.Prelude.{ℕ, ◌<◌, ◌++◌, List, length, vec_capacity}
 use Rattle.volume_model.specs.Lists.{IsIn}
 use Rattle.segment_core.specs.declared.pending_records.PendingRecords.{PendingRecords}
-use Rattle.segment_core.specs.Earlier.{earlier_waiters}
-use Rattle.segment_core.specs.Recent.{recent_waiters}
+use Rattle.segment_core.specs.Earlier.{earlier_under}
+use Rattle.segment_core.specs.RecentPending.{recent_under}
 use Rattle.segment_core.specs.Rising.{AreGrowing}
 use Rattle.segment_core.specs.Pending.{IsReleased}
 
 -- the LSNs pending under k, in the order in which they came
-abbrev pub waiters : PendingRecords → ℕ → List ℕ
-waiters pending k = earlier_waiters pending.earlier k ++ recent_waiters pending.recent.items k
+abbrev pub pending_under : PendingRecords → ℕ → List ℕ
+pending_under pending k = earlier_under pending.earlier k ++ recent_under pending.recent.items k
 
 -- LSN m is pending under k
 abbrev pub IsPendingIn : PendingRecords → ℕ → ℕ → Type 0
-IsPendingIn pending k m = IsIn m (waiters pending k)
+IsPendingIn pending k m = IsIn m (pending_under pending k)
 
 -- there is room for one more pending record, under any LSN
 abbrev pub HasRoomFor : ℕ → PendingRecords → Type 0

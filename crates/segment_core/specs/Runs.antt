@@ -1,7 +1,7 @@
 -- A set of records in runs.
 use Rattle.std.specs.Prelude.{◌≡◌, ◌+◌, ◌<◌, ◌^◌, false, List, length, IsSome, vec_capacity}
 use Rattle.volume_model.specs.Redo.{Redo}
-use Rattle.segment_core.specs.declared.place.Place.{Place}
+use Rattle.segment_core.specs.declared.run_place.RunPlace.{RunPlace}
 use Rattle.segment_core.specs.declared.runs.Runs.{Runs}
 use Rattle.segment_core.specs.Joined.{joined}
 use Rattle.segment_core.specs.Places.{is_open}
@@ -21,6 +21,6 @@ pub record HasSpare (runs : Runs) : Type 0 where
   pub listed : length runs.runs.items < vec_capacity runs.runs
 
 -- There is room for one more record at this place.
-pub record HasRoomAt (runs : Runs) (place : Place) : Type 0 where
+pub record HasRoomAt (runs : Runs) (place : RunPlace) : Type 0 where
   pub counted : length (records_of runs) + 1 < 2 ^ 64
   pub spare : is_open (runs_of runs) place ≡ false → HasSpare runs

@@ -104,7 +104,7 @@ impl Chains {
     }
 
     /// Adds a record whose chain is complete and that releases these LSNs, its own first.
-    pub fn land(&mut self, released: &[u64])
+    pub fn complete(&mut self, released: &[u64])
         ensures { (r : Redo) (records : List Redo) → IsReached records r.prev_group → GroupLinksFall
             (with_record r records) → AreReleased (IsPendingIn self.old.pending) r.lsn released.now → AreChainsOf
             records self.old → AreChainsOf (with_record r records) self.new }

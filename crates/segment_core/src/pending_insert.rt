@@ -1,12 +1,12 @@
 //! Records that are prepared to be added.
 
 use crate::chains::Chains;
-use crate::place::Place;
+use crate::run_place::RunPlace;
 use redo_record::SharedRecord;
 
 /// The effect of a new record on the chains.
 #[derive(Drop)]
-pub enum Link {
+pub enum ChainEffect {
     /// Its chain is complete, and no record is pending under it.
     Ends,
     /// Its chain is complete, and it releases these LSNs, its own first.
@@ -26,31 +26,31 @@ pub struct OfBlock {
 /// A record that is prepared to be added: its place, and its effect on the chains.
 #[derive(Drop)]
 pub struct PendingInsert {
-    pub place: Place,
+    pub place: RunPlace,
     pub packet: SharedRecord,
     /// The record for its block's list, if the index of blocks is built.
     pub of_block: Option<OfBlock>,
-    pub link: Link,
+    pub link: ChainEffect,
 }
 
-impl Link {
+impl ChainEffect {
     ghost use Rattle.std.specs.Prelude.{◌≡◌, List};
     ghost use Rattle.volume_model.specs.Redo.{Redo, scl, with_record};
     ghost use Rattle.volume_model.specs.Grounded.{GroupLinksFall};
     ghost use Rattle.redo_record.specs.SharedRecord.{shared_redo};
     ghost use Rattle.segment_core.specs.Chains.{AreChainsOf};
-    ghost use Rattle.segment_core.specs.Link.{CanTie, IsLinkOf};
+    ghost use Rattle.segment_core.specs.ChainEffect.{CanTie, IsChainEffectOf};
 
     /// Returns the complete point after the record is added.
     pub fn point(&self, chains: &Chains, packet: &SharedRecord) -> u64
         ensures { (records : List Redo) → GroupLinksFall (with_record (shared_redo packet.now) records)
-            → IsLinkOf records chains.now (shared_redo packet.now) self.now → AreChainsOf records chains.now → result
-            ≡ scl (with_record (shared_redo packet.now) records) }
+            → IsChainEffectOf records chains.now (shared_redo packet.now) self.now → AreChainsOf records chains.now
+            → result ≡ scl (with_record (shared_redo packet.now) records) }
     {
         match self {
-            Link::Ends => chains.point_with(&[packet.lsn()]),
-            Link::Releases(released) => chains.point_with(released.as_slice()),
-            Link::Pending => chains.point(),
+            ChainEffect::Ends => chains.point_with(&[packet.lsn()]),
+            ChainEffect::Releases(released) => chains.point_with(released.as_slice()),
+            ChainEffect::Pending => chains.point(),
         }
     }
 
@@ -59,13 +59,13 @@ impl Link {
     pub fn tie(&self, chains: &mut Chains, packet: &SharedRecord)
         requires { CanTie self.now chains.old (shared_redo packet.now) }
         ensures { (records : List Redo) → GroupLinksFall (with_record (shared_redo packet.now) records)
-            → IsLinkOf records chains.old (shared_redo packet.now) self.now → AreChainsOf records chains.old
+            → IsChainEffectOf records chains.old (shared_redo packet.now) self.now → AreChainsOf records chains.old
             → AreChainsOf (with_record (shared_redo packet.now) records) chains.new }
     {
         match self {
-            Link::Ends => chains.land(&[packet.lsn()]),
-            Link::Releases(released) => chains.land(released.as_slice()),
-            Link::Pending => chains.add_pending(packet.prev_group(), packet.lsn()),
+            ChainEffect::Ends => chains.complete(&[packet.lsn()]),
+            ChainEffect::Releases(released) => chains.complete(released.as_slice()),
+            ChainEffect::Pending => chains.add_pending(packet.prev_group(), packet.lsn()),
         }
     }
 }

@@ -3,13 +3,13 @@
 ghost use Rattle.std.specs.Prelude.{ℕ, ◌<◌, ◌++◌};
 ghost use Rattle.std.proofs.Props.{props};
 ghost use Rattle.volume_model.specs.Lists.{IsIn};
-ghost use Rattle.segment_core.specs.Earlier.{earlier_waiters};
-ghost use Rattle.segment_core.specs.Recent.{recent_waiters};
+ghost use Rattle.segment_core.specs.Earlier.{earlier_under};
+ghost use Rattle.segment_core.specs.RecentPending.{recent_under};
 
 use crate::earlier::Earlier;
-use crate::numbers::add_all;
 use crate::pending_record::PendingRecord;
-use crate::recent::{add_waiters, has_pending, release};
+use crate::recent_pending::{add_pending_under, has_pending, release};
+use crate::sorted_lsns::add_all;
 use std::alloc::{AllocError, Global};
 
 /// The initial capacity for LSNs that are released at once.
@@ -24,17 +24,17 @@ const RECENT: usize = 16;
 pub struct PendingRecords {
     earlier: Earlier,
     recent: Vec<PendingRecord>,
-    ghost above: { (k m : ℕ) → IsIn m (earlier_waiters earlier k ++ recent_waiters recent.items k) → k < m } by { Prim.hlevel props },
+    ghost above: { (k m : ℕ) → IsIn m (earlier_under earlier k ++ recent_under recent.items k) → k < m } by { Prim.hlevel props },
 }
 
 impl PendingRecords {
     ghost use Rattle.std.specs.Prelude.{ℕ, ◌≡◌, ◌<◌, [], ◌∷◌, ◌++◌, if◌then◌else◌, ◌==◌, length, vec_capacity, IfOk, OnOk, MatchBool};
     ghost use Rattle.volume_model.specs.Lists.{any};
-    ghost use Rattle.segment_core.specs.PendingRecords.{waiters, HasRoomFor, IsPendingIn, AreReleased};
+    ghost use Rattle.segment_core.specs.PendingRecords.{pending_under, HasRoomFor, IsPendingIn, AreReleased};
 
     /// Makes an empty queue.
     pub fn new(alloc: Global) -> PendingRecords
-        ensures { (k : ℕ) → waiters result k ≡ [] }
+        ensures { (k : ℕ) → pending_under result k ≡ [] }
     {
         PendingRecords {
             earlier: Earlier::new(alloc),
@@ -57,7 +57,7 @@ impl PendingRecords {
     /// `AllocError` if memory runs out. The same records are pending, in the same order.
     #[inline(always)]
     pub fn make_room(&mut self, alloc: Global, number: u64) -> Result<(), AllocError>
-        ensures same { (k : ℕ) → waiters self.new k ≡ waiters self.old k }
+        ensures same { (k : ℕ) → pending_under self.new k ≡ pending_under self.old k }
         ensures room { OnOk result (HasRoomFor number self.new) }
     {
         if self.recent.len() < self.recent.capacity() {
@@ -73,7 +73,7 @@ impl PendingRecords {
     /// `AllocError` if memory runs out. Some may have been moved.
     #[inline(never)]
     fn move_to_earlier(&mut self, alloc: Global) -> Result<(), AllocError>
-        ensures same { (k : ℕ) → waiters self.new k ≡ waiters self.old k }
+        ensures same { (k : ℕ) → pending_under self.new k ≡ pending_under self.old k }
         ensures room { OnOk result (length self.new.recent.items < vec_capacity self.new.recent) }
     {
         while !self.recent.is_empty() {
@@ -87,22 +87,23 @@ impl PendingRecords {
 
     /// Adds a record that is pending under an LSN.
     #[inline(always)]
-    pub fn add_pending(&mut self, number: u64, waiter: u64)
+    pub fn add_pending(&mut self, number: u64, pending: u64)
         requires room { HasRoomFor number self.old }
-        requires above { number < waiter }
-        ensures { (k : ℕ) → waiters self.new k ≡ (if k == number then waiters self.old k ++ waiter ∷ [] else waiters
-            self.old k) }
+        requires above { number < pending }
+        ensures { (k : ℕ) → pending_under self.new k ≡ (if k == number then pending_under self.old k ++ pending ∷ []
+            else pending_under self.old k) }
     {
         self.recent.push_reserved(PendingRecord {
             before: number,
-            number: waiter,
+            number: pending,
         });
     }
 
     /// Removes the records pending under these LSNs.
     #[inline(always)]
     pub fn release(&mut self, released: &[u64])
-        ensures { (k : ℕ) → waiters self.new k ≡ (if any (λ n. n == k) released.now then [] else waiters self.old k) }
+        ensures { (k : ℕ) → pending_under self.new k ≡ (if any (λ n. n == k) released.now then [] else
+            pending_under self.old k) }
     {
         release(&mut self.recent, released);
         self.earlier.release(released);
@@ -122,7 +123,7 @@ impl PendingRecords {
         while next < released.len() {
             let number = released[next];
             add_all(&mut released, self.earlier.of(number))?;
-            add_waiters(self.recent.as_slice(), number, &mut released)?;
+            add_pending_under(self.recent.as_slice(), number, &mut released)?;
             next += 1;
         }
         Ok(released)

@@ -7,8 +7,8 @@ ghost use Rattle.segment_core.specs.Records.{records_of};
 ghost use Rattle.segment_core.specs.Reported.{IsReported, contents_with};
 
 use crate::pending_insert::PendingInsert;
-use crate::place::Place;
 use crate::records::Records;
+use crate::run_place::RunPlace;
 use lineage::Lineage;
 use pages::BLOCK;
 use redo_record::SharedRecord;
@@ -35,7 +35,7 @@ impl SegmentState {
     ghost use Rattle.redo_record.specs.SharedRecord.{shared_redo};
     ghost use Rattle.wire.specs.Contents.{contents_of};
     ghost use Rattle.segment_core.specs.SegmentState.{state_contents, entered};
-    ghost use Rattle.segment_core.specs.Ordered.{StandsAt};
+    ghost use Rattle.segment_core.specs.SortedRecords.{StandsAt};
     ghost use Rattle.segment_core.specs.Records.{CanEnter};
 
     /// Makes the state with this lineage and these records.
@@ -100,7 +100,7 @@ impl SegmentState {
     pub fn prepare(
         &mut self,
         alloc: Global,
-        place: Place,
+        place: RunPlace,
         packet: &SharedRecord,
     ) -> Result<PendingInsert, AllocError>
         requires { StandsAt place self.old.records.ordered (shared_redo packet.now) }

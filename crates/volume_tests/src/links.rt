@@ -30,7 +30,7 @@ fn take(
 {
     if is_reached(chains, held.as_slice(), before) {
         let released = chains.released(alloc, number)?;
-        chains.land(released.as_slice());
+        chains.complete(released.as_slice());
     } else {
         chains.make_room(alloc, before)?;
         chains.add_pending(before, number);

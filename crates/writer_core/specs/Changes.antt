@@ -2,14 +2,14 @@
 use Rattle.std.specs.Prelude.{ℕ, List, map, take}
 use Rattle.volume_model.specs.ClientWriter as model
 use Rattle.redo_record.specs.Payload.{payload_bytes}
-use Rattle.writer_core.specs.declared.few_bytes.FewBytes.{FewBytes}
+use Rattle.writer_core.specs.declared.inline_bytes.InlineBytes.{InlineBytes}
 use Rattle.writer_core.specs.declared.change.Form.{Form}
 use Rattle.writer_core.specs.declared.change.Form.TheVariants.{Few, Many}
 use Rattle.writer_core.specs.declared.change.Change.{Change}
 
 -- the bytes that are stored inline
-abbrev pub few_bytes : FewBytes → List ℕ
-few_bytes few = take few.length few.place
+abbrev pub inline_bytes : InlineBytes → List ℕ
+inline_bytes bytes = take bytes.length bytes.place
 
 -- the change in this form
 abbrev pub change_in : Form → model.Change
@@ -17,7 +17,7 @@ change_in (Few group offset block bytes) = record {
   group = group;
   block = block;
   offset = offset;
-  bytes = few_bytes
+  bytes = inline_bytes
       bytes;
 }
 change_in (Many group offset block bytes) = record {

@@ -1,6 +1,6 @@
 //! Changes, of which a transaction consists.
 
-use crate::few_bytes::{FewBytes, MOST_FEW};
+use crate::inline_bytes::{InlineBytes, MOST_INLINE};
 use redo_record::Payload;
 use std::alloc::{AllocError, Global};
 
@@ -11,7 +11,7 @@ enum Form {
         group: u8,
         offset: u16,
         block: u32,
-        bytes: FewBytes,
+        bytes: InlineBytes,
     },
     Many {
         group: u8,
@@ -52,8 +52,8 @@ impl Change {
           bytes = bytes.now;
         }) }
     {
-        if bytes.len() <= MOST_FEW {
-            let bytes = FewBytes::new(bytes);
+        if bytes.len() <= MOST_INLINE {
+            let bytes = InlineBytes::new(bytes);
             return Ok(Change {
                 form: Form::Few {
                     group,

@@ -7,7 +7,7 @@ ghost use Rattle.writer_core.specs.GroupStates.{groups_of, ArePlaced};
 
 use crate::count::Count;
 use crate::group_state::GroupState;
-use crate::moving::{are_places, extend, follow, raise, reread};
+use crate::places::{are_places, extend, follow, raise, reread};
 use plan::CheckedPlan;
 use std::alloc::{AllocError, AllocFailed, Global};
 use std::sync::Arc;

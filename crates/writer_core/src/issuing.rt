@@ -75,7 +75,7 @@ fn next_packet(
     match SharedRecord::pack(alloc, record) {
         Ok(packet) => Ok(packet),
         Err(error) => {
-            last_lsns.leave(group, block, prev_group, prev_block);
+            last_lsns.remove_last(group, block, prev_group, prev_block);
             Err(error)
         }
     }

@@ -94,7 +94,7 @@ impl LastLsns {
     /// Removes the record that was entered last: its links are the last LSNs again. Out of line, since this is called
     /// only when memory ran out.
     #[inline(never)]
-    pub fn leave(&mut self, group: u8, block: u32, prev_group: u64, prev_block: u64)
+    pub fn remove_last(&mut self, group: u8, block: u32, prev_group: u64, prev_block: u64)
         requires group { group < 16 }
         requires entered { 0 < self.old.entered }
         ensures { Leaves self.old self.new group block prev_group prev_block }
@@ -118,7 +118,7 @@ impl LastLsns {
     {
         while self.entered > records {
             let record = log.packet(self.entered - 1).record();
-            self.leave(
+            self.remove_last(
                 record.group,
                 record.block,
                 record.prev_group,

@@ -4,7 +4,7 @@ ghost use Rattle.std.specs.Prelude.{◌≡◌, ◌^◌, ◌<◌, ◌++◌, true,
 ghost use Rattle.redo_record.specs.RecordSet.{packets_of};
 ghost use Rattle.writer_core.specs.Logs.{log_of, is_growing};
 
-use crate::reading::{last_lsn, record_at};
+use crate::lookup::{last_lsn, record_at};
 use redo_record::{RecordSet, SharedRecord};
 use std::alloc::{AllocError, Global};
 

@@ -30,5 +30,5 @@ returns-in-Err-clause-err c =
     let lsn : r.lsn ≡ c.max-lsn.result + 1 = omega (arith, c.max-lsn.ensures, c.last_lsn-last.ensures) in
     let prev_group : last_of_group change.group log ≡ c.of_group-prev_group.result = sym ((rw (group) at c.of_group-prev_group.ensures) ∙ c.requires.last_lsns.all.of_group change.group c.requires.group) in
     let prev_block : last_of_block change.group change.block log ≡ c.in_ok-prev_block.prev_block = sym ((rw (group, block) at c.in_ok-prev_block.ensures.before) ∙ c.requires.last_lsns.all.of_block change.group change.block) in
-    all-left c.args.last_lsns.now c.enter.new.self c.leave.new.self (packets_in c.args.log.now) r (c.max-lsn.result + 1) _ _ lsn prev_group prev_block (omega arith) (record { group = refl; block = refl })
-    (rw (group, block) at c.in_ok-prev_block.ensures.ok) (rw (group, block) at c.leave.ensures) c.requires.last_lsns
+    all-left c.args.last_lsns.now c.enter.new.self c.remove_last.new.self (packets_in c.args.log.now) r (c.max-lsn.result + 1) _ _ lsn prev_group prev_block (omega arith) (record { group = refl; block = refl })
+    (rw (group, block) at c.in_ok-prev_block.ensures.ok) (rw (group, block) at c.remove_last.ensures) c.requires.last_lsns

@@ -1,26 +1,26 @@
 use Rattle.std.proofs.Common.{rules, ◌≡◌, ℕ, ◌<◌, ◌+◌, ◌-◌, ◌^◌, ◌∙◌, List, [], ◌∷◌, length, get_or, sym, ap, subst, arith, le_refl}
 use Rattle.std.proofs.lemmas.List.{get_or_default}
 use Rattle.volume_model.specs.Lists.{IsIn}
-use Rattle.segment_core.specs.Earlier.{earlier_waiters}
-use Rattle.segment_core.specs.Recent.{recent_waiters}
+use Rattle.segment_core.specs.Earlier.{earlier_under}
+use Rattle.segment_core.specs.RecentPending.{recent_under}
 use Rattle.segment_core.specs.Rising.{AreGrowing, with_numbers}
-use Rattle.segment_core.specs.PendingRecords.{waiters, IsPendingIn}
+use Rattle.segment_core.specs.PendingRecords.{pending_under, IsPendingIn}
 use Rattle.segment_core.proofs.Rise.{falls, with_numbers-growing, with_numbers-has, with_numbers-append}
 use Rattle.segment_core.proofs.Released.{AreSome, AreMore, all_there, closed_more, many_more, one, same_so_far}
 use Rattle.segment_core.proofs.pending_records.PendingRecords.released.Goals as goal
 
 -- all that wait for the number are added
-added : (c : goal.In_ok-add_waiters) → c.add_waiters.new.numbers.items ≡ with_numbers (waiters c.args.self.now c.index-number.result.now) c.loop-next.released.items
+added : (c : goal.In_ok-add_pending_under) → c.add_pending_under.new.numbers.items ≡ with_numbers (pending_under c.args.self.now c.index-number.result.now) c.loop-next.released.items
 added c =
     let x : ℕ = c.index-number.result.now in
     let ys : List ℕ = c.loop-next.released.items in
-    c.in_ok-add_waiters.ensures.added
-    ∙ ap (λ ws. with_numbers (recent_waiters ws x) c.add_all.new.numbers.items) c.as_slice.ensures.value
-    ∙ ap (λ zs. with_numbers (recent_waiters c.args.self.now.recent.items x) zs) (c.in_ok-add_all.ensures.added ∙ ap (λ ms. with_numbers ms ys) c.of.ensures)
-    ∙ sym (with_numbers-append (earlier_waiters c.args.self.now.earlier x) (recent_waiters c.args.self.now.recent.items x) ys)
+    c.in_ok-add_pending_under.ensures.added
+    ∙ ap (λ ws. with_numbers (recent_under ws x) c.add_all.new.numbers.items) c.as_slice.ensures.value
+    ∙ ap (λ zs. with_numbers (recent_under c.args.self.now.recent.items x) zs) (c.in_ok-add_all.ensures.added ∙ ap (λ ms. with_numbers ms ys) c.of.ensures)
+    ∙ sym (with_numbers-append (earlier_under c.args.self.now.earlier x) (recent_under c.args.self.now.recent.items x) ys)
 
 -- they are released, and stand behind the number
-more : (c : goal.In_ok-add_waiters) → AreSome (IsPendingIn c.args.self.now) c.args.number c.add_waiters.new.numbers.items × AreMore c.loop-next.released.items c.add_waiters.new.numbers.items c.loop-next.next
+more : (c : goal.In_ok-add_pending_under) → AreSome (IsPendingIn c.args.self.now) c.args.number c.add_pending_under.new.numbers.items × AreMore c.loop-next.released.items c.add_pending_under.new.numbers.items c.loop-next.next
 more c =
     let W = IsPendingIn c.args.self.now in
     let x : ℕ = c.index-number.result.now in
@@ -28,7 +28,7 @@ more c =
     let k : ℕ = c.loop-next.next in
     let lt : k < length ys = search rules in
     subst (λ zs. AreSome W c.args.number zs × AreMore ys zs k) (sym (added c))
-    (many_more W c.args.number (waiters c.args.self.now x) ys ys k x c.loop-next.invariant.some (same_so_far ys k lt) (sym c.index-number.ensures) (λ m i. (i, c.args.self.now.above x m i)))
+    (many_more W c.args.number (pending_under c.args.self.now x) ys ys k x c.loop-next.invariant.some (same_so_far ys k lt) (sym c.index-number.ensures) (λ m i. (i, c.args.self.now.above x m i)))
 
 pub loop-next-init : goal.loop-next-init
 loop-next-init c =
@@ -39,14 +39,14 @@ loop-next-init c =
       closed = λ i d m l w. absurd (omega arith);
     }
 
-pub add_waiters-requires : goal.add_waiters-requires
-add_waiters-requires c = record { growing = subst AreGrowing (sym c.in_ok-add_all.ensures.added) (with_numbers-growing c.of.result.now c.loop-next.released.items c.loop-next.invariant.some.growing) }
+pub add_pending_under-requires : goal.add_pending_under-requires
+add_pending_under-requires c = record { growing = subst AreGrowing (sym c.in_ok-add_all.ensures.added) (with_numbers-growing c.of.result.now c.loop-next.released.items c.loop-next.invariant.some.growing) }
 
 pub loop-next-smaller : goal.loop-next-smaller
 loop-next-smaller c =
     let (some, longer) = more c in
     let ys : List ℕ = c.loop-next.released.items in
-    let zs : List ℕ = c.add_waiters.new.numbers.items in
+    let zs : List ℕ = c.add_pending_under.new.numbers.items in
     let k : ℕ = c.loop-next.next in
     let x : ℕ = c.index-number.result.now in
     let lt : k < length ys = search rules in
@@ -59,13 +59,13 @@ loop-next-preserved c =
     let (some, longer) = more c in
     let W = IsPendingIn c.args.self.now in
     let ys : List ℕ = c.loop-next.released.items in
-    let zs : List ℕ = c.add_waiters.new.numbers.items in
+    let zs : List ℕ = c.add_pending_under.new.numbers.items in
     let k : ℕ = c.loop-next.next in
     let x : ℕ = c.index-number.result.now in
     let lt : k < length ys = search rules in
     let this : (d m : ℕ) → W (get_or ys k d) m → IsIn m zs = λ d m w.
     (let at : get_or ys k d ≡ x = get_or_default ys k d x lt ∙ sym c.index-number.ensures in
-    subst (IsIn m) (sym (added c)) (with_numbers-has (waiters c.args.self.now x) ys m (subst (λ n. W n m) at w))) in
+    subst (IsIn m) (sym (added c)) (with_numbers-has (pending_under c.args.self.now x) ys m (subst (λ n. W n m) at w))) in
     record { some = some; within = omega (arith, longer.longer); closed = closed_more W ys zs k c.loop-next.invariant.closed longer this }
 
 pub returns : goal.returns

@@ -2,7 +2,7 @@ use Rattle.std.proofs.Common.{rules, ◌≡◌, ◌-◌, Bool, nat_lt, List, len
 use Rattle.volume_model.specs.Redo.{Redo}
 use Rattle.redo_record.specs.declared.shared_record.SharedRecord.{SharedRecord}
 use Rattle.redo_record.specs.SharedRecord.{shared_redo}
-use Rattle.segment_core.specs.Parting.{is_below}
+use Rattle.segment_core.specs.Partition.{is_below}
 use Rattle.segment_core.proofs.Parted.{ends-shown}
 use Rattle.segment_core.proofs.run.Run.ends_below.Goals as goal
 

@@ -1,6 +1,0 @@
-use Rattle.recovery.proofs.Cuts.{cut-of_none}
-use Rattle.recovery.proofs.cutting.Cutting.new.Goals as goal
-use Rattle.std.proofs.Common.{refl}
-
-pub returns : goal.returns
-returns c = cut-of_none _ c.new.ensures refl

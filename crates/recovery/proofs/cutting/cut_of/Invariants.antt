@@ -1,6 +1,0 @@
-use Rattle.std.proofs.Common.{take}
-use Rattle.recovery.specs.Cutting.{IsCutOf, log_of_records}
-use Rattle.recovery.proofs.cutting.cut_of.Given as goal
-
-abbrev pub invariant-loop-record : goal.invariant-loop-record
-invariant-loop-record l = IsCutOf l.cutting (log_of_records (take l.record-index l.records))

@@ -1,7 +1,0 @@
-use Rattle.std.proofs.Common.{take}
-use Rattle.writer_core.specs.Logs.{log_of}
-use Rattle.recovery.specs.Cutting.{IsCutOf}
-use Rattle.recovery.proofs.cutting.shared_cut_of.Given as goal
-
-abbrev pub invariant-loop-packet : goal.invariant-loop-packet
-invariant-loop-packet l = IsCutOf l.cutting (log_of (take l.packet-index l.records))

@@ -1,0 +1,14 @@
+use Rattle.std.proofs.Common.{◌≡◌, true}
+use Rattle.volume_model.specs.Lists.{each_below, joined}
+use Rattle.volume_model.specs.Client.{label_of, place_of}
+use Rattle.volume_model.specs.Pieces.{in_pieces}
+use Rattle.volume_model.specs.ClientRecovery.{to_install}
+use Rattle.lineage.specs.Lineage.{lineage_of}
+use Rattle.wire.specs.Message.{messages_of}
+use Rattle.writer_core.specs.Logs.{log_of_set}
+use Rattle.writer_core.specs.Groups.{groups_in}
+use Rattle.volume_model.specs.Message.Message.{Install}
+use Rattle.recovery.proofs.messages.installs.Given as goal
+
+abbrev pub invariant-loop-group : goal.invariant-loop-group
+invariant-loop-group l = messages_of l.messages.items ≡ joined (each_below l.group (λ group. true) (λ group. in_pieces (to_install (lineage_of l.found.lineage) (log_of_set l.found.log) group) (Install group (label_of l.volume (place_of (groups_in l.group_states)) group))))

@@ -1,8 +1,0 @@
-use Rattle.std.proofs.Common.{◌≡◌, length, take}
-use Rattle.writer_core.proofs.few_bytes.FewBytes.new.Given as goal
-
-abbrev pub invariant-loop-at : goal.invariant-loop-at
-invariant-loop-at l = record {
-  size : length l.place ≡ 7;
-  put : take (length (take l.at l.bytes)) l.place ≡ take l.at l.bytes;
-}

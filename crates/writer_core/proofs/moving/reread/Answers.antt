@@ -1,6 +1,0 @@
-use Rattle.volume_model.specs.ClientMessages.{reread_group}
-use Rattle.writer_core.proofs.Placing.{moved-all}
-use Rattle.writer_core.proofs.moving.reread.Goals as goal
-
-pub returns-clause-moved : goal.returns-clause-moved
-returns-clause-moved c = moved-all reread_group c.loop-group.group_states c.args.places.now c.loop-group.group _ c.loop-group-test.false c.loop-group.invariant

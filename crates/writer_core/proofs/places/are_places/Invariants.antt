@@ -1,0 +1,11 @@
+use Rattle.std.proofs.Common.{◌≡◌, map, true}
+use Rattle.volume_model.specs.Lists.{every_below}
+use Rattle.volume_model.specs.Plan.{is_configuration}
+use Rattle.volume_model.specs.Message.{place_in}
+use Rattle.plan.specs.CheckedModel.{checked_model}
+use Rattle.wire.specs.Message.{place_of}
+use Rattle.writer_core.proofs.places.are_places.Given as goal
+
+abbrev pub invariant-loop-group : goal.invariant-loop-group
+invariant-loop-group l =
+    every_below l.group (λ g. is_configuration (checked_model l.plan) g (place_in (map place_of l.places) g).configuration (place_in (map place_of l.places) g).epoch) ≡ true
