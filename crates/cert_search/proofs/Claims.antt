@@ -8,7 +8,7 @@ use native.Mathlib.Decide.{ℕ_discrete}
 use lib.ListN.{get_elem?}
 use Rattle.atomic_table.proofs.Lists.{at_longer, at_last, at_snoc, at_set, set_here, set_else}
 use Rattle.crossbeam_deque.specs.Tasks.{Pushes, Takes, Forks, Merges, Learns}
-use Rattle.cert_search.specs.declared.deque.Had.{Had}
+use Rattle.cert_search.specs.declared.deque.DequeView.{DequeView}
 use Rattle.cert_search.specs.declared.deque.Holder.{Holder}
 use Rattle.cert_search.specs.declared.deque.Holder.TheVariants.{Owner, Guest, Nobody}
 use Rattle.cert_search.specs.declared.deque.Task.{Task}
@@ -18,28 +18,28 @@ use Rattle.cert_search.specs.Deque.{first_view, guest_view, spent_view, lend, re
 use Rattle.cert_search.proofs.Steps.{at_push, in_range, each_after, at_still, at_new, at_after, at_same, at_kept, at_more, at_fewer}
 
 -- the number of views that count, where one view changes
-sum_set : (l : List Had) (i : ℕ) (x y : Had) → get_elem? l i ≡ some x → holders (set l i y) + weight x ≡ holders l + weight y
+sum_set : (l : List DequeView) (i : ℕ) (x y : DequeView) → get_elem? l i ≡ some x → holders (set l i y) + weight x ≡ holders l + weight y
 sum_set [] i x y e = absurd (some-ne-none x (sym e))
 sum_set (z ∷ zs) zero x y e = let is = ap weight (some-injective z x e) in omega (arith, is)
 sum_set (z ∷ zs) (suc i) x y e = let more = sum_set zs i x y e in omega (arith, more)
 
-sum_least : (l : List Had) (i : ℕ) (x : Had) → get_elem? l i ≡ some x → weight x ≤ holders l
+sum_least : (l : List DequeView) (i : ℕ) (x : DequeView) → get_elem? l i ≡ some x → weight x ≤ holders l
 sum_least [] i x e = absurd (some-ne-none x (sym e))
 sum_least (z ∷ zs) zero x e = let is = ap weight (some-injective z x e) in omega (arith, is)
 sum_least (z ∷ zs) (suc i) x e = let more = sum_least zs i x e in omega (arith, more)
 
 -- the marks that views may have had, where one view changes
-marks_set : (l : List Had) (i : ℕ) (x y : Had) → get_elem? l i ≡ some x → marks_had (set l i y) + mark_of x ≡ marks_had l + mark_of y
+marks_set : (l : List DequeView) (i : ℕ) (x y : DequeView) → get_elem? l i ≡ some x → marks_had (set l i y) + mark_of x ≡ marks_had l + mark_of y
 marks_set [] i x y e = absurd (some-ne-none x (sym e))
 marks_set (z ∷ zs) zero x y e = let is = ap mark_of (some-injective z x e) in omega (arith, is)
 marks_set (z ∷ zs) (suc i) x y e = let more = marks_set zs i x y e in omega (arith, more)
 
-marks_snoc : (l : List Had) (x : Had) → marks_had (l ++ x ∷ []) ≡ marks_had l + mark_of x
+marks_snoc : (l : List DequeView) (x : DequeView) → marks_had (l ++ x ∷ []) ≡ marks_had l + mark_of x
 marks_snoc [] x = omega arith
 marks_snoc (z ∷ zs) x = let more = marks_snoc zs x in omega (arith, more)
 
 -- no mark is lost where one view changes
-marked_still : (views : List Had) (id : ℕ) (v w : Had) (marks marks' : ℕ) → get_elem? views id ≡ some v → AreMarked marks views → marks + mark_of v ≤ marks' + mark_of w
+marked_still : (views : List DequeView) (id : ℕ) (v w : DequeView) (marks marks' : ℕ) → get_elem? views id ≡ some v → AreMarked marks views → marks + mark_of v ≤ marks' + mark_of w
     → (weight w ≡ 1 → (weight v ≡ 1) × (w.marks + (marks + mark_of v) ≤ v.marks + (marks' + mark_of w))) → AreMarked marks' (set views id w)
 marked_still views id v w marks marks' here kept more mine p u e held =
     let even = marks_set views id v w here in
@@ -47,33 +47,33 @@ marked_still views id v w marks marks' here kept more mine p u e held =
     (λ (t : (p ≡ id) × (w ≡ u)).
     let m = mine (ap weight t.1 ∙ held) in
     let was = kept id v here m.0 in
-    let same = ap (λ (y : Had). y.marks) t.1 in omega (arith, even, m.1, was, same))
+    let same = ap (λ (y : DequeView). y.marks) t.1 in omega (arith, even, m.1, was, same))
     (λ (t : (p ≢ id) × (get_elem? views p ≡ some u)). let was = kept p u t.1 held in omega (arith, even, more, was))
     (at_set views id p w u e)
 
 -- nor where another view comes
-marked_snoc : (views : List Had) (x : Had) (marks : ℕ) → AreMarked marks views → (weight x ≡ 1 → x.marks ≤ marks + marks_had views) → AreMarked marks (views ++ x ∷ [])
+marked_snoc : (views : List DequeView) (x : DequeView) (marks : ℕ) → AreMarked marks views → (weight x ≡ 1 → x.marks ≤ marks + marks_had views) → AreMarked marks (views ++ x ∷ [])
 marked_snoc views x marks kept mine p u e held =
     let more = marks_snoc views x in
     ⊎_elim
     (λ (old : get_elem? views p ≡ some u). let was = kept p u old held in omega (arith, more, was))
-    (λ (is : x ≡ u). let was = mine (ap weight is ∙ held) in let same = ap (λ (y : Had). y.marks) is in omega (arith, more, was, same))
+    (λ (is : x ≡ u). let was = mine (ap weight is ∙ held) in let same = ap (λ (y : DequeView). y.marks) is in omega (arith, more, was, same))
     (at_snoc views x u p e)
 
 -- two views are no more than all
-sum_two : (l : List Had) (i j : ℕ) (x y : Had) → i ≢ j → get_elem? l i ≡ some x → get_elem? l j ≡ some y → weight x + weight y ≤ holders l
+sum_two : (l : List DequeView) (i j : ℕ) (x y : DequeView) → i ≢ j → get_elem? l i ≡ some x → get_elem? l j ≡ some y → weight x + weight y ≤ holders l
 sum_two [] i j x y apart e g = absurd (some-ne-none x (sym e))
 sum_two (z ∷ zs) zero zero x y apart e g = absurd (apart refl)
 sum_two (z ∷ zs) zero (suc j) x y apart e g = let is = ap weight (some-injective z x e) in let more = sum_least zs j y g in omega (arith, is, more)
 sum_two (z ∷ zs) (suc i) zero x y apart e g = let is = ap weight (some-injective z y g) in let more = sum_least zs i x e in omega (arith, is, more)
 sum_two (z ∷ zs) (suc i) (suc j) x y apart e g = let more = sum_two zs i j x y (λ same. apart (ap suc same)) e g in omega (arith, more)
 
-sum_push : (l : List Had) (x : Had) → holders (l ++ x ∷ []) ≡ holders l + weight x
+sum_push : (l : List DequeView) (x : DequeView) → holders (l ++ x ∷ []) ≡ holders l + weight x
 sum_push [] x = omega arith
 sum_push (z ∷ zs) x = let more = sum_push zs x in omega (arith, more)
 
 -- the worker whose deque it is
-pub owner_out : (v : Had) → is_owner v.holder ≡ true → (out : ℕ) × (v.holder ≡ Owner out)
+pub owner_out : (v : DequeView) → is_owner v.holder ≡ true → (out : ℕ) × (v.holder ≡ Owner out)
 owner_out v owner = by_holder v.holder owner
   where
     by_holder : (h : Holder) → is_owner h ≡ true → (out : ℕ) × (h ≡ Owner out)
@@ -81,10 +81,10 @@ owner_out v owner = by_holder v.holder owner
     by_holder Guest e = absurd (true≢false (sym e))
     by_holder Nobody e = absurd (true≢false (sym e))
 
-pub owner_held : (v : Had) → is_owner v.holder ≡ true → weight v ≡ 1
+pub owner_held : (v : DequeView) → is_owner v.holder ≡ true → weight v ≡ 1
 owner_held v owner = ap counts (owner_out v owner).1
 
-pub guest_held : (v : Had) → v.holder ≡ Guest → weight v ≡ 1
+pub guest_held : (v : DequeView) → v.holder ≡ Guest → weight v ≡ 1
 guest_held v guest = ap counts guest
 
 -- one more mark of the end
@@ -146,28 +146,28 @@ off : false ≡ true → ⊥
 off e = true≢false (sym e)
 
 -- the number of views that are out, as the worker knows it
-abbrev Counted : List Had → Type 0
-Counted views = (u : Had) (out : ℕ) → get_elem? views 0 ≡ some u → u.holder ≡ Owner out → holders views ≡ suc out
+abbrev Counted : List DequeView → Type 0
+Counted views = (u : DequeView) (out : ℕ) → get_elem? views 0 ≡ some u → u.holder ≡ Owner out → holders views ≡ suc out
 
 -- a view changes, whose holder stays
-module _ (views : List Had) (id : ℕ) (v w : Had) (here : get_elem? views id ≡ some v) (holder : w.holder ≡ v.holder) where
+module _ (views : List DequeView) (id : ℕ) (v w : DequeView) (here : get_elem? views id ≡ some v) (holder : w.holder ≡ v.holder) where
   counted_still : Counted views → Counted (set views id w)
   counted_still counted u out e is =
       let even = sum_set views id v w here in
       let same = ap counts holder in
       let was : holders views ≡ suc out =
       ⊎_elim
-      (λ (t : (0 ≡ id) × (w ≡ u)). counted v out (ap (get_elem? views) t.0 ∙ here) (sym holder ∙ ap (λ (y : Had). y.holder) t.1 ∙ is))
+      (λ (t : (0 ≡ id) × (w ≡ u)). counted v out (ap (get_elem? views) t.0 ∙ here) (sym holder ∙ ap (λ (y : DequeView). y.holder) t.1 ∙ is))
       (λ (t : (0 ≢ id) × (get_elem? views 0 ≡ some u)). counted u out t.1 is)
       (at_set views id 0 w u e) in
       omega (arith, even, same, was)
 
 -- the first claim is taken
-module _ (gone items : List ℕ) (x : ℕ) (views : List Had) (id : ℕ) (v : Had) (kept : Keeps gone (x ∷ items) views) (here : get_elem? views id ≡ some v) (held : weight v ≡ 1) where
-  abbrev w : Had
+module _ (gone items : List ℕ) (x : ℕ) (views : List DequeView) (id : ℕ) (v : DequeView) (kept : Keeps gone (x ∷ items) views) (here : get_elem? views id ≡ some v) (held : weight v ≡ 1) where
+  abbrev w : DequeView
   w = got_more v x
 
-  abbrev now : List Had
+  abbrev now : List DequeView
   now = set views id w
 
   same : (gone ++ x ∷ []) ++ items ≡ gone ++ x ∷ items
@@ -212,7 +212,7 @@ module _ (gone items : List ℕ) (x : ℕ) (views : List Had) (id : ℕ) (v : Ha
       (at_push gone x c k e)
 
   -- there is a claim left, so nobody has had a mark
-  no_end : (p : ℕ) (u : Had) → get_elem? views p ≡ some u → u.ended ≡ true → ⊥
+  no_end : (p : ℕ) (u : DequeView) → get_elem? views p ≡ some u → u.ended ≡ true → ⊥
   no_end p u e ended = let none = ap length (kept.ends p u e ended) in omega (arith, none)
 
   after_take : Keeps (gone ++ x ∷ []) items now
@@ -232,9 +232,9 @@ module _ (gone items : List ℕ) (x : ℕ) (views : List Had) (id : ℕ) (v : Ha
   gets = (refl, (length gone, ap (λ l. get_elem? l (length gone)) (kept.knows id v here held) ∙ front_at gone items x kept.rising), mine_below)
 
 -- a view changes in no claim
-module _ (gone items : List ℕ) (views : List Had) (id : ℕ) (v w : Had) (kept : Keeps gone items views) (here : get_elem? views id ≡ some v)
+module _ (gone items : List ℕ) (views : List DequeView) (id : ℕ) (v w : DequeView) (kept : Keeps gone items views) (here : get_elem? views id ≡ some v)
     (got : w.got ≡ v.got) (dealt : w.dealt ≡ v.dealt) (holder : w.holder ≡ v.holder) (deals : w.deals ≡ true → v.deals ≡ true) (ended : w.ended ≡ true → items ≡ []) where
-  abbrev calm : List Had
+  abbrev calm : List DequeView
   calm = set views id w
 
   calm_was : (p i c : ℕ) → At got_of calm p i c → At got_of views p i c
@@ -254,10 +254,10 @@ module _ (gone items : List ℕ) (views : List Had) (id : ℕ) (v w : Had) (kept
   }
 
 -- marks and deals, where one view changes
-still_marked : (views : List Had) (id : ℕ) (v w : Had) (marks marks' : ℕ) → get_elem? views id ≡ some v → NoMark marks views → (marks ≡ 0 → marks' ≡ 0) → (w.deals ≡ true → marks' ≡ 0) → NoMark marks' (set views id w)
+still_marked : (views : List DequeView) (id : ℕ) (v w : DequeView) (marks marks' : ℕ) → get_elem? views id ≡ some v → NoMark marks views → (marks ≡ 0 → marks' ≡ 0) → (w.deals ≡ true → marks' ≡ 0) → NoMark marks' (set views id w)
 still_marked views id v w marks marks' here none less mine = each_after views id v w here (λ p u. u.deals ≡ true → marks' ≡ 0) (λ p u e may. less (none p u e may)) mine
 
-pub takes : (port : ℕ) (v : Had) → weight v ≡ 1 → v.ended ≡ false → Takes IsDeque port v 1 (Took v)
+pub takes : (port : ℕ) (v : DequeView) → weight v ≡ 1 → v.ended ≡ false → Takes IsDeque port v 1 (Took v)
 takes port v held unended [] tasks views some_task few h here = absurd (omega arith)
 takes port v held unended (Claim x ∷ []) tasks views some_task few h here =
     let front = front_claim h.1 h.2 x tasks h.3 in
@@ -292,7 +292,7 @@ takes port v held unended (End ∷ []) tasks views some_task few h here =
 takes port v held unended (x ∷ y ∷ ys) tasks views some_task few h here = absurd (omega arith)
 
 -- a mark of the end is put in
-pub closes : (port : ℕ) (v : Had) → Pushes IsDeque port v (End ∷ []) (λ w. w ≡ closed v)
+pub closes : (port : ℕ) (v : DequeView) → Pushes IsDeque port v (End ∷ []) (λ w. w ≡ closed v)
 closes port v tasks views h here = (
   closed v,
   (
@@ -308,21 +308,21 @@ closes port v tasks views h here = (
 )
   where
     -- whoever might still deal would be the only holder, which deals no more
-    closed_alone : (p : ℕ) (u : Had) → get_elem? (set views port (closed v)) p ≡ some u → u.deals ≡ true → ⊥
+    closed_alone : (p : ℕ) (u : DequeView) → get_elem? (set views port (closed v)) p ≡ some u → u.deals ≡ true → ⊥
     closed_alone p u e may =
         ⊎_elim
-        (λ (t : (p ≡ port) × (closed v ≡ u)). off (ap (λ (y : Had). y.deals) t.1 ∙ may))
+        (λ (t : (p ≡ port) × (closed v ≡ u)). off (ap (λ (y : DequeView). y.deals) t.1 ∙ may))
         (λ (t : (p ≢ port) × (get_elem? views p ≡ some u)).
         let one = h.5.alone p u t.1 may in let a = in_range views p u t.1 in let b = in_range views port v here in t.0 (omega (arith, one, a, b)))
         (at_set views port p (closed v) u e)
 
 -- a claim is dealt
-module _ (gone items : List ℕ) (x : ℕ) (views : List Had) (id : ℕ) (v : Had) (kept : Keeps gone items views) (here : get_elem? views id ≡ some v) (may : v.deals ≡ true) (held : weight v ≡ 1) (unended : v.ended ≡ false)
+module _ (gone items : List ℕ) (x : ℕ) (views : List DequeView) (id : ℕ) (v : DequeView) (kept : Keeps gone items views) (here : get_elem? views id ≡ some v) (may : v.deals ≡ true) (held : weight v ≡ 1) (unended : v.ended ≡ false)
     (below : (i y : ℕ) → get_elem? v.dealt i ≡ some y → y < x) where
-  abbrev dealer : Had
+  abbrev dealer : DequeView
   dealer = dealt_more v x
 
-  abbrev later : List Had
+  abbrev later : List DequeView
   later = set views id dealer
 
   grown : (gone ++ items) ++ x ∷ [] ≡ gone ++ (items ++ x ∷ [])
@@ -331,7 +331,7 @@ module _ (gone items : List ℕ) (x : ℕ) (views : List Had) (id : ℕ) (v : Ha
   one : length views ≡ 1
   one = kept.alone id v here may
 
-  nobody_else : (p : ℕ) (u : Had) → p ≢ id → get_elem? views p ≡ some u → ⊥
+  nobody_else : (p : ℕ) (u : DequeView) → p ≢ id → get_elem? views p ≡ some u → ⊥
   nobody_else p u apart e = let a = in_range views p u e in let b = in_range views id v here in let l = one in apart (omega arith)
 
   was : (p i c : ℕ) → At got_of later p i c → At got_of views p i c
@@ -340,10 +340,10 @@ module _ (gone items : List ℕ) (x : ℕ) (views : List Had) (id : ℕ) (v : Ha
   rising_now : Rises (gone ++ (items ++ x ∷ []))
   rising_now = subst Rises grown (rises_push (gone ++ items) x kept.rising (λ i y e. below i y (ap (λ l. get_elem? l i) (kept.knows id v here held) ∙ e)))
 
-  each_later : (P : ℕ → Had → Type 0) → P id dealer → (p : ℕ) (u : Had) → get_elem? later p ≡ some u → P p u
+  each_later : (P : ℕ → DequeView → Type 0) → P id dealer → (p : ℕ) (u : DequeView) → get_elem? later p ≡ some u → P p u
   each_later P mine p u e =
       ⊎_elim
-      (λ (t : (p ≡ id) × (dealer ≡ u)). subst (λ (y : ℕ × Had). P y.0 y.1) (λ i. (sym t.0 i, t.1 i)) mine)
+      (λ (t : (p ≡ id) × (dealer ≡ u)). subst (λ (y : ℕ × DequeView). P y.0 y.1) (λ i. (sym t.0 i, t.1 i)) mine)
       (λ (t : (p ≢ id) × (get_elem? views p ≡ some u)). absurd (nobody_else p u t.0 t.1))
       (at_set views id p dealer u e)
 
@@ -360,7 +360,7 @@ module _ (gone items : List ℕ) (x : ℕ) (views : List Had) (id : ℕ) (v : Ha
     counted = counted_still views id v dealer here refl kept.counted;
   }
 
-pub deals : (port : ℕ) (v : Had) (x : ℕ) → v.deals ≡ true → weight v ≡ 1 → v.ended ≡ false → ((i y : ℕ) → get_elem? v.dealt i ≡ some y → y < x) → Pushes IsDeque port v (Claim x ∷ []) (Adds v (Claim x ∷ []))
+pub deals : (port : ℕ) (v : DequeView) (x : ℕ) → v.deals ≡ true → weight v ≡ 1 → v.ended ≡ false → ((i y : ℕ) → get_elem? v.dealt i ≡ some y → y < x) → Pushes IsDeque port v (Claim x ∷ []) (Adds v (Claim x ∷ []))
 deals port v x may held unended below tasks views h here =
     let none : h.2 ≡ 0 = h.4 port v here may in
     let stands = h.3 ∙ ap (tasks_of h.1) none in (
@@ -378,28 +378,28 @@ deals port v x may held unended below tasks views h here =
     )
 
 -- the worker deals no more, and another comes, who has had nothing
-module _ (gone items : List ℕ) (views : List Had) (v : Had) (out : ℕ) (kept : Keeps gone items views) (here : get_elem? views 0 ≡ some v) (owner : v.holder ≡ Owner out) where
-  abbrev left : Had
+module _ (gone items : List ℕ) (views : List DequeView) (v : DequeView) (out : ℕ) (kept : Keeps gone items views) (here : get_elem? views 0 ≡ some v) (owner : v.holder ≡ Owner out) where
+  abbrev left : DequeView
   left = lent_view v
 
-  abbrev right : Had
+  abbrev right : DequeView
   right = guest_view v.dealt v.marks
 
-  abbrev two : List Had
+  abbrev two : List DequeView
   two = set views 0 left ++ right ∷ []
 
   lender_held : weight v ≡ 1
   lender_held = ap counts owner
 
-  each_two : (P : ℕ → Had → Type 0) → ((p : ℕ) (u : Had) → p ≢ 0 → get_elem? views p ≡ some u → P p u) → P 0 left → ((p : ℕ) → P p right) → (p : ℕ) (u : Had) → get_elem? two p ≡ some u → P p u
+  each_two : (P : ℕ → DequeView → Type 0) → ((p : ℕ) (u : DequeView) → p ≢ 0 → get_elem? views p ≡ some u → P p u) → P 0 left → ((p : ℕ) → P p right) → (p : ℕ) (u : DequeView) → get_elem? two p ≡ some u → P p u
   each_two P all mine new p u e =
       ⊎_elim
       (λ old.
       ⊎_elim
-      (λ (t : (p ≡ 0) × (left ≡ u)). subst (λ (y : ℕ × Had). P y.0 y.1) (λ i. (sym t.0 i, t.1 i)) mine)
+      (λ (t : (p ≡ 0) × (left ≡ u)). subst (λ (y : ℕ × DequeView). P y.0 y.1) (λ i. (sym t.0 i, t.1 i)) mine)
       (λ (t : (p ≢ 0) × (get_elem? views p ≡ some u)). all p u t.0 t.1)
       (at_set views 0 p left u old))
-      (λ (is : right ≡ u). subst (λ (y : Had). P p y) is (new p))
+      (λ (is : right ≡ u). subst (λ (y : DequeView). P p y) is (new p))
       (at_snoc (set views 0 left) right u p e)
 
   was_got : (p i c : ℕ) → At got_of two p i c → At got_of views p i c
@@ -443,7 +443,7 @@ module _ (gone items : List ℕ) (views : List Had) (v : Had) (out : ℕ) (kept 
       let there : get_elem? (set views 0 left) 0 ≡ some left = set_here views 0 left (in_range views 0 v here) in
       marked_snoc (set views 0 left) right marks lent (λ _. lent 0 left there mine)
 
-pub enters : (port : ℕ) (v : Had) (out : ℕ) → port ≡ 0 → v.holder ≡ Owner out → Forks IsDeque port v (lent_view v) (guest_view v.dealt v.marks)
+pub enters : (port : ℕ) (v : DequeView) (out : ℕ) → port ≡ 0 → v.holder ≡ Owner out → Forks IsDeque port v (lent_view v) (guest_view v.dealt v.marks)
 enters port v out first owner tasks views h here =
     let here0 = ap (get_elem? views) (sym first) ∙ here in
     subst (λ n. IsDeque tasks (set views n (lent_view v) ++ guest_view v.dealt v.marks ∷ [])) (sym first) (
@@ -475,14 +475,14 @@ at_most_one true = omega arith
 at_most_one false = omega arith
 
 -- the worker takes another's view back
-module _ (gone items : List ℕ) (views : List Had) (v : Had) (other : ℕ) (w : Had) (out : ℕ) (kept : Keeps gone items views) (here : get_elem? views 0 ≡ some v) (apart : other ≢ 0) (there : get_elem? views other ≡ some w) (owner : v.holder ≡ Owner (suc out)) (guest : w.holder ≡ Guest) where
-  abbrev both : Had
+module _ (gone items : List ℕ) (views : List DequeView) (v : DequeView) (other : ℕ) (w : DequeView) (out : ℕ) (kept : Keeps gone items views) (here : get_elem? views 0 ≡ some v) (apart : other ≢ 0) (there : get_elem? views other ≡ some w) (owner : v.holder ≡ Owner (suc out)) (guest : w.holder ≡ Guest) where
+  abbrev both : DequeView
   both = both_views v w
 
-  abbrev first : List Had
+  abbrev first : List DequeView
   first = set views 0 both
 
-  abbrev merged : List Had
+  abbrev merged : List DequeView
   merged = set first other spent_view
 
   there_first : get_elem? first other ≡ some w
@@ -494,13 +494,13 @@ module _ (gone items : List ℕ) (views : List Had) (v : Had) (other : ℕ) (w :
   regained : regain v.holder ≡ Owner out
   regained = ap regain owner
 
-  each_merged : (P : ℕ → Had → Type 0) → ((p : ℕ) (u : Had) → p ≢ 0 → get_elem? views p ≡ some u → P p u) → P 0 both → ((p : ℕ) → p ≢ 0 → P p spent_view) → (p : ℕ) (u : Had) → get_elem? merged p ≡ some u → P p u
+  each_merged : (P : ℕ → DequeView → Type 0) → ((p : ℕ) (u : DequeView) → p ≢ 0 → get_elem? views p ≡ some u → P p u) → P 0 both → ((p : ℕ) → p ≢ 0 → P p spent_view) → (p : ℕ) (u : DequeView) → get_elem? merged p ≡ some u → P p u
   each_merged P all mine gone_ p u e =
       ⊎_elim
-      (λ (t : (p ≡ other) × (spent_view ≡ u)). subst (λ (y : Had). P p y) t.1 (gone_ p (λ z. apart (sym t.0 ∙ z))))
+      (λ (t : (p ≡ other) × (spent_view ≡ u)). subst (λ (y : DequeView). P p y) t.1 (gone_ p (λ z. apart (sym t.0 ∙ z))))
       (λ (t : (p ≢ other) × (get_elem? first p ≡ some u)).
       ⊎_elim
-      (λ (s : (p ≡ 0) × (both ≡ u)). subst (λ (y : ℕ × Had). P y.0 y.1) (λ i. (sym s.0 i, s.1 i)) mine)
+      (λ (s : (p ≡ 0) × (both ≡ u)). subst (λ (y : ℕ × DequeView). P y.0 y.1) (λ i. (sym s.0 i, s.1 i)) mine)
       (λ (s : (p ≢ 0) × (get_elem? views p ≡ some u)). all p u s.0 s.1)
       (at_set views 0 p both u t.1))
       (at_set first other p spent_view u e)
@@ -512,14 +512,14 @@ module _ (gone items : List ℕ) (views : List Had) (v : Had) (other : ℕ) (w :
   source : (p i c : ℕ) → At got_of merged p i c → Source p i c
   source p i c a =
       ⊎_elim
-      (λ (t : (p ≡ other) × (spent_view ≡ a.0)). absurd (some-ne-none c (sym (ap (λ (y : Had). get_elem? y.got i) t.1 ∙ a.2))))
+      (λ (t : (p ≡ other) × (spent_view ≡ a.0)). absurd (some-ne-none c (sym (ap (λ (y : DequeView). get_elem? y.got i) t.1 ∙ a.2))))
       (λ (t : (p ≢ other) × (get_elem? first p ≡ some a.0)).
       ⊎_elim
       (λ (s : (p ≡ 0) × (both ≡ a.0)).
       ⊎_elim
       (λ (old : get_elem? v.got i ≡ some c). inl (t.0, (v, ap (get_elem? views) s.0 ∙ here, old)))
       (λ (new : (k : ℕ) × (i ≡ length v.got + k) × (get_elem? w.got k ≡ some c)). inr (s.0, (new.0, new.1, (w, there, new.2))))
-      (at_either v.got w.got i c (ap (λ (y : Had). get_elem? y.got i) s.1 ∙ a.2)))
+      (at_either v.got w.got i c (ap (λ (y : DequeView). get_elem? y.got i) s.1 ∙ a.2)))
       (λ (s : (p ≢ 0) × (get_elem? views p ≡ some a.0)). inl (t.0, (a.0, s.1, a.2)))
       (at_set views 0 p both a.0 t.1))
       (at_set first other p spent_view a.0 a.1)
@@ -552,12 +552,12 @@ module _ (gone items : List ℕ) (views : List Had) (v : Had) (other : ℕ) (w :
       dite (ℕ_discrete p other)
       (λ (is : p ≡ other).
       let same : a.0 ≡ w = some-injective a.0 w (sym a.1 ∙ ap (get_elem? views) is ∙ there) in
-      (0, length v.got + i, (both, here_merged, at_behind v.got w.got i c (ap (λ (y : Had). get_elem? y.got i) (sym same) ∙ a.2))))
+      (0, length v.got + i, (both, here_merged, at_behind v.got w.got i c (ap (λ (y : DequeView). get_elem? y.got i) (sym same) ∙ a.2))))
       (λ (not_other : p ≢ other).
       dite (ℕ_discrete p 0)
       (λ (is : p ≡ 0).
       let same : a.0 ≡ v = some-injective a.0 v (sym a.1 ∙ ap (get_elem? views) is ∙ here) in
-      (0, i, (both, here_merged, at_longer v.got w.got i c (ap (λ (y : Had). get_elem? y.got i) (sym same) ∙ a.2))))
+      (0, i, (both, here_merged, at_longer v.got w.got i c (ap (λ (y : DequeView). get_elem? y.got i) (sym same) ∙ a.2))))
       (λ (not_first : p ≢ 0). (p, i, (a.0, set_else first other p spent_view not_other ∙ set_else views 0 p both not_first ∙ a.1, a.2))))
 
   merged_sum : holders merged ≡ suc out
@@ -596,7 +596,7 @@ module _ (gone items : List ℕ) (views : List Had) (v : Had) (other : ℕ) (w :
       let taken = marked_still views 0 v both marks marks here kept (omega (arith, mine, mine', more)) (λ _. (mine, omega (arith, mine, mine', more))) in
       marked_still first other w spent_view marks marks there_first taken (omega (arith, theirs, one)) (λ none. absurd (omega (arith, none)))
 
-pub merges : (port : ℕ) (v : Had) (other : ℕ) (w : Had) (known : ℕ) → port ≡ 0 → v.holder ≡ Owner known → w.holder ≡ Guest → Merges IsDeque port v other w (both_views v w) spent_view
+pub merges : (port : ℕ) (v : DequeView) (other : ℕ) (w : DequeView) (known : ℕ) → port ≡ 0 → v.holder ≡ Owner known → w.holder ≡ Guest → Merges IsDeque port v other w (both_views v w) spent_view
 merges port v other w known zero_ knows guest tasks views h here apart there =
     let here0 = ap (get_elem? views) (sym zero_) ∙ here in
     let apart0 : other ≢ 0 = λ e. apart (e ∙ sym zero_) in
@@ -619,7 +619,7 @@ merges port v other w known zero_ knows guest tasks views h here apart there =
     )
 
 -- what the worker learns
-pub learns : (port : ℕ) (v : Had) → port ≡ 0 → weight v ≡ 1 → Learns IsDeque port v (λ tasks. Settles v)
+pub learns : (port : ℕ) (v : DequeView) → port ≡ 0 → weight v ≡ 1 → Learns IsDeque port v (λ tasks. Settles v)
 learns port v first held tasks views h here = record {
   once = λ i j c e f. (kept.once port i port j c (v, here, e) (v, here, f)).1;
   dealt = λ i c e. let g = kept.is_gone port i c (v, here, e) in (g.0, ap (λ l. get_elem? l g.0) (kept.knows port v here held) ∙ at_longer h.0 h.1 g.0 c g.1);
@@ -631,7 +631,7 @@ learns port v first held tasks views h here = record {
       dite (ℕ_discrete a.0 port)
       (λ (is : a.0 ≡ port).
       let same : a.2.0 ≡ v = some-injective a.2.0 v (sym a.2.1 ∙ ap (get_elem? views) is ∙ here) in
-      (a.1, ap (λ (y : Had). get_elem? y.got a.1) (sym same) ∙ a.2.2))
+      (a.1, ap (λ (y : DequeView). get_elem? y.got a.1) (sym same) ∙ a.2.2))
       (λ (apart : a.0 ≢ port).
       let two = sum_two views a.0 port a.2.0 v apart a.2.1 here in
       let idle : a.2.0.got ≡ [] = kept.spent a.0 a.2.0 a.2.1 (omega (arith, two, one, held)) in
@@ -651,21 +651,21 @@ begins = (
   (λ p u e may. refl),
   record {
     rising = λ i j x y lt e f. absurd (some-ne-none x (sym e));
-    knows = λ p u e held. ap (λ (y : Had). y.dealt) (sym (only p u e));
+    knows = λ p u e held. ap (λ (y : DequeView). y.dealt) (sym (only p u e));
     alone = λ p u e deals. refl;
     is_gone = λ p i c a. absurd (nothing p i c a);
     once = λ p i q j c a b. absurd (nothing p i c a);
     each_had = λ k c e. absurd (some-ne-none c (sym e));
     ends = λ p u e ended. refl;
-    spent = λ p u e none. ap (λ (y : Had). y.got) (sym (only p u e));
-    counted = λ u out e is. let first = ap (λ (y : Had). y.holder) (only 0 u e) in let same : 0 ≡ out = cc (first, is) in ap suc same;
+    spent = λ p u e none. ap (λ (y : DequeView). y.got) (sym (only p u e));
+    counted = λ u out e is. let first = ap (λ (y : DequeView). y.holder) (only 0 u e) in let same : 0 ≡ out = cc (first, is) in ap suc same;
   },
-  (λ p u e held. let same = ap (λ (y : Had). y.marks) (only p u e) in omega (arith, same)),
+  (λ p u e held. let same = ap (λ (y : DequeView). y.marks) (only p u e) in omega (arith, same)),
 )
   where
-    only : (p : ℕ) (u : Had) → get_elem? (first_view ∷ []) p ≡ some u → first_view ≡ u
+    only : (p : ℕ) (u : DequeView) → get_elem? (first_view ∷ []) p ≡ some u → first_view ≡ u
     only zero u e = some-injective first_view u e
     only (suc p) u e = absurd (some-ne-none u (sym e))
 
     nothing : (p i c : ℕ) → At got_of (first_view ∷ []) p i c → ⊥
-    nothing p i c a = some-ne-none c (sym (ap (λ (y : Had). get_elem? y.got i) (only p a.0 a.1) ∙ a.2))
+    nothing p i c a = some-ne-none c (sym (ap (λ (y : DequeView). get_elem? y.got i) (only p a.0 a.1) ∙ a.2))

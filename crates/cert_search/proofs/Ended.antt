@@ -6,7 +6,7 @@ use Rattle.cert_search.specs.declared.working.Found.{Found}
 use Rattle.cert_search.specs.declared.working.Worked.{Worked}
 use Rattle.plan.specs.PlanClaims.{PlacedClaim}
 use Rattle.cert_search.specs.Hands.{own_deque, deque_at, IsOfDeal, AreDealt, ShareDeques, SameDeal, HasEnded, IsThrough}
-use Rattle.cert_search.specs.Sights.{name_at}
+use Rattle.cert_search.specs.NamedViews.{name_at}
 use Rattle.cert_search.specs.Settled.{AreOfDeal, AllHad, HadOnce, EachHad}
 use Rattle.cert_search.specs.Places.{AreWorked, IsWork}
 use Rattle.cert_search.proofs.Rows.{map_from, map_len, within, get_at, some_is, all_of}

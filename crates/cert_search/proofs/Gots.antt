@@ -6,12 +6,12 @@ use mathlib.Core.Logic.{dite}
 use native.Mathlib.Decide.{ℕ_discrete}
 use lib.ListN.{get_elem?}
 use Rattle.atomic_table.proofs.Lists.{at_longer}
-use Rattle.cert_search.specs.declared.deque.Had.{Had}
+use Rattle.cert_search.specs.declared.deque.DequeView.{DequeView}
 use Rattle.cert_search.specs.declared.hand.Hand.{Hand}
 use Rattle.cert_search.specs.declared.deque.Holder.{Holder}
 use Rattle.cert_search.specs.declared.deque.Holder.TheVariants.{Owner, Guest, Nobody}
 use Rattle.cert_search.specs.Deque.{both_views, regain, is_owner, out_of}
-use Rattle.cert_search.specs.Sights.{Sight, look}
+use Rattle.cert_search.specs.NamedViews.{NamedView, look}
 use Rattle.cert_search.specs.Settled.{others_of, all_others, taken_back}
 use Rattle.cert_search.proofs.Claims.{at_behind, at_either}
 
@@ -49,14 +49,14 @@ flat_from (x ∷ xs) p c e =
     (at_either x (flat xs) p c e)
 
 -- what has been had of the deque d, by one view and by all
-abbrev pub part_of : ℕ → Sight → List ℕ
+abbrev pub part_of : ℕ → NamedView → List ℕ
 part_of d s = if s.0 == d then s.1.got else []
 
-abbrev pub gots : ℕ → List Sight → List ℕ
+abbrev pub gots : ℕ → List NamedView → List ℕ
 gots d [] = []
 gots d (s ∷ ss) = part_of d s ++ gots d ss
 
-gots_append : (d : ℕ) (ss ts : List Sight) → gots d (ss ++ ts) ≡ gots d ss ++ gots d ts
+gots_append : (d : ℕ) (ss ts : List NamedView) → gots d (ss ++ ts) ≡ gots d ss ++ gots d ts
 gots_append d [] ts = refl
 gots_append d (s ∷ ss) ts = ap (λ l. part_of d s ++ l) (gots_append d ss ts) ∙ sym (append_assoc (part_of d s) (gots d ss) (gots d ts))
 
@@ -66,13 +66,13 @@ gots_each d [] = refl
 gots_each d (h ∷ hs) = gots_append d (others_of h) (all_others hs) ∙ ap (λ l. gots d (others_of h) ++ l) (gots_each d hs)
 
 -- where no view is of the deque
-pub gots_none : (d : ℕ) (ss : List Sight) → ((k : ℕ) (s : Sight) → slice_get ss k ≡ Some s → s.0 ≢ d) → gots d ss ≡ []
+pub gots_none : (d : ℕ) (ss : List NamedView) → ((k : ℕ) (s : NamedView) → slice_get ss k ≡ Some s → s.0 ≢ d) → gots d ss ≡ []
 gots_none d [] none = refl
 gots_none d (s ∷ ss) none =
     ap (λ (b : Bool). (if b then s.1.got else []) ++ gots d ss) (ne_eqb s.0 d (none 0 s refl)) ∙ gots_none d ss (λ k t e. none (suc k) t e)
 
 -- where one is, at most
-pub gots_one : (d : ℕ) (ss : List Sight) → ((j k : ℕ) (s t : Sight) → slice_get ss j ≡ Some s → slice_get ss k ≡ Some t → s.0 ≡ d → t.0 ≡ d → j ≡ k) → gots d ss ≡ (look d ss).got
+pub gots_one : (d : ℕ) (ss : List NamedView) → ((j k : ℕ) (s t : NamedView) → slice_get ss j ≡ Some s → slice_get ss k ≡ Some t → s.0 ≡ d → t.0 ≡ d → j ≡ k) → gots d ss ≡ (look d ss).got
 gots_one d [] only = refl
 gots_one d (s ∷ ss) only =
     dite (ℕ_discrete s.0 d)
@@ -86,62 +86,62 @@ gots_one d (s ∷ ss) only =
     ∙ ap (λ (b : Bool). (if b then s.1 else look d ss).got) (sym (ne_eqb s.0 d apart)))
 
 -- one step of taking back
-step_here : (d : ℕ) (v : Had) (s : Sight) → s.0 ≡ d → (if s.0 == d then both_views v s.1 else v) ≡ both_views v s.1
+step_here : (d : ℕ) (v : DequeView) (s : NamedView) → s.0 ≡ d → (if s.0 == d then both_views v s.1 else v) ≡ both_views v s.1
 step_here d v s is = ap (λ (b : Bool). if b then both_views v s.1 else v) (eq-eqb s.0 d is)
 
-step_else : (d : ℕ) (v : Had) (s : Sight) → s.0 ≢ d → (if s.0 == d then both_views v s.1 else v) ≡ v
+step_else : (d : ℕ) (v : DequeView) (s : NamedView) → s.0 ≢ d → (if s.0 == d then both_views v s.1 else v) ≡ v
 step_else d v s apart = ap (λ (b : Bool). if b then both_views v s.1 else v) (ne_eqb s.0 d apart)
 
-pub taken_here : (d : ℕ) (v : Had) (s : Sight) (ss : List Sight) → s.0 ≡ d → taken_back d v (s ∷ ss) ≡ taken_back d (both_views v s.1) ss
+pub taken_here : (d : ℕ) (v : DequeView) (s : NamedView) (ss : List NamedView) → s.0 ≡ d → taken_back d v (s ∷ ss) ≡ taken_back d (both_views v s.1) ss
 taken_here d v s ss is = ap (λ u. taken_back d u ss) (step_here d v s is)
 
-pub taken_else : (d : ℕ) (v : Had) (s : Sight) (ss : List Sight) → s.0 ≢ d → taken_back d v (s ∷ ss) ≡ taken_back d v ss
+pub taken_else : (d : ℕ) (v : DequeView) (s : NamedView) (ss : List NamedView) → s.0 ≢ d → taken_back d v (s ∷ ss) ≡ taken_back d v ss
 taken_else d v s ss apart = ap (λ u. taken_back d u ss) (step_else d v s apart)
 
 -- what has been had, once the views are taken back
-pub taken_got : (d : ℕ) (v : Had) (ss : List Sight) → (taken_back d v ss).got ≡ v.got ++ gots d ss
+pub taken_got : (d : ℕ) (v : DequeView) (ss : List NamedView) → (taken_back d v ss).got ≡ v.got ++ gots d ss
 taken_got d v [] = sym (append-nil v.got)
 taken_got d v (s ∷ ss) =
     dite (ℕ_discrete s.0 d)
     (λ (is : s.0 ≡ d).
-    ap (λ (u : Had). u.got) (taken_here d v s ss is) ∙ taken_got d (both_views v s.1) ss ∙ append_assoc v.got s.1.got (gots d ss)
+    ap (λ (u : DequeView). u.got) (taken_here d v s ss is) ∙ taken_got d (both_views v s.1) ss ∙ append_assoc v.got s.1.got (gots d ss)
     ∙ ap (λ (b : Bool). v.got ++ ((if b then s.1.got else []) ++ gots d ss)) (sym (eq-eqb s.0 d is)))
     (λ (apart : s.0 ≢ d).
-    ap (λ (u : Had). u.got) (taken_else d v s ss apart) ∙ taken_got d v ss
+    ap (λ (u : DequeView). u.got) (taken_else d v s ss apart) ∙ taken_got d v ss
     ∙ ap (λ (b : Bool). v.got ++ ((if b then s.1.got else []) ++ gots d ss)) (sym (ne_eqb s.0 d apart)))
 
-pub taken_dealt : (d : ℕ) (v : Had) (ss : List Sight) → (taken_back d v ss).dealt ≡ v.dealt
+pub taken_dealt : (d : ℕ) (v : DequeView) (ss : List NamedView) → (taken_back d v ss).dealt ≡ v.dealt
 taken_dealt d v [] = refl
 taken_dealt d v (s ∷ ss) =
     dite (ℕ_discrete s.0 d)
-    (λ (is : s.0 ≡ d). ap (λ (u : Had). u.dealt) (taken_here d v s ss is) ∙ taken_dealt d (both_views v s.1) ss)
-    (λ (apart : s.0 ≢ d). ap (λ (u : Had). u.dealt) (taken_else d v s ss apart) ∙ taken_dealt d v ss)
+    (λ (is : s.0 ≡ d). ap (λ (u : DequeView). u.dealt) (taken_here d v s ss is) ∙ taken_dealt d (both_views v s.1) ss)
+    (λ (apart : s.0 ≢ d). ap (λ (u : DequeView). u.dealt) (taken_else d v s ss apart) ∙ taken_dealt d v ss)
 
 -- the holder stays the worker, with one view less for each that was taken back
-abbrev pub tally : ℕ → List Sight → ℕ
+abbrev pub tally : ℕ → List NamedView → ℕ
 tally d [] = 0
 tally d (s ∷ ss) = (if s.0 == d then 1 else 0) + tally d ss
 
-pub tally_append : (d : ℕ) (ss ts : List Sight) → tally d (ss ++ ts) ≡ tally d ss + tally d ts
+pub tally_append : (d : ℕ) (ss ts : List NamedView) → tally d (ss ++ ts) ≡ tally d ss + tally d ts
 tally_append d [] ts = omega arith
 tally_append d (s ∷ ss) ts = let more = tally_append d ss ts in omega (arith, more)
 
-tally_here : (d : ℕ) (s : Sight) (ss : List Sight) → s.0 ≡ d → tally d (s ∷ ss) ≡ 1 + tally d ss
+tally_here : (d : ℕ) (s : NamedView) (ss : List NamedView) → s.0 ≡ d → tally d (s ∷ ss) ≡ 1 + tally d ss
 tally_here d s ss is = ap (λ (b : Bool). (if b then 1 else 0) + tally d ss) (eq-eqb s.0 d is)
 
-tally_else : (d : ℕ) (s : Sight) (ss : List Sight) → s.0 ≢ d → tally d (s ∷ ss) ≡ tally d ss
+tally_else : (d : ℕ) (s : NamedView) (ss : List NamedView) → s.0 ≢ d → tally d (s ∷ ss) ≡ tally d ss
 tally_else d s ss apart = let e = ap (λ (b : Bool). (if b then 1 else 0) + tally d ss) (ne_eqb s.0 d apart) in omega (arith, e)
 
-pub tally_none : (d : ℕ) (ss : List Sight) → ((k : ℕ) (s : Sight) → slice_get ss k ≡ Some s → s.0 ≢ d) → tally d ss ≡ 0
+pub tally_none : (d : ℕ) (ss : List NamedView) → ((k : ℕ) (s : NamedView) → slice_get ss k ≡ Some s → s.0 ≢ d) → tally d ss ≡ 0
 tally_none d [] none = refl
 tally_none d (s ∷ ss) none = tally_else d s ss (none 0 s refl) ∙ tally_none d ss (λ k t e. none (suc k) t e)
 
-pub tally_one : (d : ℕ) (ss : List Sight) (k : ℕ) (s : Sight) → slice_get ss k ≡ Some s → s.0 ≡ d → ((j : ℕ) (t : Sight) → slice_get ss j ≡ Some t → t.0 ≡ d → j ≡ k) → tally d ss ≡ 1
+pub tally_one : (d : ℕ) (ss : List NamedView) (k : ℕ) (s : NamedView) → slice_get ss k ≡ Some s → s.0 ≡ d → ((j : ℕ) (t : NamedView) → slice_get ss j ≡ Some t → t.0 ≡ d → j ≡ k) → tally d ss ≡ 1
 tally_one d [] k s e is only = absurd (cc (e))
 tally_one d (x ∷ xs) zero s e is only =
     let same : x ≡ s = cc (e) in
     let none = tally_none d xs (λ j t f g. let h = only (suc j) t f g in omega (arith, h)) in
-    let here = tally_here d x xs (ap (λ (y : Sight). y.0) same ∙ is) in omega (arith, here, none)
+    let here = tally_here d x xs (ap (λ (y : NamedView). y.0) same ∙ is) in omega (arith, here, none)
 tally_one d (x ∷ xs) (suc k) s e is only =
     tally_else d x xs (λ f. let h = only 0 x refl f in omega (arith, h)) ∙ tally_one d xs k s e is (λ j t f g. let h = only (suc j) t f g in omega (arith, h))
 
@@ -157,24 +157,24 @@ regain_owner (Owner (suc out)) e = refl
 regain_owner Guest e = e
 regain_owner Nobody e = e
 
-pub taken_out : (d : ℕ) (v : Had) (ss : List Sight) → out_of (taken_back d v ss).holder ≡ out_of v.holder - tally d ss
+pub taken_out : (d : ℕ) (v : DequeView) (ss : List NamedView) → out_of (taken_back d v ss).holder ≡ out_of v.holder - tally d ss
 taken_out d v [] = omega arith
 taken_out d v (s ∷ ss) =
     dite (ℕ_discrete s.0 d)
     (λ (is : s.0 ≡ d).
-    let step = ap (λ (u : Had). out_of u.holder) (taken_here d v s ss is) in
+    let step = ap (λ (u : DequeView). out_of u.holder) (taken_here d v s ss is) in
     let more = taken_out d (both_views v s.1) ss in
     let less = regain_out v.holder in
     let one = tally_here d s ss is in
     step ∙ more ∙ ap (λ n. n - tally d ss) less ∙ (let e : out_of v.holder - 1 - tally d ss ≡ out_of v.holder - (1 + tally d ss) = omega arith in e) ∙ ap (λ n. out_of v.holder - n) (sym one))
-    (λ (apart : s.0 ≢ d). ap (λ (u : Had). out_of u.holder) (taken_else d v s ss apart) ∙ taken_out d v ss ∙ ap (λ n. out_of v.holder - n) (sym (tally_else d s ss apart)))
+    (λ (apart : s.0 ≢ d). ap (λ (u : DequeView). out_of u.holder) (taken_else d v s ss apart) ∙ taken_out d v ss ∙ ap (λ n. out_of v.holder - n) (sym (tally_else d s ss apart)))
 
-pub taken_owner : (d : ℕ) (v : Had) (ss : List Sight) → is_owner v.holder ≡ true → is_owner (taken_back d v ss).holder ≡ true
+pub taken_owner : (d : ℕ) (v : DequeView) (ss : List NamedView) → is_owner v.holder ≡ true → is_owner (taken_back d v ss).holder ≡ true
 taken_owner d v [] owner = owner
 taken_owner d v (s ∷ ss) owner =
     dite (ℕ_discrete s.0 d)
-    (λ (is : s.0 ≡ d). ap (λ (u : Had). is_owner u.holder) (taken_here d v s ss is) ∙ taken_owner d (both_views v s.1) ss (regain_owner v.holder owner))
-    (λ (apart : s.0 ≢ d). ap (λ (u : Had). is_owner u.holder) (taken_else d v s ss apart) ∙ taken_owner d v ss owner)
+    (λ (is : s.0 ≡ d). ap (λ (u : DequeView). is_owner u.holder) (taken_here d v s ss is) ∙ taken_owner d (both_views v s.1) ss (regain_owner v.holder owner))
+    (λ (apart : s.0 ≢ d). ap (λ (u : DequeView). is_owner u.holder) (taken_else d v s ss apart) ∙ taken_owner d v ss owner)
 
 either_left : (a b : Bool) → a ≡ true → (a || b) ≡ true
 either_left a b e = ap (λ c. c || b) e
@@ -184,19 +184,19 @@ either_right true b e = refl
 either_right false b e = e
 
 -- where somebody has had a mark of the end, the worker has
-pub taken_end : (d : ℕ) (v : Had) (ss : List Sight) → v.ended ≡ true → (taken_back d v ss).ended ≡ true
+pub taken_end : (d : ℕ) (v : DequeView) (ss : List NamedView) → v.ended ≡ true → (taken_back d v ss).ended ≡ true
 taken_end d v [] ended = ended
 taken_end d v (s ∷ ss) ended =
     dite (ℕ_discrete s.0 d)
-    (λ (is : s.0 ≡ d). ap (λ (u : Had). u.ended) (taken_here d v s ss is) ∙ taken_end d (both_views v s.1) ss (either_left v.ended s.1.ended ended))
-    (λ (apart : s.0 ≢ d). ap (λ (u : Had). u.ended) (taken_else d v s ss apart) ∙ taken_end d v ss ended)
+    (λ (is : s.0 ≡ d). ap (λ (u : DequeView). u.ended) (taken_here d v s ss is) ∙ taken_end d (both_views v s.1) ss (either_left v.ended s.1.ended ended))
+    (λ (apart : s.0 ≢ d). ap (λ (u : DequeView). u.ended) (taken_else d v s ss apart) ∙ taken_end d v ss ended)
 
-pub taken_end_at : (d : ℕ) (v : Had) (ss : List Sight) (k : ℕ) (s : Sight) → slice_get ss k ≡ Some s → s.0 ≡ d → s.1.ended ≡ true → (taken_back d v ss).ended ≡ true
+pub taken_end_at : (d : ℕ) (v : DequeView) (ss : List NamedView) (k : ℕ) (s : NamedView) → slice_get ss k ≡ Some s → s.0 ≡ d → s.1.ended ≡ true → (taken_back d v ss).ended ≡ true
 taken_end_at d v [] k s e is ended = absurd (cc (e))
 taken_end_at d v (x ∷ xs) zero s e is ended =
     let same : x ≡ s = cc (e) in
-    ap (λ (u : Had). u.ended) (taken_here d v x xs (ap (λ (y : Sight). y.0) same ∙ is)) ∙ taken_end d (both_views v x.1) xs (either_right v.ended x.1.ended (ap (λ (y : Sight). y.1.ended) same ∙ ended))
+    ap (λ (u : DequeView). u.ended) (taken_here d v x xs (ap (λ (y : NamedView). y.0) same ∙ is)) ∙ taken_end d (both_views v x.1) xs (either_right v.ended x.1.ended (ap (λ (y : NamedView). y.1.ended) same ∙ ended))
 taken_end_at d v (x ∷ xs) (suc k) s e is ended =
     dite (ℕ_discrete x.0 d)
-    (λ (here : x.0 ≡ d). ap (λ (u : Had). u.ended) (taken_here d v x xs here) ∙ taken_end_at d (both_views v x.1) xs k s e is ended)
-    (λ (apart : x.0 ≢ d). ap (λ (u : Had). u.ended) (taken_else d v x xs apart) ∙ taken_end_at d v xs k s e is ended)
+    (λ (here : x.0 ≡ d). ap (λ (u : DequeView). u.ended) (taken_here d v x xs here) ∙ taken_end_at d (both_views v x.1) xs k s e is ended)
+    (λ (apart : x.0 ≢ d). ap (λ (u : DequeView). u.ended) (taken_else d v x xs apart) ∙ taken_end_at d v xs k s e is ended)

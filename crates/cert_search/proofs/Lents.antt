@@ -4,7 +4,7 @@ use Rattle.std.specs.Prelude.{slice_get}
 use mathlib.Core.Logic.{dite}
 use native.Mathlib.Decide.{ℕ_discrete}
 use Rattle.cert_search.specs.declared.own.Own.{Own}
-use Rattle.cert_search.specs.Sights.{round_of}
+use Rattle.cert_search.specs.NamedViews.{round_of}
 use Rattle.cert_search.specs.Dealing.{own_out, outs, AreOut, LendsOthers}
 use Rattle.cert_search.proofs.Rows.{map_set, map_get, map_at, set_at, set_other, within}
 use Rattle.cert_search.proofs.Rounds.{round_get, round_at, round_has, round_apart}

@@ -5,29 +5,29 @@ use mathlib.Core.Option.{some, some-ne-none}
 use mathlib.Core.Logic.{dite}
 use native.Mathlib.Decide.{ℕ_discrete}
 use lib.ListN.{get_elem?}
-use Rattle.cert_search.specs.declared.deque.Had.{Had}
+use Rattle.cert_search.specs.declared.deque.DequeView.{DequeView}
 use Rattle.cert_search.specs.declared.hand.Hand.{Hand}
 use Rattle.cert_search.specs.declared.own.Own.{Own}
 use Rattle.cert_search.specs.declared.steal_handle.StealHandle.{StealHandle}
 use Rattle.cert_search.specs.declared.deque.Holder.TheVariants.{Owner}
 use Rattle.cert_search.specs.Deque.{both_views, out_of, claims_of, Settles}
 use Rattle.cert_search.proofs.Claims.{owner_out}
-use Rattle.cert_search.specs.Sights.{Name, Sight, SameDeque, own_sight, reach_sight, look, name_at, IsRound}
+use Rattle.cert_search.specs.NamedViews.{Name, NamedView, SameDeque, own_named, handle_named, look, name_at, IsRound}
 use Rattle.cert_search.specs.Dealing.{names_in, own_name}
-use Rattle.cert_search.specs.Hands.{sights_of, names_of, deque_at, had_from, IsOfDeal}
+use Rattle.cert_search.specs.Hands.{named_views_of, names_of, deque_at, had_from, IsOfDeal}
 use Rattle.cert_search.specs.Settled.{AreOfDeal, Stands, HadOnce, EachHad, own_views, hand_own, others_of, all_others, taken_back, AreTied, EachTaken, EachSettles}
 use Rattle.cert_search.proofs.Steps.{in_range}
 use Rattle.cert_search.proofs.Rows.{map_set, map_len, map_get, map_at, map_from, map_twice, set_same, set_at, set_other, within}
 use Rattle.cert_search.proofs.Shares.{claims_in, claims_has}
-use Rattle.cert_search.proofs.Rounds.{look_first, looked, sight_of, round_at, sight_at, sight_apart}
+use Rattle.cert_search.proofs.Rounds.{look_first, looked, view_of, round_at, view_at, view_apart}
 use Rattle.cert_search.proofs.Gots.{flat, flat_at, flat_from, place, place_apart, gots, gots_each, gots_none, gots_one, tally, tally_append, tally_none, tally_one, taken_out, taken_owner, taken_end, taken_end_at, taken_here, taken_else, taken_got, taken_dealt}
 
 -- a hand goes in front
-pub others_more : (rs : List StealHandle) (more : List StealHandle) (hs : List Hand) (h : Hand) (all : List Sight) → more ≡ h.others.items → map reach_sight rs ++ all_others (h ∷ hs) ≡ all → (map reach_sight rs ++ map reach_sight more) ++ all_others hs ≡ all
-others_more rs more hs h all is e = append_assoc (map reach_sight rs) (map reach_sight more) (all_others hs) ∙ ap (λ (l : List StealHandle). map reach_sight rs ++ (map reach_sight l ++ all_others hs)) is ∙ e
+pub others_more : (rs : List StealHandle) (more : List StealHandle) (hs : List Hand) (h : Hand) (all : List NamedView) → more ≡ h.others.items → map handle_named rs ++ all_others (h ∷ hs) ≡ all → (map handle_named rs ++ map handle_named more) ++ all_others hs ≡ all
+others_more rs more hs h all is e = append_assoc (map handle_named rs) (map handle_named more) (all_others hs) ∙ ap (λ (l : List StealHandle). map handle_named rs ++ (map handle_named l ++ all_others hs)) is ∙ e
 
 -- one view is taken back
-module _ (first owns : List Own) (o p : Own) (s : Sight) (rest all : List Sight) (lt : s.0 < length owns) (is : o ≡ get_or owns s.0 o) (same : SameDeque (own_sight o) (own_sight p)) (both : (own_sight p).1 ≡ both_views (own_sight o).1 s.1) where
+module _ (first owns : List Own) (o p : Own) (s : NamedView) (rest all : List NamedView) (lt : s.0 < length owns) (is : o ≡ get_or owns s.0 o) (same : SameDeque (own_named o) (own_named p)) (both : (own_named p).1 ≡ both_views (own_named o).1 s.1) where
   abbrev now : List Own
   now = set owns s.0 p
 
@@ -37,25 +37,25 @@ module _ (first owns : List Own) (o p : Own) (s : Sight) (rest all : List Sight)
   pub gather_names : names_in now ≡ names_in owns
   gather_names = map_set own_name owns s.0 p ∙ ap (λ q. set (map own_name owns) s.0 q) same.1 ∙ set_same (map own_name owns) s.0 (own_name o) (here own_name)
 
-  abbrev Taking : List Own → List Sight → Type 0
-  Taking owns left = (d : ℕ) (v : Had) → slice_get (own_views first) d ≡ Some v → (u : Had) × (slice_get (own_views owns) d ≡ Some u) × (taken_back d u left ≡ taken_back d v all)
+  abbrev Taking : List Own → List NamedView → Type 0
+  Taking owns left = (d : ℕ) (v : DequeView) → slice_get (own_views first) d ≡ Some v → (u : DequeView) × (slice_get (own_views owns) d ≡ Some u) × (taken_back d u left ≡ taken_back d v all)
 
   pub gather_step : Taking owns (s ∷ rest) → Taking now rest
   gather_step taking d v e =
       let t = taking d v e in
-      let view = λ (x : Own). (own_sight x).1 in
+      let view = λ (x : Own). (own_named x).1 in
       let moved = map_set view owns s.0 p in
       dite (ℕ_discrete s.0 d)
       (λ (mine : s.0 ≡ d).
-      let was : Some (own_sight o).1 ≡ Some t.0 = sym (here view) ∙ ap (slice_get (own_views owns)) mine ∙ t.1 in
-      let old : (own_sight o).1 ≡ t.0 = cc (was) in
-      let at : slice_get (set (own_views owns) s.0 (own_sight p).1) s.0 ≡ Some (own_sight p).1 = set_at (own_views owns) s.0 (own_sight p).1 (own_sight o).1 (here view) in
-      ((own_sight p).1, ap (slice_get (own_views now)) (sym mine) ∙ ap (λ l. slice_get l s.0) moved ∙ at, ap (λ u. taken_back d u rest) (both ∙ ap (λ u. both_views u s.1) old) ∙ sym (taken_here d t.0 s rest mine) ∙ t.2))
+      let was : Some (own_named o).1 ≡ Some t.0 = sym (here view) ∙ ap (slice_get (own_views owns)) mine ∙ t.1 in
+      let old : (own_named o).1 ≡ t.0 = cc (was) in
+      let at : slice_get (set (own_views owns) s.0 (own_named p).1) s.0 ≡ Some (own_named p).1 = set_at (own_views owns) s.0 (own_named p).1 (own_named o).1 (here view) in
+      ((own_named p).1, ap (slice_get (own_views now)) (sym mine) ∙ ap (λ l. slice_get l s.0) moved ∙ at, ap (λ u. taken_back d u rest) (both ∙ ap (λ u. both_views u s.1) old) ∙ sym (taken_here d t.0 s rest mine) ∙ t.2))
       (λ (apart : s.0 ≢ d).
-      (t.0, ap (λ l. slice_get l d) moved ∙ set_other (own_views owns) s.0 d (own_sight p).1 (λ f. apart (sym f)) ∙ t.1, sym (taken_else d t.0 s rest apart) ∙ t.2))
+      (t.0, ap (λ l. slice_get l d) moved ∙ set_other (own_views owns) s.0 d (own_named p).1 (λ f. apart (sym f)) ∙ t.1, sym (taken_else d t.0 s rest apart) ∙ t.2))
 
 -- what stands among all hands' views of others' deques
-others_from : (hands : List Hand) (k : ℕ) (s : Sight) → slice_get (all_others hands) k ≡ Some s → (i : ℕ) × (h : Hand) × (j : ℕ) × (slice_get hands i ≡ Some h) × (slice_get (others_of h) j ≡ Some s)
+others_from : (hands : List Hand) (k : ℕ) (s : NamedView) → slice_get (all_others hands) k ≡ Some s → (i : ℕ) × (h : Hand) × (j : ℕ) × (slice_get hands i ≡ Some h) × (slice_get (others_of h) j ≡ Some s)
 others_from [] k s e = absurd (cc (e))
 others_from (h ∷ hs) k s e =
     ⊎_elim
@@ -63,24 +63,24 @@ others_from (h ∷ hs) k s e =
     (λ (there : (m : ℕ) × (slice_get (all_others hs) m ≡ Some s)). let t = others_from hs there.0 s there.1 in (suc t.0, t.1, t.2, t.3, t.4))
     (either_get (others_of h) (all_others hs) k s e)
   where
-    either_get : (l m : List Sight) (k : ℕ) (b : Sight) → slice_get (l ++ m) k ≡ Some b → (slice_get l k ≡ Some b) ⊎ ((j : ℕ) × (slice_get m j ≡ Some b))
+    either_get : (l m : List NamedView) (k : ℕ) (b : NamedView) → slice_get (l ++ m) k ≡ Some b → (slice_get l k ≡ Some b) ⊎ ((j : ℕ) × (slice_get m j ≡ Some b))
     either_get [] m k b e = inr (k, e)
     either_get (x ∷ xs) m zero b e = inl e
     either_get (x ∷ xs) m (suc k) b e = either_get xs m k b e
 
 -- a view is of one of the deques
-pub tied_within : (owns : List Own) (s : Sight) → slice_get (names_in owns) s.0 ≡ Some s.2 → s.0 < length owns
+pub tied_within : (owns : List Own) (s : NamedView) → slice_get (names_in owns) s.0 ≡ Some s.2 → s.0 < length owns
 tied_within owns s e = let lt = within (names_in owns) s.0 s.2 e in let long = map_len own_name owns in omega (arith, lt, long)
 
-pub tied_name : (owns : List Own) (s : Sight) (o : Own) → slice_get (names_in owns) s.0 ≡ Some s.2 → o ≡ get_or owns s.0 o → own_name o ≡ s.2
+pub tied_name : (owns : List Own) (s : NamedView) (o : Own) → slice_get (names_in owns) s.0 ≡ Some s.2 → o ≡ get_or owns s.0 o → own_name o ≡ s.2
 tied_name owns s o e is =
     let both : Some (own_name o) ≡ Some s.2 = ap (λ y. Some (own_name y)) is ∙ sym (map_get own_name owns s.0 o (tied_within owns s e)) ∙ e in
     cc (both)
 
--- a sight is of the hand's own deque, or of another
-sight_place : (P : Type 0) (own : Sight) (others : List Sight) (k : ℕ) (s : Sight) → slice_get (own ∷ others) k ≡ Some s → (own ≡ s → P) → ((j : ℕ) → slice_get others j ≡ Some s → P) → P
-sight_place P own others zero s e here there = here (cc (e))
-sight_place P own others (suc k) s e here there = there k e
+-- a view is of the hand's own deque, or of another
+view_place : (P : Type 0) (own : NamedView) (others : List NamedView) (k : ℕ) (s : NamedView) → slice_get (own ∷ others) k ≡ Some s → (own ≡ s → P) → ((j : ℕ) → slice_get others j ≡ Some s → P) → P
+view_place P own others zero s e here there = here (cc (e))
+view_place P own others (suc k) s e here there = there k e
 
 -- which deque a hand reaches, where it sees it
 pub name_seen : (ps : List (ℕ × Name)) (k : ℕ) (p : ℕ × Name) → slice_get ps k ≡ Some p → ((j : ℕ) (q : ℕ × Name) → slice_get ps j ≡ Some q → q.0 ≡ p.0 → j ≡ k) → name_at p.0 ps ≡ Some p.1
@@ -91,22 +91,22 @@ name_seen (x ∷ xs) (suc k) p e only =
     ∙ name_seen xs k p e (λ j q f g. let h = only (suc j) q f g in omega (arith, h))
 
 -- the hand sees the deque under its number
-seen : (claims workers : ℕ) (h : Hand) → IsOfDeal claims workers h → (k : ℕ) (s : Sight) → slice_get (sights_of h) k ≡ Some s → deque_at h s.0 ≡ Some s.2
+seen : (claims workers : ℕ) (h : Hand) → IsOfDeal claims workers h → (k : ℕ) (s : NamedView) → slice_get (named_views_of h) k ≡ Some s → deque_at h s.0 ≡ Some s.2
 seen claims workers h deal k s e =
-    let pair : Sight → ℕ × Name = λ (t : Sight). (t.0, t.2) in
-    name_seen (names_of h) k (pair s) (map_at pair (sights_of h) k s e)
+    let pair : NamedView → ℕ × Name = λ (t : NamedView). (t.0, t.2) in
+    name_seen (names_of h) k (pair s) (map_at pair (named_views_of h) k s e)
     (λ j q f same.
-    let t = map_from pair (sights_of h) j q f in
+    let t = map_from pair (named_views_of h) j q f in
     let number : t.0.0 ≡ s.0 = ap (λ (r : ℕ × Name). r.0) t.2 ∙ same in
-    sight_apart claims workers h.own.which (sights_of h) deal.round k j s t.0 e t.1 number)
+    view_apart claims workers h.own.which (named_views_of h) deal.round k j s t.0 e t.1 number)
 
 -- what the workers have learned, of each hand
-pub views_are : (hands : List Hand) (owns news : List Own) (ss : List Sight) → (map own_sight owns ≡ map hand_own hands) × (ss ≡ all_others hands) → EachTaken owns ss news → EachSettles news
-    → (d : ℕ) (h : Hand) → slice_get hands d ≡ Some h → Settles (taken_back d (own_sight h.own).1 (all_others hands))
+pub views_are : (hands : List Hand) (owns news : List Own) (ss : List NamedView) → (map own_named owns ≡ map hand_own hands) × (ss ≡ all_others hands) → EachTaken owns ss news → EachSettles news
+    → (d : ℕ) (h : Hand) → slice_get hands d ≡ Some h → Settles (taken_back d (own_named h.own).1 (all_others hands))
 views_are hands owns news ss same taken learned d h e =
-    let view : Sight → Had = λ (s : Sight). s.1 in
+    let view : NamedView → DequeView = λ (s : NamedView). s.1 in
     let at : slice_get (own_views owns) d ≡ Some (hand_own h).1 =
-    sym (ap (λ l. slice_get l d) (map_twice own_sight view owns)) ∙ ap (λ l. slice_get (map view l) d) same.0 ∙ ap (λ l. slice_get l d) (map_twice hand_own view hands) ∙ map_at (λ (x : Hand). (hand_own x).1) hands d h e in
+    sym (ap (λ l. slice_get l d) (map_twice own_named view owns)) ∙ ap (λ l. slice_get (map view l) d) same.0 ∙ ap (λ l. slice_get l d) (map_twice hand_own view hands) ∙ map_at (λ (x : Hand). (hand_own x).1) hands d h e in
     subst (λ l. Settles (taken_back d (hand_own h).1 l)) same.1 (learned d (taken_back d (hand_own h).1 ss) (taken d (hand_own h).1 at))
 
 get_longer : {A : Type 0} (l m : List A) (k : ℕ) (b : A) → slice_get l k ≡ Some b → slice_get (l ++ m) k ≡ Some b
@@ -134,7 +134,7 @@ others_joined [] = refl
 others_joined (h ∷ hs) = ap (λ l. others_of h ++ l) (others_joined hs)
 
 -- what stands among the hands' views
-others_at : (hands : List Hand) (i j : ℕ) (h : Hand) (s : Sight) → slice_get hands i ≡ Some h → slice_get (others_of h) j ≡ Some s → (k : ℕ) × (slice_get (all_others hands) k ≡ Some s)
+others_at : (hands : List Hand) (i j : ℕ) (h : Hand) (s : NamedView) → slice_get hands i ≡ Some h → slice_get (others_of h) j ≡ Some s → (k : ℕ) × (slice_get (all_others hands) k ≡ Some s)
 others_at hands i j h s e f = let t = joined_at others_of hands i j h s e f in (t.0, ap (λ l. slice_get l t.0) (sym (others_joined hands)) ∙ t.1)
 
 -- the views of a deque among those of hands, each of which has one, except one hand
@@ -183,46 +183,46 @@ module _ (claims : ℕ) (hands : List Hand) (deal : AreOfDeal claims hands) wher
     pub of_deal : IsOfDeal claims count h
     of_deal = (deal.each i h at).0
 
-    pub ring : IsRound claims count h.own.which (sights_of h)
+    pub ring : IsRound claims count h.own.which (named_views_of h)
     ring = of_deal.round
 
     pub own_is : h.own.which ≡ i
     own_is = (deal.each i h at).1
 
     -- what it sees of other deques is of deques of the deal
-    pub number_below : (k : ℕ) (s : Sight) → slice_get (sights_of h) k ≡ Some s → s.0 < count
+    pub number_below : (k : ℕ) (s : NamedView) → slice_get (named_views_of h) k ≡ Some s → s.0 < count
     number_below k s e =
-        let t = sight_at claims count h.own.which (sights_of h) ring k s e in
+        let t = view_at claims count h.own.which (named_views_of h) ring k s e in
         let r = round_at count h.own.which k s.0 ring.within t.0 in
         let some : 0 < count = omega (arith, ring.within) in
         let lt = mod-lt (h.own.which + k) some in
         omega (arith, lt, r.1)
 
     -- each view of another's deque is of the deque that its worker has
-    pub view_tied : (k : ℕ) (s : Sight) → slice_get (others_of h) k ≡ Some s → (g : Hand) × (slice_get hands s.0 ≡ Some g) × (own_name g.own ≡ s.2)
+    pub view_tied : (k : ℕ) (s : NamedView) → slice_get (others_of h) k ≡ Some s → (g : Hand) × (slice_get hands s.0 ≡ Some g) × (own_name g.own ≡ s.2)
     view_tied k s e =
         let lt = number_below (suc k) s e in
         let g = hand_at s.0 lt in
         let mine : deque_at h s.0 ≡ Some s.2 = seen claims count h of_deal (suc k) s e in
-        let theirs : deque_at g.0 g.0.own.which ≡ Some (own_name g.0.own) = seen claims count g.0 (deal.each s.0 g.0 g.1).0 0 (own_sight g.0.own) refl in
+        let theirs : deque_at g.0 g.0.own.which ≡ Some (own_name g.0.own) = seen claims count g.0 (deal.each s.0 g.0 g.1).0 0 (own_named g.0.own) refl in
         let own : g.0.own.which ≡ s.0 = (deal.each s.0 g.0 g.1).1 in
         let shared = deal.shared i s.0 s.0 h g.0 at g.1 lt in
         let both : Some (own_name g.0.own) ≡ Some s.2 = sym theirs ∙ ap (deque_at g.0) own ∙ sym shared.same ∙ mine in
         (g.0, g.1, cc (both))
 
-  pub all_tied : (owns : List Own) → map own_sight owns ≡ map hand_own hands → AreTied (names_in owns) (all_others hands)
+  pub all_tied : (owns : List Own) → map own_named owns ≡ map hand_own hands → AreTied (names_in owns) (all_others hands)
   all_tied owns same k s e =
       let t = others_from hands k s e in
       let g = view_tied t.0 t.1 t.3 t.2 s t.4 in
-      sym (ap (λ l. slice_get l s.0) (map_twice own_sight (λ (u : Sight). u.2) owns))
-      ∙ ap (λ l. slice_get (map (λ (u : Sight). u.2) l) s.0) same
-      ∙ ap (λ l. slice_get l s.0) (map_twice hand_own (λ (u : Sight). u.2) hands)
+      sym (ap (λ l. slice_get l s.0) (map_twice own_named (λ (u : NamedView). u.2) owns))
+      ∙ ap (λ l. slice_get (map (λ (u : NamedView). u.2) l) s.0) same
+      ∙ ap (λ l. slice_get l s.0) (map_twice hand_own (λ (u : NamedView). u.2) hands)
       ∙ map_at (λ (x : Hand). (hand_own x).2) hands s.0 g.0 g.1 ∙ ap Some g.2
 
   -- the worker of the deque d, once all views are taken back
   module _ (d : ℕ) (own : Hand) (mine : slice_get hands d ≡ Some own) where
-    abbrev view : Had
-    view = (own_sight own.own).1
+    abbrev view : DequeView
+    view = (own_named own.own).1
 
     abbrev lists : List (List ℕ)
     lists = view.got ∷ map (λ h. gots d (others_of h)) hands
@@ -232,7 +232,7 @@ module _ (claims : ℕ) (hands : List Hand) (deal : AreOfDeal claims hands) wher
 
     pub all_dealt : (taken_back d view (all_others hands)).dealt ≡ claims_of count d claims
     all_dealt =
-        let share = (sight_at claims count own.own.which (sights_of own) (ring d own mine) 0 (own_sight own.own) refl).1 in
+        let share = (view_at claims count own.own.which (named_views_of own) (ring d own mine) 0 (own_named own.own) refl).1 in
         taken_dealt d view (all_others hands) ∙ share ∙ ap (λ n. claims_of count n claims) (own_is d own mine)
 
     -- where what the hand i has had of the deque stands among the lists
@@ -242,13 +242,13 @@ module _ (claims : ℕ) (hands : List Hand) (deal : AreOfDeal claims hands) wher
         (λ (is : i ≡ d).
         let both : Some own ≡ Some h = sym mine ∙ ap (slice_get hands) (sym is) ∙ at in
         let same : own ≡ h = cc (both) in
-        let got : had_from h d ≡ view.got = ap (λ (x : Hand). had_from x d) (sym same) ∙ ap (λ (v : Had). v.got) (look_first (own_sight own.own) (others_of own) d (own_is d own mine)) in
+        let got : had_from h d ≡ view.got = ap (λ (x : Hand). had_from x d) (sym same) ∙ ap (λ (v : DequeView). v.got) (look_first (own_named own.own) (others_of own) d (own_is d own mine)) in
         (0, ap Some (sym got), inl (is, refl)))
         (λ (apart : i ≢ d).
         let number : h.own.which ≢ d = λ e. apart (sym (own_is i h at) ∙ e) in
-        let had : had_from h d ≡ (look d (others_of h)).got = ap (λ (b : Bool). (if b then (own_sight h.own).1 else look d (others_of h)).got) (ne_eqb h.own.which d number) in
+        let had : had_from h d ≡ (look d (others_of h)).got = ap (λ (b : Bool). (if b then (own_named h.own).1 else look d (others_of h)).got) (ne_eqb h.own.which d number) in
         let one = gots_one d (others_of h) (λ j k s t e f is is'.
-        let g = sight_apart claims count h.own.which (sights_of h) (ring i h at) (suc k) (suc j) t s f e (is ∙ sym is') in omega (arith, g)) in
+        let g = view_apart claims count h.own.which (named_views_of h) (ring i h at) (suc k) (suc j) t s f e (is ∙ sym is') in omega (arith, g)) in
         (suc i, map_at (λ x. gots d (others_of x)) hands i h at ∙ ap Some (one ∙ sym had), inr (apart, refl)))
 
     -- two slots are two hands
@@ -279,7 +279,7 @@ module _ (claims : ℕ) (hands : List Hand) (deal : AreOfDeal claims hands) wher
           (slot_apart i j n.0 m.0 n.2 m.2 same.0, same.1)
 
   -- the workers have learned what stands in their views
-  module _ (learned : (d : ℕ) (h : Hand) → slice_get hands d ≡ Some h → Settles (taken_back d (own_sight h.own).1 (all_others hands))) where
+  module _ (learned : (d : ℕ) (h : Hand) → slice_get hands d ≡ Some h → Settles (taken_back d (own_named h.own).1 (all_others hands))) where
     below_count : (i d k claim : ℕ) → Stands hands i d k claim → d < count
     below_count i d k claim s = s.2
 
@@ -293,65 +293,65 @@ module _ (claims : ℕ) (hands : List Hand) (deal : AreOfDeal claims hands) wher
         let one = had_apart d own.0 own.1 (learned d own.0 own.1) i k j l claim s (subst (λ n. Stands hands j n l claim) (sym same) t) in
         (one.0, same, one.1)
 
-    module _ (i d claim : ℕ) (h : Hand) (at : slice_get hands i ≡ Some h) (inside : d < count) (ended : (look d (sights_of h)).ended ≡ true) (dealt : claim < claims) (turn : claim % count ≡ d) where
+    module _ (i d claim : ℕ) (h : Hand) (at : slice_get hands i ≡ Some h) (inside : d < count) (ended : (look d (named_views_of h)).ended ≡ true) (dealt : claim < claims) (turn : claim % count ≡ d) where
       abbrev worker : Hand
       worker = (hand_at d inside).0
 
       mine : slice_get hands d ≡ Some worker
       mine = (hand_at d inside).1
 
-      abbrev known : Had
-      known = taken_back d (own_sight worker.own).1 (all_others hands)
+      abbrev known : DequeView
+      known = taken_back d (own_named worker.own).1 (all_others hands)
 
       -- each hand but the worker has one view of the deque
       each_one : Each d 0 hands
       each_one j g e = (
         (λ same. tally_none d (others_of g) (λ k s f is.
-            let z = sight_apart claims count g.own.which (sights_of g) (ring j g e) 0 (suc k) (own_sight g.own) s refl f (is ∙ sym (own_is j g e ∙ (let w : j ≡ d = omega (arith, same) in w))) in omega (arith, z))),
+            let z = view_apart claims count g.own.which (named_views_of g) (ring j g e) 0 (suc k) (own_named g.own) s refl f (is ∙ sym (own_is j g e ∙ (let w : j ≡ d = omega (arith, same) in w))) in omega (arith, z))),
         (λ differ.
-            let t = sight_of claims count g.own.which (sights_of g) (ring j g e) d inside in
+            let t = view_of claims count g.own.which (named_views_of g) (ring j g e) d inside in
             by_place j g e differ t.0 t.1 t.2 t.3),
       )
         where
-          by_place : (j : ℕ) (g : Hand) → slice_get hands j ≡ Some g → 0 + j ≢ d → (k : ℕ) (s : Sight) → slice_get (sights_of g) k ≡ Some s → s.0 ≡ d → tally d (others_of g) ≡ 1
+          by_place : (j : ℕ) (g : Hand) → slice_get hands j ≡ Some g → 0 + j ≢ d → (k : ℕ) (s : NamedView) → slice_get (named_views_of g) k ≡ Some s → s.0 ≡ d → tally d (others_of g) ≡ 1
           by_place j g e differ zero s f is =
-              let first : own_sight g.own ≡ s = cc (f) in
-              absurd (differ (zero-add j ∙ sym (own_is j g e) ∙ ap (λ (u : Sight). u.0) first ∙ is))
+              let first : own_named g.own ≡ s = cc (f) in
+              absurd (differ (zero-add j ∙ sym (own_is j g e) ∙ ap (λ (u : NamedView). u.0) first ∙ is))
           by_place j g e differ (suc k) s f is =
               tally_one d (others_of g) k s f is (λ m t f' is'.
-              let z = sight_apart claims count g.own.which (sights_of g) (ring j g e) (suc k) (suc m) s t f f' (is' ∙ sym is) in omega (arith, z))
+              let z = view_apart claims count g.own.which (named_views_of g) (ring j g e) (suc k) (suc m) s t f f' (is' ∙ sym is) in omega (arith, z))
 
       only_holder : known.holder ≡ Owner 0
       only_holder =
           let all = tally_all d 0 hands (omega arith) (omega (arith, inside)) each_one in
-          let out = taken_out d (own_sight worker.own).1 (all_others hands) in
+          let out = taken_out d (own_named worker.own).1 (all_others hands) in
           let lent = (of_deal d worker mine).lent in
           let none : out_of known.holder ≡ 0 = omega (arith, all, out, lent) in
-          let owner = owner_out known (taken_owner d (own_sight worker.own).1 (all_others hands) worker.own.owner) in
+          let owner = owner_out known (taken_owner d (own_named worker.own).1 (all_others hands) worker.own.owner) in
           let zero_ : owner.0 ≡ 0 = sym (ap out_of owner.1) ∙ none in
           owner.1 ∙ ap Owner zero_
 
       abbrev IsEnd : Type 0
       IsEnd = known.ended ≡ true
 
-      end_here : (s : Sight) → own_sight h.own ≡ s → s.0 ≡ d → s.1.ended ≡ true → IsEnd
+      end_here : (s : NamedView) → own_named h.own ≡ s → s.0 ≡ d → s.1.ended ≡ true → IsEnd
       end_here s first is mark =
-          let number : i ≡ d = sym (own_is i h at) ∙ ap (λ (u : Sight). u.0) first ∙ is in
+          let number : i ≡ d = sym (own_is i h at) ∙ ap (λ (u : NamedView). u.0) first ∙ is in
           let both : Some worker ≡ Some h = sym mine ∙ ap (slice_get hands) (sym number) ∙ at in
           let same : worker ≡ h = cc (both) in
-          let ended_ : (own_sight worker.own).1.ended ≡ true = ap (λ (x : Hand). (own_sight x.own).1.ended) same ∙ ap (λ (u : Sight). u.1.ended) first ∙ mark in
-          taken_end d (own_sight worker.own).1 (all_others hands) ended_
+          let ended_ : (own_named worker.own).1.ended ≡ true = ap (λ (x : Hand). (own_named x.own).1.ended) same ∙ ap (λ (u : NamedView). u.1.ended) first ∙ mark in
+          taken_end d (own_named worker.own).1 (all_others hands) ended_
 
-      end_there : (s : Sight) (j : ℕ) → slice_get (others_of h) j ≡ Some s → s.0 ≡ d → s.1.ended ≡ true → IsEnd
-      end_there s j e is mark = let p = others_at hands i j h s at e in taken_end_at d (own_sight worker.own).1 (all_others hands) p.0 s p.1 is mark
+      end_there : (s : NamedView) (j : ℕ) → slice_get (others_of h) j ≡ Some s → s.0 ≡ d → s.1.ended ≡ true → IsEnd
+      end_there s j e is mark = let p = others_at hands i j h s at e in taken_end_at d (own_named worker.own).1 (all_others hands) p.0 s p.1 is mark
 
       -- the mark has come back to the worker
       end_known : IsEnd
       end_known =
-          let t = sight_of claims count h.own.which (sights_of h) (ring i h at) d inside in
-          let looked_ = looked claims count h.own.which (sights_of h) (ring i h at) t.0 t.1 t.2 in
-          let mark : t.1.1.ended ≡ true = ap (λ (v : Had). v.ended) (sym looked_ ∙ ap (λ n. look n (sights_of h)) t.3) ∙ ended in
-          sight_place IsEnd (own_sight h.own) (others_of h) t.0 t.1 t.2 (λ first. end_here t.1 first t.3 mark) (λ j e. end_there t.1 j e t.3 mark)
+          let t = view_of claims count h.own.which (named_views_of h) (ring i h at) d inside in
+          let looked_ = looked claims count h.own.which (named_views_of h) (ring i h at) t.0 t.1 t.2 in
+          let mark : t.1.1.ended ≡ true = ap (λ (v : DequeView). v.ended) (sym looked_ ∙ ap (λ n. look n (named_views_of h)) t.3) ∙ ended in
+          view_place IsEnd (own_named h.own) (others_of h) t.0 t.1 t.2 (λ first. end_here t.1 first t.3 mark) (λ j e. end_there t.1 j e t.3 mark)
 
       stands : (j : ℕ) × (k : ℕ) × Stands hands j d k claim
       stands =
@@ -363,8 +363,8 @@ module _ (claims : ℕ) (hands : List Hand) (deal : AreOfDeal claims hands) wher
           by_list : (n k : ℕ) (l : List ℕ) → slice_get (lists d worker mine) n ≡ Some l → get_elem? l k ≡ some claim → (j : ℕ) × (k : ℕ) × Stands hands j d k claim
           by_list zero k l e f =
               let s = slot_of d worker mine d worker mine in
-              let is : (own_sight worker.own).1.got ≡ l = cc (e) in
-              let had : had_from worker d ≡ (own_sight worker.own).1.got = ap (λ (v : Had). v.got) (look_first (own_sight worker.own) (others_of worker) d (own_is d worker mine)) in
+              let is : (own_named worker.own).1.got ≡ l = cc (e) in
+              let had : had_from worker d ≡ (own_named worker.own).1.got = ap (λ (v : DequeView). v.got) (look_first (own_named worker.own) (others_of worker) d (own_is d worker mine)) in
               (d, k, (worker, mine, inside, ap (λ m. get_elem? m k) (had ∙ is) ∙ f))
           by_list (suc n) k l e f =
               let g = map_from (λ x. gots d (others_of x)) hands n l e in
@@ -372,7 +372,7 @@ module _ (claims : ℕ) (hands : List Hand) (deal : AreOfDeal claims hands) wher
               ⊎_elim
               (λ (t : (n ≡ d) × (s.0 ≡ 0)).
               let empty = gots_none d (others_of g.0) (λ m u f' is.
-              let z = sight_apart claims count g.0.own.which (sights_of g.0) (ring n g.0 g.1) 0 (suc m) (own_sight g.0.own) u refl f' (is ∙ sym (own_is n g.0 g.1 ∙ t.0)) in omega (arith, z)) in
+              let z = view_apart claims count g.0.own.which (named_views_of g.0) (ring n g.0 g.1) 0 (suc m) (own_named g.0.own) u refl f' (is ∙ sym (own_is n g.0 g.1 ∙ t.0)) in omega (arith, z)) in
               absurd (some-ne-none claim (sym (ap (λ m. get_elem? m k) (sym empty ∙ g.2) ∙ f))))
               (λ (t : (n ≢ d) × (s.0 ≡ suc n)).
               let both : Some (gots d (others_of g.0)) ≡ Some (had_from g.0 d) = sym (map_at (λ x. gots d (others_of x)) hands n g.0 g.1) ∙ ap (slice_get (lists d worker mine)) (sym t.1) ∙ s.1 in
@@ -381,5 +381,5 @@ module _ (claims : ℕ) (hands : List Hand) (deal : AreOfDeal claims hands) wher
               s.2
 
 -- each claim of a deque has been had, whichever deal the hands are of
-pub each_had : (hands : List Hand) → ((d : ℕ) (h : Hand) → slice_get hands d ≡ Some h → Settles (taken_back d (own_sight h.own).1 (all_others hands))) → EachHad hands
+pub each_had : (hands : List Hand) → ((d : ℕ) (h : Hand) → slice_get hands d ≡ Some h → Settles (taken_back d (own_named h.own).1 (all_others hands))) → EachHad hands
 each_had hands learned claims i d claim h deal at inside ended dealt turn = stands claims hands deal learned i d claim h at inside ended dealt turn

@@ -8,12 +8,12 @@ use Rattle.std.proofs.lemmas.List.FromFn.{map-range_with_len_more}
 use Rattle.cert_search.specs.declared.hand.Hand.{Hand}
 use Rattle.cert_search.specs.declared.own.Own.{Own}
 use Rattle.cert_search.specs.declared.steal_handle.StealHandle.{StealHandle}
-use Rattle.cert_search.specs.declared.deque.Had.{Had}
+use Rattle.cert_search.specs.declared.deque.DequeView.{DequeView}
 use Rattle.cert_search.specs.declared.deque.Holder.TheVariants.{Owner}
-use Rattle.cert_search.specs.Deque.{had, guest_view, dealt_more, out_of}
-use Rattle.cert_search.specs.Sights.{Name, Sight, SameDeque, own_sight, name_at, reach_sight, sights, look, share_of, share, round_of, IsRound}
+use Rattle.cert_search.specs.Deque.{deque_view, guest_view, dealt_more, out_of}
+use Rattle.cert_search.specs.NamedViews.{Name, NamedView, SameDeque, own_named, name_at, handle_named, named_views, look, share_of, share, round_of, IsRound}
 use Rattle.cert_search.specs.Dealing.{Plain, own_out, own_view, open_deque, IsFilledTo, plain_of, own_plain, own_name, names_in, row_plain, fresh, fresh_part, fresh_row, outs, with_marks, GetsMarks, EachGetsMarks, AreOut, IsFilled}
-use Rattle.cert_search.specs.Hands.{sights_of, deques_of, deque_at, names_of, hand_plain, hands_from, fresh_hand, AreHands, IsOfDeal, IsDealt, AreDealt, ShareDeques}
+use Rattle.cert_search.specs.Hands.{named_views_of, deques_of, deque_at, names_of, hand_plain, hands_from, fresh_hand, AreHands, IsOfDeal, IsDealt, AreDealt, ShareDeques}
 use Rattle.cert_search.proofs.Rows.{map_set, map_get, map_at, map_from, map_len, map_push, map_twice, range_set, range_get, range_len, within, some_is, get_at, all_of, set_same, set_at, set_other}
 use Rattle.cert_search.proofs.Shares.{claims_here, claims_elsewhere}
 use Rattle.cert_search.proofs.Rounds.{round_has, round_apart, look_dealt, look_all}
@@ -41,15 +41,15 @@ range_ext g G a (x ∷ xs) each =
     λ i. (each 0 x refl ∙ ap G first) i ∷ range_ext g G (a + 1) xs (λ k y e. let next : a + suc k ≡ (a + 1) + k = omega arith in each (suc k) y e ∙ ap G next) i
 
 -- the next claim goes to the deque of its remainder
-pub filled_more : (workers n d : ℕ) (owns : List Own) (o p : Own) → d < workers → d ≡ n % workers → IsFilledTo workers n owns → o ≡ get_or owns d o → SameDeque (own_sight o) (own_sight p) → (own_sight p).1 ≡ dealt_more (own_sight o).1 n → IsFilledTo workers (n + 1) (set owns d p)
+pub filled_more : (workers n d : ℕ) (owns : List Own) (o p : Own) → d < workers → d ≡ n % workers → IsFilledTo workers n owns → o ≡ get_or owns d o → SameDeque (own_named o) (own_named p) → (own_named p).1 ≡ dealt_more (own_named o).1 n → IsFilledTo workers (n + 1) (set owns d p)
 filled_more workers n d owns o p lt number filled is same dealt =
     let was : own_view o ≡ open_deque workers n d = made_at own_view (open_deque workers n) workers owns d o filled lt is in
-    let view : (own_sight p).1 ≡ (open_deque workers (n + 1) d).1 =
-    dealt ∙ ap (λ (v : ℕ × Had). dealt_more v.1 n) was ∙ ap (λ l. had (Owner 0) true l [] 0 false) (sym (claims_here workers d n (sym number))) in
-    let now : own_view p ≡ open_deque workers (n + 1) d = λ i. ((same.0 ∙ ap (λ (v : ℕ × Had). v.0) was) i, view i) in
+    let view : (own_named p).1 ≡ (open_deque workers (n + 1) d).1 =
+    dealt ∙ ap (λ (v : ℕ × DequeView). dealt_more v.1 n) was ∙ ap (λ l. deque_view (Owner 0) true l [] 0 false) (sym (claims_here workers d n (sym number))) in
+    let now : own_view p ≡ open_deque workers (n + 1) d = λ i. ((same.0 ∙ ap (λ (v : ℕ × DequeView). v.0) was) i, view i) in
     map_set own_view owns d p ∙ (λ i. set (filled i) d (now i))
     ∙ range_set (open_deque workers n) (open_deque workers (n + 1)) 0 workers d d (sym (zero-add d)) lt
-    (λ k apart. ap (λ l. let t : ℕ × Had = (k, had (Owner 0) true l [] 0 false) in t) (sym (claims_elsewhere workers k n (λ e. apart (sym e ∙ sym number)))))
+    (λ k apart. ap (λ l. let t : ℕ × DequeView = (k, deque_view (Owner 0) true l [] 0 false) in t) (sym (claims_elsewhere workers k n (λ e. apart (sym e ∙ sym number)))))
 
 -- one more mark of the end was dealt
 pub marks_more : (n : ℕ) (o p q : Own) → GetsMarks n o p → GetsMarks 1 p q → GetsMarks (n + 1) o q
@@ -100,11 +100,11 @@ module _ (workers n : ℕ) (owns news : List Own) (filled : IsFilledTo workers n
           let t = was k x e in
           let marks : workers + 0 ≡ workers = omega arith in
           let plain : own_plain x ≡ fresh (names_in news) n workers k = λ i. (
-            (ap (λ (p : Plain). p.0) t.3.0 ∙ ap (λ (v : ℕ × Had). v.0) t.2) i,
-            (ap (λ (p : Plain). p.1) t.3.0 ∙ ap (λ (v : ℕ × Had). v.1.dealt) t.2) i,
-            (ap (λ (p : Plain). p.2) t.3.0 ∙ ap (λ (v : ℕ × Had). v.1.got) t.2) i,
+            (ap (λ (p : Plain). p.0) t.3.0 ∙ ap (λ (v : ℕ × DequeView). v.0) t.2) i,
+            (ap (λ (p : Plain). p.1) t.3.0 ∙ ap (λ (v : ℕ × DequeView). v.1.dealt) t.2) i,
+            (ap (λ (p : Plain). p.2) t.3.0 ∙ ap (λ (v : ℕ × DequeView). v.1.got) t.2) i,
             sym (map_at own_name news k x e) i,
-            (ap (λ (p : Plain). p.4) t.3.0 ∙ ap (λ (v : ℕ × Had). workers + v.1.marks) t.2 ∙ marks) i,
+            (ap (λ (p : Plain). p.4) t.3.0 ∙ ap (λ (v : ℕ × DequeView). workers + v.1.marks) t.2 ∙ marks) i,
           ) in
           plain ∙ ap (fresh (names_in news) n workers) (sym (zero-add k))
 
@@ -113,7 +113,7 @@ module _ (workers n : ℕ) (owns news : List Own) (filled : IsFilledTo workers n
   none_out d lt =
       let out : slice_get (outs news) d ≡ Some (own_out (get_or news d (at d lt))) = map_get own_out news d (at d lt) (omega (arith, lt, long)) in
       let t = was d (get_or news d (at d lt)) (get_at news d (at d lt) (omega (arith, lt, long))) in
-      out ∙ ap Some (t.3.1 ∙ ap (λ (v : ℕ × Had). out_of v.1.holder) t.2)
+      out ∙ ap Some (t.3.1 ∙ ap (λ (v : ℕ × DequeView). out_of v.1.holder) t.2)
     where
       at : (d : ℕ) → d < workers → Own
       at d lt = by_list news (omega (arith, lt, long))
@@ -144,22 +144,22 @@ pub filled_same : (claims workers : ℕ) (owns owns' : List Own) → map own_pla
 filled_same claims workers owns owns' same filled = same ∙ filled ∙ ap (λ names. map (fresh names claims workers) (range_with_len 0 workers)) (sym (same_names owns owns' same))
 
 -- the view of one more deque
-pub part_more : (names : List Name) (claims workers which k d : ℕ) (o : Own) (r : StealHandle) (row : List StealHandle) → 1 ≤ k → d ≡ (which + k) % workers → own_plain o ≡ fresh names claims workers d → SameDeque (own_sight o) (reach_sight r) → (reach_sight r).1 ≡ guest_view (own_sight o).1.dealt (own_sight o).1.marks
+pub part_more : (names : List Name) (claims workers which k d : ℕ) (o : Own) (r : StealHandle) (row : List StealHandle) → 1 ≤ k → d ≡ (which + k) % workers → own_plain o ≡ fresh names claims workers d → SameDeque (own_named o) (handle_named r) → (handle_named r).1 ≡ guest_view (own_named o).1.dealt (own_named o).1.marks
     → row_plain row ≡ fresh_part names claims workers which (k - 1) → row_plain (row ++ r ∷ []) ≡ fresh_part names claims workers which (k + 1 - 1)
 part_more names claims workers which k d o r row ge is mine same cut part =
-    let seen : plain_of (reach_sight r) ≡ fresh names claims workers d = (λ i. let t : Plain = (same.0 i, (cut i).dealt, (cut i).got, Some (same.1 i), (cut i).marks) in t) ∙ ap (λ (p : Plain). let t : Plain = (p.0, p.1, [], p.3, p.4) in t) mine in
+    let seen : plain_of (handle_named r) ≡ fresh names claims workers d = (λ i. let t : Plain = (same.0 i, (cut i).dealt, (cut i).got, Some (same.1 i), (cut i).marks) in t) ∙ ap (λ (p : Plain). let t : Plain = (p.0, p.1, [], p.3, p.4) in t) mine in
     let number : d ≡ (which + (1 + (k - 1))) % workers = let e : k ≡ 1 + (k - 1) = omega arith in is ∙ ap (λ n. (which + n) % workers) e in
     let more : (k - 1) + 1 ≡ k + 1 - 1 = omega arith in
-    range_push (λ (x : StealHandle). plain_of (reach_sight x)) (λ n. fresh names claims workers ((which + n) % workers)) 1 (k - 1) row r part (seen ∙ ap (fresh names claims workers) number) ∙ ap (fresh_part names claims workers which) more
+    range_push (λ (x : StealHandle). plain_of (handle_named x)) (λ n. fresh names claims workers ((which + n) % workers)) 1 (k - 1) row r part (seen ∙ ap (fresh names claims workers) number) ∙ ap (fresh_part names claims workers which) more
 
 -- the number of a deque, and what it was dealt
 abbrev first_two : Plain → ℕ × List ℕ
 first_two p = (p.0, p.1)
 
 -- a worker that has its own deque and the views of all others
-pub hand_round : (names : List Name) (claims workers n : ℕ) (own : Own) (others : List StealHandle) → n < workers → own_plain own ≡ fresh names claims workers n → row_plain others ≡ fresh_row names claims workers n → IsRound claims workers own.which (sights own others)
+pub hand_round : (names : List Name) (claims workers n : ℕ) (own : Own) (others : List StealHandle) → n < workers → own_plain own ≡ fresh names claims workers n → row_plain others ≡ fresh_row names claims workers n → IsRound claims workers own.which (named_views own others)
 hand_round names claims workers n own others lt mine row =
-    subst (λ d. IsRound claims workers d (sights own others)) (sym (ap (λ (p : Plain). p.0) mine)) (record {
+    subst (λ d. IsRound claims workers d (named_views own others)) (sym (ap (λ (p : Plain). p.0) mine)) (record {
       within = lt;
       shares = λ i. ap first_two mine i ∷ rest i;
     })
@@ -167,9 +167,9 @@ hand_round names claims workers n own others lt mine row =
     range : List ℕ
     range = range_with_len 1 (workers - 1)
 
-    rest : map share_of (map reach_sight others) ≡ map (share claims workers) (map (λ k. (n + k) % workers) (range_with_len 1 (workers - 1)))
+    rest : map share_of (map handle_named others) ≡ map (share claims workers) (map (λ k. (n + k) % workers) (range_with_len 1 (workers - 1)))
     rest =
-        map_twice reach_sight share_of others ∙ sym (map_twice (λ r. plain_of (reach_sight r)) first_two others) ∙ ap (map first_two) row
+        map_twice handle_named share_of others ∙ sym (map_twice (λ r. plain_of (handle_named r)) first_two others) ∙ ap (map first_two) row
         ∙ map_twice (λ k. fresh names claims workers ((n + k) % workers)) first_two (range_with_len 1 (workers - 1)) ∙ sym (map_twice (λ k. (n + k) % workers) (share claims workers) (range_with_len 1 (workers - 1)))
 
 -- the hands that are made of the workers' deques, and of their views of the others
@@ -191,14 +191,14 @@ pub hands_more : (hands hands' : List Hand) (owns owns' : List Own) (rows rows' 
     → length owns ≡ length rows → map hand_plain hands ++ hands_from owns rows ≡ all → (length owns' ≡ length rows') × (map hand_plain hands' ++ hands_from owns' rows' ≡ all)
 hands_more hands hands' owns owns' rows rows' own row h all more is are made count before =
     let first : hand_plain h ≡ ((own_out own, own_plain own ∷ row_plain row.items)) =
-    λ i. (own_out (made.0 i), own_plain (made.0 i) ∷ (map_twice reach_sight plain_of h.others.items ∙ ap (λ (v : Vec StealHandle Global). row_plain v.items) made.1) i) in (
+    λ i. (own_out (made.0 i), own_plain (made.0 i) ∷ (map_twice handle_named plain_of h.others.items ∙ ap (λ (v : Vec StealHandle Global). row_plain v.items) made.1) i) in (
       omega (arith, count, ap length is, ap length are),
       ap (λ l. map hand_plain l ++ hands_from owns' rows') more ∙ ap (λ l. l ++ hands_from owns' rows') (map_push hand_plain hands h) ∙ append_assoc (map hand_plain hands) (hand_plain h ∷ []) (hands_from owns' rows')
           ∙ ap (λ p. map hand_plain hands ++ p ∷ hands_from owns' rows') first ∙ (λ i. map hand_plain hands ++ hands_from (sym is i) (sym are i)) ∙ before,
     )
 
 -- nothing has been had
-pub look_none : (ss : List Sight) (d : ℕ) → ((k : ℕ) (s : Sight) → slice_get ss k ≡ Some s → s.1.got ≡ []) → (look d ss).got ≡ []
+pub look_none : (ss : List NamedView) (d : ℕ) → ((k : ℕ) (s : NamedView) → slice_get ss k ≡ Some s → s.1.got ≡ []) → (look d ss).got ≡ []
 look_none [] d none = refl
 look_none (x ∷ xs) d none = by_test (x.0 == d) (none 0 x refl) (look_none xs d (λ k s e. none (suc k) s e))
   where
@@ -208,14 +208,14 @@ look_none (x ∷ xs) d none = by_test (x.0 == d) (none 0 x refl) (look_none xs d
 
 -- the hand of the worker i
 module _ (names : List Name) (claims workers i : ℕ) (h : Hand) (is : hand_plain h ≡ fresh_hand names claims workers i) (below : i < workers) where
-  plain_is : map plain_of (sights_of h) ≡ fresh names claims workers i ∷ fresh_row names claims workers i
+  plain_is : map plain_of (named_views_of h) ≡ fresh names claims workers i ∷ fresh_row names claims workers i
   plain_is = ap (λ (p : ℕ × List Plain). p.1) is
 
   own_plain_is : own_plain h.own ≡ fresh names claims workers i
   own_plain_is = ap (λ l. get_or l 0 (fresh names claims workers i)) plain_is
 
   row_is : row_plain h.others.items ≡ fresh_row names claims workers i
-  row_is = let rest : map plain_of (map reach_sight h.others.items) ≡ fresh_row names claims workers i = cc (plain_is) in sym (map_twice reach_sight plain_of h.others.items) ∙ rest
+  row_is = let rest : map plain_of (map handle_named h.others.items) ≡ fresh_row names claims workers i = cc (plain_is) in sym (map_twice handle_named plain_of h.others.items) ∙ rest
 
   own_is : h.own.which ≡ i
   own_is = ap (λ (p : Plain). p.0) own_plain_is
@@ -225,7 +225,7 @@ module _ (names : List Name) (claims workers i : ℕ) (h : Hand) (is : hand_plai
 
   round_is : deques_of h ≡ round_of workers i
   round_is =
-      sym (map_twice plain_of (λ (p : Plain). p.0) (sights_of h)) ∙ ap (map (λ (p : Plain). p.0)) plain_is
+      sym (map_twice plain_of (λ (p : Plain). p.0) (named_views_of h)) ∙ ap (map (λ (p : Plain). p.0)) plain_is
       ∙ ap (λ l. i ∷ l) (map_twice (λ k. fresh names claims workers ((i + k) % workers)) (λ (p : Plain). p.0) (range_with_len 1 (workers - 1)))
 
   none_at : (k : ℕ) (p : Plain) → slice_get (fresh names claims workers i ∷ fresh_row names claims workers i) k ≡ Some p → p.2 ≡ []
@@ -236,8 +236,8 @@ module _ (names : List Name) (claims workers i : ℕ) (h : Hand) (is : hand_plai
   marks_at zero p e = let e' : fresh names claims workers i ≡ p = cc in ap (λ (q : Plain). q.4) (sym e')
   marks_at (suc k) p e = let t = map_from (λ n. fresh names claims workers ((i + n) % workers)) (range_with_len 1 (workers - 1)) k p e in ap (λ (q : Plain). q.4) (sym t.2)
 
-  all_marked : All (λ s. s.1.marks ≡ workers) (sights_of h)
-  all_marked = all_of (λ s. s.1.marks ≡ workers) (sights_of h) (λ k s lt e. marks_at k (plain_of s) (ap (λ l. slice_get l k) (sym plain_is) ∙ map_at plain_of (sights_of h) k s e))
+  all_marked : All (λ s. s.1.marks ≡ workers) (named_views_of h)
+  all_marked = all_of (λ s. s.1.marks ≡ workers) (named_views_of h) (λ k s lt e. marks_at k (plain_of s) (ap (λ l. slice_get l k) (sym plain_is) ∙ map_at plain_of (named_views_of h) k s e))
 
   pub dealt_hand : IsDealt claims workers i h
   dealt_hand = record {
@@ -246,9 +246,9 @@ module _ (names : List Name) (claims workers i : ℕ) (h : Hand) (is : hand_plai
     each_once = λ d lt.
         let k = round_has workers i d below lt in
         (k.0, ap (λ l. slice_get l k.0) round_is ∙ k.1, λ j e. round_apart workers i j k.0 d below (ap (λ l. slice_get l j) (sym round_is) ∙ e) k.1);
-    dealt = λ d lt. look_dealt claims workers h.own.which (sights_of h) hand_deal.round d lt;
-    marked = λ d lt. look_all claims workers h.own.which (sights_of h) hand_deal.round (λ v. v.marks ≡ workers) all_marked d lt;
-    none_had = λ d. look_none (sights_of h) d (λ k s e. none_at k (plain_of s) (ap (λ l. slice_get l k) (sym plain_is) ∙ map_at plain_of (sights_of h) k s e));
+    dealt = λ d lt. look_dealt claims workers h.own.which (named_views_of h) hand_deal.round d lt;
+    marked = λ d lt. look_all claims workers h.own.which (named_views_of h) hand_deal.round (λ v. v.marks ≡ workers) all_marked d lt;
+    none_had = λ d. look_none (named_views_of h) d (λ k s e. none_at k (plain_of s) (ap (λ l. slice_get l k) (sym plain_is) ∙ map_at plain_of (named_views_of h) k s e));
   }
 
 -- which deque has a number, where each entry has the name of its number
@@ -280,13 +280,13 @@ module _ (names : List Name) (claims workers i : ℕ) (h : Hand) (is : hand_plai
   name_of_hand : (d : ℕ) → d < workers → (m : Name) × (deque_at h d ≡ Some m) × (slice_get names d ≡ Some m)
   name_of_hand d lt =
       let once = (dealt_hand names claims workers i h is below).each_once d lt in
-      let s = map_from (λ (t : Sight). t.0) (sights_of h) once.0 d once.1 in
-      name_found names d (names_of h) once.0 (let p : ℕ × Name = (s.0.0, s.0.2) in p) each (map_at (λ (t : Sight). let p : ℕ × Name = (t.0, t.2) in p) (sights_of h) once.0 s.0 s.1) s.2
+      let s = map_from (λ (t : NamedView). t.0) (named_views_of h) once.0 d once.1 in
+      name_found names d (names_of h) once.0 (let p : ℕ × Name = (s.0.0, s.0.2) in p) each (map_at (λ (t : NamedView). let p : ℕ × Name = (t.0, t.2) in p) (named_views_of h) once.0 s.0 s.1) s.2
     where
       each : (j : ℕ) (q : ℕ × Name) → slice_get (names_of h) j ≡ Some q → Some q.1 ≡ slice_get names q.0
       each j q e =
-          let s = map_from (λ (t : Sight). let p : ℕ × Name = (t.0, t.2) in p) (sights_of h) j q e in
-          let named = named_at j (plain_of s.0) (sym (ap (λ l. slice_get l j) (ap (λ (p : ℕ × List Plain). p.1) is)) ∙ map_at plain_of (sights_of h) j s.0 s.1) in
+          let s = map_from (λ (t : NamedView). let p : ℕ × Name = (t.0, t.2) in p) (named_views_of h) j q e in
+          let named = named_at j (plain_of s.0) (sym (ap (λ l. slice_get l j) (ap (λ (p : ℕ × List Plain). p.1) is)) ∙ map_at plain_of (named_views_of h) j s.0 s.1) in
           subst (λ (r : ℕ × Name). Some r.1 ≡ slice_get names r.0) s.2 named
 
 -- the hands of all workers

@@ -2,20 +2,20 @@
 use Rattle.std.specs.Prelude.{◌≡◌, ◌≢◌, ◌<◌, suc, ℕ, ◌+◌, ◌-◌, ◌%◌, List, [], map, length, true, false, Option, Some, Vec, slice_get}
 use Rattle.std.specs.List.{range_with_len}
 use Rattle.std.specs.declared.alloc.Global.{Global}
-use Rattle.cert_search.specs.declared.deque.Had.{Had}
+use Rattle.cert_search.specs.declared.deque.DequeView.{DequeView}
 use Rattle.cert_search.specs.declared.deque.Holder.TheVariants.{Owner}
 use Rattle.cert_search.specs.declared.own.Own.{Own}
 use Rattle.cert_search.specs.declared.steal_handle.StealHandle.{StealHandle}
-use Rattle.cert_search.specs.Deque.{had, claims_of, out_of}
-use Rattle.cert_search.specs.Sights.{Name, Sight, own_sight, reach_sight}
+use Rattle.cert_search.specs.Deque.{deque_view, claims_of, out_of}
+use Rattle.cert_search.specs.NamedViews.{Name, NamedView, own_named, handle_named}
 
 -- the number of a worker's deque, and the owner's view of it
-abbrev pub own_view : Own → ℕ × Had
-own_view o = ((own_sight o).0, (own_sight o).1)
+abbrev pub own_view : Own → ℕ × DequeView
+own_view o = ((own_named o).0, (own_named o).1)
 
 -- deque d after the claims below n were dealt; more may come
-abbrev pub open_deque : ℕ → ℕ → ℕ → ℕ × Had
-open_deque workers n d = (d, had (Owner 0) true (claims_of workers d n) [] 0 false)
+abbrev pub open_deque : ℕ → ℕ → ℕ → ℕ × DequeView
+open_deque workers n d = (d, deque_view (Owner 0) true (claims_of workers d n) [] 0 false)
 
 -- the claims below n were dealt to the deques; more may come
 abbrev pub IsFilledTo : ℕ → ℕ → List Own → Type 0
@@ -25,7 +25,7 @@ IsFilledTo workers n owns = map own_view owns ≡ map (open_deque workers n) (ra
 abbrev pub Plain : Type 0
 Plain = ℕ × List ℕ × List ℕ × Option Name × ℕ
 
-abbrev pub plain_of : Sight → Plain
+abbrev pub plain_of : NamedView → Plain
 plain_of s = (s.0, s.1.dealt, s.1.got, Some s.2, s.1.marks)
 
 -- deque d with its claims and an end mark for each worker, of which none was taken; names has the names of all deques
@@ -34,11 +34,11 @@ fresh names claims workers d = (d, claims_of workers d claims, [], slice_get nam
 
 -- the owner's view of its deque, in short
 abbrev pub own_plain : Own → Plain
-own_plain o = plain_of (own_sight o)
+own_plain o = plain_of (own_named o)
 
 -- the number of views of a worker's deque that are lent
 abbrev pub own_out : Own → ℕ
-own_out o = out_of (own_sight o).1.holder
+own_out o = out_of (own_named o).1.holder
 
 -- with n more end marks
 abbrev pub with_marks : ℕ → Plain → Plain
@@ -69,7 +69,7 @@ pub record LendsOthers (workers which : ℕ) (old new : List Own) : Type 0 where
 
 -- the name of a worker's deque
 abbrev pub own_name : Own → Name
-own_name o = (own_sight o).2
+own_name o = (own_named o).2
 
 -- the names of all deques
 abbrev pub names_in : List Own → List Name
@@ -82,7 +82,7 @@ IsFilled claims workers owns = map own_plain owns ≡ map (fresh (names_in owns)
 
 -- a worker's views of other deques, in short
 abbrev pub row_plain : List StealHandle → List Plain
-row_plain rs = map (λ r. plain_of (reach_sight r)) rs
+row_plain rs = map (λ r. plain_of (handle_named r)) rs
 
 -- the deques of n workers, beginning after `which` and going round
 abbrev pub fresh_part : List Name → ℕ → ℕ → ℕ → ℕ → List Plain

@@ -2,12 +2,12 @@
 use Rattle.std.specs.Prelude.{◌≡◌, ◌≢◌, ◌<◌, ℕ, ◌-◌, ◌%◌, List, [], ◌∷◌, ◌++◌, map, All, Bool, true, Option, Some, IsSome, Vec, slice_get}
 use Rattle.std.specs.List.{range_with_len}
 use Rattle.std.specs.declared.alloc.Global.{Global}
-use Rattle.cert_search.specs.declared.deque.Had.{Had}
+use Rattle.cert_search.specs.declared.deque.DequeView.{DequeView}
 use Rattle.cert_search.specs.declared.hand.Hand.{Hand}
 use Rattle.cert_search.specs.declared.own.Own.{Own}
 use Rattle.cert_search.specs.declared.steal_handle.StealHandle.{StealHandle}
 use Rattle.cert_search.specs.Deque.{claims_of}
-use Rattle.cert_search.specs.Sights.{Name, Sight, sights, look, name_at, round_of, IsRound}
+use Rattle.cert_search.specs.NamedViews.{Name, NamedView, named_views, look, name_at, round_of, IsRound}
 use Rattle.cert_search.specs.Dealing.{Plain, plain_of, own_plain, own_out, row_plain, fresh, fresh_row}
 
 -- the number of the hand's own deque
@@ -15,16 +15,16 @@ abbrev pub own_deque : Hand → ℕ
 own_deque h = h.own.which
 
 -- the hand's views of the deques, in the order in which it tries them
-abbrev pub sights_of : Hand → List Sight
-sights_of h = sights h.own h.others.items
+abbrev pub named_views_of : Hand → List NamedView
+named_views_of h = named_views h.own h.others.items
 
 -- the deques of the hand, in the order in which it tries them
 abbrev pub deques_of : Hand → List ℕ
-deques_of h = map (λ s. s.0) (sights_of h)
+deques_of h = map (λ s. s.0) (named_views_of h)
 
 -- the hand's view of deque d
-abbrev pub known_of : Hand → ℕ → Had
-known_of h d = look d (sights_of h)
+abbrev pub known_of : Hand → ℕ → DequeView
+known_of h d = look d (named_views_of h)
 
 -- the claims that were dealt to deque d
 abbrev pub dealt_to : Hand → ℕ → List ℕ
@@ -44,7 +44,7 @@ is_at_end h d = (known_of h d).ended
 
 -- the deques of the hand with their names
 abbrev pub names_of : Hand → List (ℕ × Name)
-names_of h = map (λ s. (s.0, s.2)) (sights_of h)
+names_of h = map (λ s. (s.0, s.2)) (named_views_of h)
 
 -- the name of the hand's deque d
 abbrev pub deque_at : Hand → ℕ → Option Name
@@ -87,7 +87,7 @@ ShareDeques workers hands = (i j d : ℕ) (h g : Hand) → slice_get hands i ≡
 -- The hand belongs to a deal of this many claims to this many workers: it has each deque, each deque was dealt its
 -- claims, and each other worker has a view of the hand's own deque.
 pub record IsOfDeal (claims workers : ℕ) (h : Hand) : Type 0 where
-  pub round : IsRound claims workers (own_deque h) (sights_of h)
+  pub round : IsRound claims workers (own_deque h) (named_views_of h)
   pub lent : own_out h.own ≡ workers - 1
 
 -- the hand of such a deal took the claim, from the deque of the claim's remainder
@@ -127,7 +127,7 @@ pub record HasEnded (old new : Hand) : Type 0 where
 
 -- the number of lent views of the hand's own deque, and its views of the deques in short
 abbrev pub hand_plain : Hand → ℕ × List Plain
-hand_plain h = (own_out h.own, map plain_of (sights_of h))
+hand_plain h = (own_out h.own, map plain_of (named_views_of h))
 
 -- the same for hands that are made of own deques and rows of views
 abbrev pub hands_from : List Own → List (Vec StealHandle Global) → List (ℕ × List Plain)

@@ -5,7 +5,7 @@ pub mod Kept
 pub mod Places
 pub mod Views
 pub mod Deque
-pub mod Sights
+pub mod NamedViews
 pub mod Dealing
 pub mod Hands
 pub mod Settled

@@ -2,11 +2,11 @@
 use Rattle.std.specs.Prelude.{◌≡◌, ◌<◌, ℕ, ◌==◌, if◌then◌else◌, List, [], ◌∷◌, ◌++◌, map, length, Some, slice_get, true, ◌%◌}
 use mathlib.Core.Option.{some}
 use lib.ListN.{get_elem?}
-use Rattle.cert_search.specs.declared.deque.Had.{Had}
+use Rattle.cert_search.specs.declared.deque.DequeView.{DequeView}
 use Rattle.cert_search.specs.declared.hand.Hand.{Hand}
 use Rattle.cert_search.specs.declared.own.Own.{Own}
 use Rattle.cert_search.specs.Deque.{both_views, Settles}
-use Rattle.cert_search.specs.Sights.{Name, Sight, own_sight, reach_sight}
+use Rattle.cert_search.specs.NamedViews.{Name, NamedView, own_named, handle_named}
 use Rattle.cert_search.specs.Hands.{own_deque, had_from, IsOfDeal, ShareDeques, is_at_end}
 
 -- all hands of a deal: hand i owns deque i, and they share the deques
@@ -43,35 +43,35 @@ pub record AllHad (first : List Hand) : Type 0 where
       × (k : ℕ) × Stands ended j d k claim
 
 -- each owner's view of its deque
-abbrev pub own_views : List Own → List Had
-own_views owns = map (λ o. (own_sight o).1) owns
+abbrev pub own_views : List Own → List DequeView
+own_views owns = map (λ o. (own_named o).1) owns
 
 -- a hand's view of its own deque
-abbrev pub hand_own : Hand → Sight
-hand_own h = own_sight h.own
+abbrev pub hand_own : Hand → NamedView
+hand_own h = own_named h.own
 
-abbrev pub others_of : Hand → List Sight
-others_of h = map reach_sight h.others.items
+abbrev pub others_of : Hand → List NamedView
+others_of h = map handle_named h.others.items
 
 -- all views of other workers' deques, of all hands
-abbrev pub all_others : List Hand → List Sight
+abbrev pub all_others : List Hand → List NamedView
 all_others [] = []
 all_others (h ∷ hs) = others_of h ++ all_others hs
 
 -- view v of deque d after the views of d among these were given back
-abbrev pub taken_back : ℕ → Had → List Sight → Had
+abbrev pub taken_back : ℕ → DequeView → List NamedView → DequeView
 taken_back d v [] = v
 taken_back d v (s ∷ ss) = taken_back d (if s.0 == d then both_views v s.1 else v) ss
 
 -- the names of the views' deques are these
-abbrev pub AreTied : List Name → List Sight → Type 0
-AreTied names ss = (k : ℕ) (s : Sight) → slice_get ss k ≡ Some s → slice_get names s.0 ≡ Some s.2
+abbrev pub AreTied : List Name → List NamedView → Type 0
+AreTied names ss = (k : ℕ) (s : NamedView) → slice_get ss k ≡ Some s → slice_get names s.0 ≡ Some s.2
 
 -- each view was given back to the worker that owns its deque
-abbrev pub EachTaken : List Own → List Sight → List Own → Type 0
-EachTaken olds ss news = (d : ℕ) (v : Had) → slice_get (own_views olds) d ≡ Some v → slice_get (own_views news) d
+abbrev pub EachTaken : List Own → List NamedView → List Own → Type 0
+EachTaken olds ss news = (d : ℕ) (v : DequeView) → slice_get (own_views olds) d ≡ Some v → slice_get (own_views news) d
     ≡ Some (taken_back d v ss)
 
 -- what each owner learns from its view
 abbrev pub EachSettles : List Own → Type 0
-EachSettles owns = (d : ℕ) (v : Had) → slice_get (own_views owns) d ≡ Some v → Settles v
+EachSettles owns = (d : ℕ) (v : DequeView) → slice_get (own_views owns) d ≡ Some v → Settles v

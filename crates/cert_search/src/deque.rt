@@ -23,7 +23,7 @@ pub enum Holder {
 
 /// A holder's view of a deque: whether it may still deal, the claims dealt, those that it took, the number of end
 /// marks, and whether it took one. Exists only in contracts: no value is made.
-pub struct Had {
+pub struct DequeView {
     pub holder: Holder,
     pub deals: bool,
     pub dealt: LinkedList<usize>,
@@ -35,7 +35,7 @@ pub struct Had {
 /// The protocol: no claim is in two views, or in a view and in the deque.
 pub struct Once;
 
-impl Protocol<Task, Had> for Once {
+impl Protocol<Task, DequeView> for Once {
     ghost use Rattle.std.specs.Prelude.{[]};
     ghost use Rattle.cert_search.specs.Deque.{first_view, guest_view, IsDeque};
 
@@ -49,7 +49,7 @@ impl Protocol<Task, Had> for Once {
 /// A claim is pushed.
 pub struct Deals;
 
-impl Outcome<Task, Had> for Deals {
+impl Outcome<Task, DequeView> for Deals {
     ghost use Rattle.cert_search.specs.Deque.{Adds};
 
     ghost then = { Adds };
@@ -58,7 +58,7 @@ impl Outcome<Task, Had> for Deals {
 /// An end mark is pushed; no more claims are dealt.
 pub struct Closes;
 
-impl Outcome<Task, Had> for Closes {
+impl Outcome<Task, DequeView> for Closes {
     ghost use Rattle.cert_search.specs.Deque.{closed};
 
     ghost then = { λ v tasks w. w ≡ closed v };
@@ -67,7 +67,7 @@ impl Outcome<Task, Had> for Closes {
 /// The holder takes a claim or an end mark from the deque.
 pub struct Takes;
 
-impl Outcome<Task, Had> for Takes {
+impl Outcome<Task, DequeView> for Takes {
     ghost use Rattle.cert_search.specs.Deque.{Took};
 
     ghost then = { Took };
@@ -76,7 +76,7 @@ impl Outcome<Task, Had> for Takes {
 /// A view is lent. No more claims are dealt, and the new holder has taken none.
 pub struct Thieves;
 
-impl Split<Had> for Thieves {
+impl Split<DequeView> for Thieves {
     ghost use Rattle.cert_search.specs.Deque.{lent_view, guest_view};
 
     ghost left = { lent_view };
@@ -84,7 +84,7 @@ impl Split<Had> for Thieves {
     ghost right = { λ v. guest_view v.dealt v.marks };
 }
 
-impl Join<Had> for Thieves {
+impl Join<DequeView> for Thieves {
     ghost use Rattle.cert_search.specs.Deque.{both_views, spent_view};
 
     ghost both = { both_views };
@@ -95,14 +95,14 @@ impl Join<Had> for Thieves {
 /// What the owner learns from its view.
 pub struct Settled;
 
-impl Lesson<Task, Had> for Settled {
+impl Lesson<Task, DequeView> for Settled {
     ghost use Rattle.cert_search.specs.Deque.{Settles};
 
     ghost fact = { λ v tasks. Settles v };
 }
 
-pub(crate) type Owner = Worker<Task, Global, Had, Once>;
+pub(crate) type Owner = Worker<Task, Global, DequeView, Once>;
 
-pub(crate) type Thief = Stealer<Task, Global, Had, Once>;
+pub(crate) type Thief = Stealer<Task, Global, DequeView, Once>;
 
-pub(crate) type Entry = Pass<Task, Had>;
+pub(crate) type Entry = Pass<Task, DequeView>;

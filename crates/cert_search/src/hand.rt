@@ -1,6 +1,6 @@
 //! A worker's hand: its access to the deques.
 ghost use Rattle.std.specs.Prelude.{◌≡◌, map, true, IfSome, IfNone, All};
-ghost use Rattle.cert_search.specs.Sights.{reach_sight, reach_calm, GetsOne};
+ghost use Rattle.cert_search.specs.NamedViews.{handle_named, handle_calm, GetsOne};
 
 use crate::own::Own;
 use crate::steal_handle::StealHandle;
@@ -49,9 +49,10 @@ impl Hand {
 
 // Steals from the other deques in turn.
 fn steal_any<R: Wait>(rt: &R, others: &mut Vec<StealHandle>) -> Option<usize>
-    ensures some { IfSome result (λ c. GetsOne (map reach_calm others.old.items) c (map reach_calm others.new.items)) }
-    ensures same { IfNone result (map reach_calm others.new.items ≡ map reach_calm others.old.items) }
-    ensures none { IfNone result (All (λ s. s.1.ended ≡ true) (map reach_sight others.new.items)) }
+    ensures some { IfSome result (λ c. GetsOne (map handle_calm others.old.items) c
+        (map handle_calm others.new.items)) }
+    ensures same { IfNone result (map handle_calm others.new.items ≡ map handle_calm others.old.items) }
+    ensures none { IfNone result (All (λ s. s.1.ended ≡ true) (map handle_named others.new.items)) }
 {
     for i in 0..others.len() {
         let other = &mut others[i];

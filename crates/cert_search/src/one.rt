@@ -33,7 +33,7 @@ fn share(budget: u64, claims: usize) -> u64 {
 }
 
 /// Returns the certificate if it refutes the claim.
-fn judged<A: Allocator>(
+fn checked<A: Allocator>(
     alloc: Global,
     claim: &Claim<A>,
     certificate: Certificate<Global>,
@@ -66,7 +66,7 @@ pub fn certified<A: Allocator>(
     let Ok(certificate) = Certificate::new(tree) else {
         return Ok(None);
     };
-    judged(alloc, claim, certificate)
+    checked(alloc, claim, certificate)
 }
 
 /// Returns the certificate of a copy of a tree if it refutes the claim.
@@ -82,7 +82,7 @@ pub fn copy_certified<A: Allocator, B: Allocator>(
     let Ok(certificate) = Certificate::new(tree) else {
         return Ok(None);
     };
-    judged(alloc, claim, certificate.copy_in(alloc)?)
+    checked(alloc, claim, certificate.copy_in(alloc)?)
 }
 
 /// Returns whether both sides begin with a member, as most plain claims do.

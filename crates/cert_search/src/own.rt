@@ -23,12 +23,12 @@ pub struct Own {
 impl Own {
     ghost use Rattle.std.specs.Prelude.{◌≡◌, ◌<◌, suc, true, false, IfOk, MatchOption, All};
     ghost use Rattle.cert_search.specs.Deque.{first_view, guest_view, dealt_more, both_views, Settles};
-    ghost use Rattle.cert_search.specs.Sights.{own_sight, reach_sight, Ends, Gets, SameDeque};
+    ghost use Rattle.cert_search.specs.NamedViews.{own_named, handle_named, Ends, Gets, SameDeque};
     ghost use Rattle.cert_search.specs.Dealing.{own_plain, own_out, GetsMarks};
 
     // Makes an empty deque.
     pub(crate) fn new(alloc: Global, which: usize, capacity: usize) -> Result<Own, AllocError>
-        ensures { IfOk result (λ o. ((own_sight o).0 ≡ which) × ((own_sight o).1 ≡ first_view)) }
+        ensures { IfOk result (λ o. ((own_named o).0 ≡ which) × ((own_named o).1 ≡ first_view)) }
     {
         let deque = Owner::fifo_as(alloc, capacity)?;
         Ok(Own {
@@ -40,11 +40,11 @@ impl Own {
 
     // Deals a claim with a greater number than all that were dealt before.
     pub(crate) fn deal(&mut self, claim: usize) -> Result<(), AllocError>
-        requires deals { (own_sight self.old).1.deals ≡ true }
-        requires unended { (own_sight self.old).1.ended ≡ false }
-        requires above { All (λ c. c < claim) (own_sight self.old).1.dealt }
-        ensures same { SameDeque (own_sight self.old) (own_sight self.new) }
-        ensures dealt { IfOk result (λ _. (own_sight self.new).1 ≡ dealt_more (own_sight self.old).1 claim) }
+        requires deals { (own_named self.old).1.deals ≡ true }
+        requires unended { (own_named self.old).1.ended ≡ false }
+        requires above { All (λ c. c < claim) (own_named self.old).1.dealt }
+        ensures same { SameDeque (own_named self.old) (own_named self.new) }
+        ensures dealt { IfOk result (λ _. (own_named self.new).1 ≡ dealt_more (own_named self.old).1 claim) }
     {
         match self.deque.push_as::<Deals>(Task::Claim(claim)) {
             Ok(()) => Ok(()),
@@ -64,8 +64,8 @@ impl Own {
 
     // Takes the first claim, or an end mark if no claim is left.
     pub(crate) fn take<R: Wait>(&mut self, rt: &R) -> Option<usize>
-        ensures { MatchOption result (Ends (own_sight self.old) (own_sight self.new))
-            (λ c. Gets (own_sight self.old) c (own_sight self.new)) }
+        ensures { MatchOption result (Ends (own_named self.old) (own_named self.new))
+            (λ c. Gets (own_named self.old) c (own_named self.new)) }
     {
         if self.ended {
             return None;
@@ -84,11 +84,11 @@ impl Own {
     }
 
     // Lends another worker a view of the deque, which has taken nothing. From now on no claim is dealt.
-    pub(crate) fn reach(&mut self) -> Result<StealHandle, AllocError>
+    pub(crate) fn steal_handle(&mut self) -> Result<StealHandle, AllocError>
         ensures plain { own_plain self.new ≡ own_plain self.old }
         ensures lent { IfOk result (λ _. own_out self.new ≡ suc (own_out self.old)) }
-        ensures reach { IfOk result (λ r. SameDeque (own_sight self.old) (reach_sight r)
-            × ((reach_sight r).1 ≡ guest_view (own_sight self.old).1.dealt (own_sight self.old).1.marks)) }
+        ensures steal_handle { IfOk result (λ r. SameDeque (own_named self.old) (handle_named r)
+            × ((handle_named r).1 ≡ guest_view (own_named self.old).1.dealt (own_named self.old).1.marks)) }
     {
         let stealer = self.deque.stealer()?;
         let pass = self.deque.another::<Thieves>();
@@ -101,25 +101,25 @@ impl Own {
     }
 
     // Takes another worker's view back.
-    pub(crate) fn take_back(&mut self, reach: StealHandle)
-        requires { (own_sight self.old).2 ≡ (reach_sight reach).2 }
-        ensures same { SameDeque (own_sight self.old) (own_sight self.new) }
-        ensures both { (own_sight self.new).1 ≡ both_views (own_sight self.old).1 (reach_sight reach).1 }
+    pub(crate) fn take_back(&mut self, steal_handle: StealHandle)
+        requires { (own_named self.old).2 ≡ (handle_named steal_handle).2 }
+        ensures same { SameDeque (own_named self.old) (own_named self.new) }
+        ensures both { (own_named self.new).1 ≡ both_views (own_named self.old).1 (handle_named steal_handle).1 }
     {
         let StealHandle {
             which: _,
             stealer: _,
             pass,
             ended,
-        } = reach;
+        } = steal_handle;
         self.deque.absorb::<Thieves>(pass);
         self.ended = self.ended || ended;
     }
 
     // Learns from its view which claims were taken.
     pub(crate) fn learn(&mut self)
-        ensures same { own_sight self.new ≡ own_sight self.old }
-        ensures settles { Settles (own_sight self.old).1 }
+        ensures same { own_named self.new ≡ own_named self.old }
+        ensures settles { Settles (own_named self.old).1 }
     {
         let _ = self.deque.len_as::<Settled>();
     }

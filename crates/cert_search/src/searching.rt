@@ -16,9 +16,9 @@ use crate::filling::{Answer, empty_places, fill_all, take_out};
 use crate::gate::Gate;
 use crate::hand::Hand;
 use crate::one::search_shared;
-use crate::settling::settle;
+use crate::taking_back::settle;
+use crate::useful_workers::useful_workers;
 use crate::working::{Found, Worked, work};
-use crate::worth::worth;
 use plan::{ClaimRef, Plan, lent_claims};
 use refutation::Certificate;
 use std::alloc::{AllocError, Global};
@@ -165,6 +165,6 @@ pub fn search_all<R: Threads + Wait + Sync, G: Gate + Sync>(
         Ok(claims) => claims,
         Err(fault) => return Err(fault.kind()),
     };
-    let workers = worth(claims.as_slice(), workers);
+    let workers = useful_workers(claims.as_slice(), workers);
     searched(rt, alloc, claims.as_slice(), workers, budget, gate)
 }

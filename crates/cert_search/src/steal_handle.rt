@@ -22,12 +22,12 @@ pub struct StealHandle {
 
 impl StealHandle {
     ghost use Rattle.std.specs.Prelude.{◌≡◌, MatchOption};
-    ghost use Rattle.cert_search.specs.Sights.{reach_sight, Ends, Gets};
+    ghost use Rattle.cert_search.specs.NamedViews.{handle_named, Ends, Gets};
 
     // Steals a claim, or takes an end mark if no claim is left.
     pub(crate) fn steal<R: Wait>(&mut self, rt: &R) -> Option<usize>
-        ensures { MatchOption result (Ends (reach_sight self.old) (reach_sight self.new))
-            (λ c. Gets (reach_sight self.old) c (reach_sight self.new)) }
+        ensures { MatchOption result (Ends (handle_named self.old) (handle_named self.new))
+            (λ c. Gets (handle_named self.old) c (handle_named self.new)) }
     {
         if self.ended {
             return None;

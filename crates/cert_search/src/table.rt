@@ -45,7 +45,7 @@ impl Table {
         let mut row = Vec::new(alloc);
         for k in 1..self.workers {
             let own = &mut self.owns[(which + k) % self.workers];
-            row.push(own.reach()?)?;
+            row.push(own.steal_handle()?)?;
         }
         Ok(row)
     }

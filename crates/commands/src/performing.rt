@@ -334,7 +334,7 @@ fn perform_explain<P: FallibleRead, O: FallibleWrite, E: FallibleWrite>(
 }
 
 /// Performs the explanation of a script over a plan, whose files are printed with these names.
-fn perform_told<P: FallibleRead, S: FallibleRead, O: FallibleWrite, E: FallibleWrite>(
+fn perform_explain_named<P: FallibleRead, S: FallibleRead, O: FallibleWrite, E: FallibleWrite>(
     alloc: Global,
     json: bool,
     names: (&str, &str),
@@ -384,7 +384,7 @@ fn perform_explain_script<P: FallibleRead, S: FallibleRead, O: FallibleWrite, E:
         return refuse(alloc, &Stop::NoMemory, out, err);
     };
     let names = (plan_name.as_str(), script_name.as_str());
-    perform_told(alloc, job.json, names, plan, script, out, err)
+    perform_explain_named(alloc, job.json, names, plan, script, out, err)
 }
 
 /// Performs a job on the contents of its files, prints its answer, and returns the exit status: 0 for yes, 1 for a

@@ -22,7 +22,7 @@ use std::sync::Arc;
 use world::run_orders;
 
 /// Returns the report of a script's run over a plan.
-fn told_run(
+fn explained_run(
     alloc: Global,
     json: bool,
     plan: Arc<CheckedPlan>,
@@ -52,7 +52,12 @@ fn told_run(
 }
 
 /// Returns the report of a script whose line `number` is the first bad one.
-fn told_line(alloc: Global, json: bool, text: &[u8], number: usize) -> Result<Report, Stop<'static>>
+fn explained_line(
+    alloc: Global,
+    json: bool,
+    text: &[u8],
+    number: usize,
+) -> Result<Report, Stop<'static>>
     ensures quiet { IfOk result IsQuiet }
 {
     let mut lines = match bad_line(alloc, text, number)? {
@@ -77,7 +82,7 @@ fn told_line(alloc: Global, json: bool, text: &[u8], number: usize) -> Result<Re
 }
 
 /// Returns the report of a plan's fault, as JSON.
-fn told_fault(alloc: Global, fault: PlanFault) -> Result<Report, Stop<'static>>
+fn explained_fault(alloc: Global, fault: PlanFault) -> Result<Report, Stop<'static>>
     ensures quiet { IfOk result IsQuiet }
 {
     let status = status_of(&fault);
@@ -92,17 +97,17 @@ fn told_fault(alloc: Global, fault: PlanFault) -> Result<Report, Stop<'static>>
 }
 
 /// Returns the report of a plan that can't be used, as JSON if the plan has a fault.
-fn told_stop<'a>(alloc: Global, stop: Stop<'a>) -> Result<Report, Stop<'a>>
+fn explained_stop<'a>(alloc: Global, stop: Stop<'a>) -> Result<Report, Stop<'a>>
     ensures quiet { IfOk result IsQuiet }
 {
     match stop {
-        Stop::Plan(fault) => told_fault(alloc, fault),
+        Stop::Plan(fault) => explained_fault(alloc, fault),
         other => Err(other),
     }
 }
 
 /// Returns the report of a script's text over a plan.
-fn told_script(
+fn explained_script(
     alloc: Global,
     json: bool,
     plan: CheckedPlan,
@@ -112,8 +117,8 @@ fn told_script(
 {
     let plan = Arc::new(alloc, plan)?;
     match read_script(alloc, text) {
-        Ok(script) => told_run(alloc, json, plan, script),
-        Err(ScriptFault::Line(number)) => told_line(alloc, json, text, number),
+        Ok(script) => explained_run(alloc, json, plan, script),
+        Err(ScriptFault::Line(number)) => explained_line(alloc, json, text, number),
         Err(ScriptFault::NoMemory) => Err(Stop::NoMemory),
     }
 }
@@ -133,9 +138,9 @@ pub fn explain_script<'a, P: FallibleRead, S: FallibleRead>(
     match checked(alloc, names.0, plan) {
         Ok(plan) => {
             let text = contents(alloc, names.1, script)?;
-            told_script(alloc, json, plan, text.as_slice())
+            explained_script(alloc, json, plan, text.as_slice())
         }
-        Err(stop) if json => told_stop(alloc, stop),
+        Err(stop) if json => explained_stop(alloc, stop),
         Err(stop) => Err(stop),
     }
 }

@@ -172,27 +172,27 @@ wait_in [] = Some Pauses
 wait_in _ = None
 
 -- the action of a verb with the words after it; earlier is the number of lines before
-abbrev pub said_by : ℕ → Verb → List (List ℕ) → Option LineAction
-said_by earlier verb.Assign words = option_map Makes (assign_in words)
-said_by earlier verb.Advance words = option_map Makes (advance_in words)
-said_by earlier verb.Refresh words = option_map Makes (refresh_in words)
-said_by earlier verb.Grow words = option_map Makes (grow_in words)
-said_by earlier verb.Issue words = option_map Makes (issue_in words)
-said_by earlier verb.Take words = take_in earlier words
-said_by earlier verb.Cut words = option_map Makes (cut_in words)
-said_by earlier verb.Open words = option_map Makes (open_in words)
-said_by earlier verb.Resend words = option_map Makes (resend_in words)
-said_by earlier verb.Read words = option_map Makes (read_in words)
-said_by earlier verb.Deliver words = deliver_in earlier words
-said_by earlier verb.Hydrate words = option_map Makes (hydrate_in words)
-said_by earlier verb.Restart words = option_map Makes (restart_in words)
-said_by earlier verb.Offer words = option_map Makes (offer_in words)
-said_by earlier verb.Wait words = wait_in words
+abbrev pub read_verb : ℕ → Verb → List (List ℕ) → Option LineAction
+read_verb earlier verb.Assign words = option_map Makes (assign_in words)
+read_verb earlier verb.Advance words = option_map Makes (advance_in words)
+read_verb earlier verb.Refresh words = option_map Makes (refresh_in words)
+read_verb earlier verb.Grow words = option_map Makes (grow_in words)
+read_verb earlier verb.Issue words = option_map Makes (issue_in words)
+read_verb earlier verb.Take words = take_in earlier words
+read_verb earlier verb.Cut words = option_map Makes (cut_in words)
+read_verb earlier verb.Open words = option_map Makes (open_in words)
+read_verb earlier verb.Resend words = option_map Makes (resend_in words)
+read_verb earlier verb.Read words = option_map Makes (read_in words)
+read_verb earlier verb.Deliver words = deliver_in earlier words
+read_verb earlier verb.Hydrate words = option_map Makes (hydrate_in words)
+read_verb earlier verb.Restart words = option_map Makes (restart_in words)
+read_verb earlier verb.Offer words = option_map Makes (offer_in words)
+read_verb earlier verb.Wait words = wait_in words
 
 -- the action of all words of a line
 abbrev pub said : ℕ → List (List ℕ) → Option LineAction
 said earlier [] = None
-said earlier (word ∷ words) = option_and_then (λ verb. said_by earlier verb words) (verb_in word)
+said earlier (word ∷ words) = option_and_then (λ verb. read_verb earlier verb words) (verb_in word)
 
 -- an empty line, and a comment
 abbrev pub is_silent : List ℕ → Bool

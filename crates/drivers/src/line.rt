@@ -2,7 +2,7 @@
 
 ghost use Rattle.std.specs.Prelude.{◌≡◌, [], IfOk, length, option_map};
 ghost use Rattle.world.specs.Events.{event_of};
-ghost use Rattle.drivers.specs.Grammar.{action_of, is_silent, said_by, verb_in, wait_in};
+ghost use Rattle.drivers.specs.Grammar.{action_of, is_silent, read_verb, verb_in, wait_in};
 ghost use Rattle.drivers.specs.Reads.{ReadsBy};
 ghost use Rattle.drivers.specs.Parts.{parts_left};
 ghost use Rattle.drivers.specs.Seen.{Asked, Seen, seen, seen_action};
@@ -105,14 +105,14 @@ pub fn line_of(alloc: Global, text: &[u8], events: &[Option<u32>]) -> Result<Lin
     let Some(verb) = verb_by(verb) else {
         return Err(Fault::Malformed);
     };
-    said_by(alloc, verb, words, events)
+    read_verb(alloc, verb, words, events)
 }
 
 /// Reads the words after a verb.
 #[inline(always)]
-fn said_by(alloc: Global, verb: Verb, words: Parts, events: &[Option<u32>]) -> Result<Line, Fault>
+fn read_verb(alloc: Global, verb: Verb, words: Parts, events: &[Option<u32>]) -> Result<Line, Fault>
     requires { words.separator ≡ 32 }
-    ensures { ReadsBy seen (option_map (seen_action events.now) (said_by (length events.now) verb
+    ensures { ReadsBy seen (option_map (seen_action events.now) (read_verb (length events.now) verb
         (parts_left words.entry))) result }
 {
     match verb {

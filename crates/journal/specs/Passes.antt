@@ -90,8 +90,8 @@ module _ {X : Type 0} {s : SiteGhosts X} {l : LedgerGhosts X} where
   message_ref_number message_ref = message_ref.number
 
   -- the place of the entry that made the message
-  abbrev pub letter_step : MessageRef X s l → ℕ
-  letter_step message_ref = message_ref.cell
+  abbrev pub message_ref_cell : MessageRef X s l → ℕ
+  message_ref_cell message_ref = message_ref.cell
 
   -- the referenced message
   abbrev pub message_ref_message : MessageRef X s l → Option Message

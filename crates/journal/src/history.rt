@@ -14,55 +14,55 @@ use std::mem;
 
 /// The view of a seat: whether it keeps the history, its prefix, and a prefix to compare. Exists only in contracts: no
 /// value is made.
-pub struct Line {
+pub struct SeatView {
     pub keeps: bool,
     pub log: LinkedList<Entry>,
     pub claim: LinkedList<Entry>,
 }
 
 /// The rule: each seat's prefix is a prefix of the keeper's history.
-pub struct Begun;
+pub struct PrefixRule;
 
-impl TableRule<(), Line, ()> for Begun {
+impl TableRule<(), SeatView, ()> for PrefixRule {
     ghost use Rattle.std.specs.Prelude.{true, []};
-    ghost use Rattle.journal.specs.History.{line, Stands};
+    ghost use Rattle.journal.specs.History.{seat_view, Stands};
 
     ghost holds = { λ _ s. Stands s.views };
 
-    ghost first = { λ _. line true [] [] };
+    ghost first = { λ _. seat_view true [] [] };
 }
 
 /// A new seat gets the prefix of the seat that made it.
-pub struct Fronts;
+pub struct NewSeat;
 
-impl Split<Line> for Fronts {
+impl Split<SeatView> for NewSeat {
     ghost use Rattle.std.specs.Prelude.{false, []};
-    ghost use Rattle.journal.specs.History.{line};
+    ghost use Rattle.journal.specs.History.{seat_view};
 
     ghost left = { λ v. v };
 
-    ghost right = { λ v. line false v.log [] };
+    ghost right = { λ v. seat_view false v.log [] };
 }
 
 /// A seat borrows another's prefix to compare it, and gives it back.
-pub struct Claims;
+pub struct Borrow;
 
-impl Join<Line> for Claims {
+impl Join<SeatView> for Borrow {
     ghost use Rattle.std.specs.Prelude.{false, []};
-    ghost use Rattle.journal.specs.History.{line};
+    ghost use Rattle.journal.specs.History.{seat_view};
 
-    ghost both = { λ v w. line v.keeps v.log w.log };
+    ghost both = { λ v w. seat_view v.keeps v.log w.log };
 
-    ghost spent = { line false [] [] };
+    ghost spent = { seat_view false [] [] };
 }
 
-impl Split<Line> for Claims {
+impl Split<SeatView> for Borrow {
     ghost use Rattle.std.specs.Prelude.{false, []};
-    ghost use Rattle.journal.specs.History.{line};
+    ghost use Rattle.journal.specs.History.{seat_view};
 
-    ghost left = { λ v. line v.keeps v.log [] };
+    ghost left = { λ v. seat_view v.keeps v.log [] };
 
-    ghost right = { λ v. line false v.claim [] };
+    ghost right = { λ v. seat_view false v.claim [] };
 }
 
 /// A name for an entry. Each call uses its own.
@@ -84,18 +84,18 @@ pub struct Extend<N: Named> {
     marker: PhantomData<N>,
 }
 
-impl<N: Named> Play<(), Line> for Extend<N> {
+impl<N: Named> Play<(), SeatView> for Extend<N> {
     ghost use Rattle.std.specs.Prelude.{◌≡◌, ◌++◌, ◌∷◌, []};
-    ghost use Rattle.journal.specs.History.{line};
+    ghost use Rattle.journal.specs.History.{seat_view};
 
-    ghost then = { λ step before found after. (after.0 ≡ line before.0.keeps (before.0.log ++ N.entry ∷ []) [])
+    ghost then = { λ step before found after. (after.0 ≡ seat_view before.0.keeps (before.0.log ++ N.entry ∷ []) [])
         × (after.1 ≡ before.1) };
 }
 
 /// The keeper learns that the borrowed prefix is one of its history.
 pub struct Compare;
 
-impl Play<(), Line> for Compare {
+impl Play<(), SeatView> for Compare {
     ghost use Rattle.std.specs.Prelude.{◌≡◌};
     ghost use mathlib.Core.List.{IsPrefix};
 
@@ -106,15 +106,15 @@ impl Play<(), Line> for Compare {
 /// A prefix of the history.
 #[derive(Drop)]
 pub struct LogPrefix {
-    seat: Seat<(), Line>,
+    seat: Seat<(), SeatView>,
     ghost no_slot: { seat.me.1 ≡ [] },
 }
 
 /// The history with its keeper's seat, before it has a name.
 #[derive(Drop)]
 pub struct Opened {
-    table: Table<(), Line, (), Begun, Global>,
-    seat: Seat<(), Line>,
+    table: Table<(), SeatView, (), PrefixRule, Global>,
+    seat: Seat<(), SeatView>,
     ghost one_word: { table.shared.table_id.words ≡ 1 },
     ghost own: { seat.table_id ≡ table.shared.table_id },
     ghost keeps: { seat.me.0.keeps ≡ true },
@@ -171,7 +171,7 @@ impl Opened {
         ensures front { (front_log result ≡ log_of self.old) × (front_book result ≡ book_of self.old) }
     {
         let Opened { table, seat } = self;
-        let seat = table.shared.split_seat::<Fronts>(seat);
+        let seat = table.shared.split_seat::<NewSeat>(seat);
         LogPrefix { seat }
     }
 
@@ -186,9 +186,9 @@ impl Opened {
         let fresh = self.front();
         let LogPrefix { seat: other } = mem::replace(front, fresh);
         let Opened { table, seat } = self;
-        table.shared.join_seat::<Claims>(seat, other);
+        table.shared.join_seat::<Borrow>(seat, other);
         table.shared.load::<Compare>(seat, 0);
-        let seat = table.shared.split_seat::<Claims>(seat);
+        let seat = table.shared.split_seat::<Borrow>(seat);
         *front = LogPrefix { seat };
     }
 
@@ -203,7 +203,7 @@ impl Opened {
         let fresh = self.front();
         let LogPrefix { seat: other } = mem::replace(front, fresh);
         let Opened { table, seat } = self;
-        table.shared.join_seat::<Claims>(seat, other);
+        table.shared.join_seat::<Borrow>(seat, other);
         table.shared.load::<Compare>(seat, 0);
     }
 

@@ -127,7 +127,7 @@ impl<'a, L: Site> Log<'a, L> {
     ghost use Rattle.journal.specs.Entries.{entry_of};
     ghost use Rattle.wire.specs.Listed.{listed};
     ghost use Rattle.journal.specs.PassSteps.{durable_in, made, IsElse, NamesEarlier, Stands};
-    ghost use Rattle.journal.specs.Passes.{journal_of, kept_in, message_ref_message, message_ref_number, letter_step, cursor_number, marked, notes_of, seat_of, seen_at, steps_of, world_of, AddsRefusal, AddsStep, HasNoteRoom, HasPlace, HasStepRoom, SeesAll};
+    ghost use Rattle.journal.specs.Passes.{journal_of, kept_in, message_ref_message, message_ref_number, message_ref_cell, cursor_number, marked, notes_of, seat_of, seen_at, steps_of, world_of, AddsRefusal, AddsStep, HasNoteRoom, HasPlace, HasStepRoom, SeesAll};
 
     /// Makes an empty journal over a row of cells, for `slots` client slots and the nodes of `groups` groups, of which
     /// `born` exist at birth.

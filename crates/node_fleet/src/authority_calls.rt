@@ -8,8 +8,8 @@ ghost use Rattle.node_fleet.specs.Calls.{PassRecordsCall};
 
 use crate::fleet::Fleet;
 use crate::halt::Halt;
+use crate::halting::refusal_of;
 use crate::locking::lock_spinning;
-use crate::settling::refusal_of;
 use crate::site::FleetSite;
 use journal::{Pass, Receipt};
 use std::sync::Wait;

@@ -15,6 +15,7 @@ mod closing;
 mod fleet;
 mod gate;
 mod halt;
+mod halting;
 mod locking;
 mod mailbox;
 mod mailboxes;
@@ -23,7 +24,6 @@ mod node_calls;
 mod opening;
 mod pass;
 mod reaction;
-mod settling;
 mod site;
 mod step;
 

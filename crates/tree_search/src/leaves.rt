@@ -68,5 +68,5 @@ fn leaves_enough<A: Allocator>(state: &State<'_, A>) -> bool {
 
 /// Returns whether two disjoint sets that satisfy both sides are found quickly. No item may be unsatisfiable.
 pub fn has_counterexample<A: Allocator>(state: &State<'_, A>) -> bool {
-    leaves_enough(state) || leaves_enough(&state.turned())
+    leaves_enough(state) || leaves_enough(&state.swapped())
 }

@@ -50,7 +50,7 @@ const START: usize = 64;
 /// A matching of greatest weight under construction (the Hungarian method): the left child of each right child, and
 /// prices under which the pairs of the matching are the cheapest. A pair's cost is the negative of its weight.
 #[derive(Drop)]
-struct Heaviest<'e> {
+struct WeightedMatching<'e> {
     edges: &'e [u64],
     lefts: &'e [u8; 64],
     rights: &'e [u8; 64],
@@ -96,7 +96,7 @@ impl PathSearch {
     }
 }
 
-impl<'e> Heaviest<'e> {
+impl<'e> WeightedMatching<'e> {
     /// Returns the weight of a pair: the smaller of its two weights if it closes, else 0.
     fn weight(&self, left: u8, right: usize) -> i32 {
         let (edges, lefts, rights) = (self.edges, self.lefts, self.rights);
@@ -235,7 +235,7 @@ impl Mates {
         if weight_of_closed(edges, lefts) < wanted {
             return None;
         }
-        let mut heaviest = Heaviest {
+        let mut heaviest = WeightedMatching {
             edges,
             lefts,
             rights,

@@ -62,7 +62,7 @@ impl<'a, A: Allocator> Row<'a, A> {
     }
 
     /// Returns a copy of the row.
-    fn again(&self) -> Row<'a, A> {
+    fn copy(&self) -> Row<'a, A> {
         Row {
             before: self.before,
             items: self.items,
@@ -164,16 +164,16 @@ impl<'a, A: Allocator> State<'a, A> {
     /// Returns the items of a side.
     pub fn row(&self, side: Side) -> Row<'a, A> {
         match side {
-            Side::Left => self.left.again(),
-            Side::Right => self.right.again(),
+            Side::Left => self.left.copy(),
+            Side::Right => self.right.copy(),
         }
     }
 
     /// Returns the state with its sides exchanged.
-    pub fn turned(&self) -> State<'a, A> {
+    pub fn swapped(&self) -> State<'a, A> {
         State {
-            left: self.right.again(),
-            right: self.left.again(),
+            left: self.right.copy(),
+            right: self.left.copy(),
         }
     }
 
@@ -185,10 +185,10 @@ impl<'a, A: Allocator> State<'a, A> {
         match side {
             Side::Left => State {
                 left: self.left.with(self.left.before, items),
-                right: self.right.again(),
+                right: self.right.copy(),
             },
             Side::Right => State {
-                left: self.left.again(),
+                left: self.left.copy(),
                 right: self.right.with(self.right.before, items),
             },
         }
@@ -201,10 +201,10 @@ impl<'a, A: Allocator> State<'a, A> {
         match side {
             Side::Left => State {
                 left: self.left.lacking(member),
-                right: self.right.again(),
+                right: self.right.copy(),
             },
             Side::Right => State {
-                left: self.left.again(),
+                left: self.left.copy(),
                 right: self.right.lacking(member),
             },
         }

@@ -14,7 +14,7 @@ invariant_of-self c =
     record {
       some = t.some;
       few = t.few;
-      count = length-set t.owns.items ((c.args.which + c.loop-k.k) % t.workers) c.reach.new.self ∙ t.count;
+      count = length-set t.owns.items ((c.args.which + c.loop-k.k) % t.workers) c.steal_handle.new.self ∙ t.count;
     }
 
 pub loop-k-preserved : goal.loop-k-preserved
@@ -28,26 +28,26 @@ loop-k-preserved c =
     let turn = ap (λ w. (c.args.which + c.loop-k.k) % w) inv.workers in
     record {
       workers = inv.workers;
-      same = plain_still d t.owns.items o c.reach.new.self lt c.index_mut-own.ensures.value c.reach.ensures.plain ∙ inv.same;
-      lent = λ below. lent_step was.workers c.args.which below c.loop-k.k d was.owns.items t.owns.items o c.reach.new.self (omega arith) (omega (arith, inv.workers)) turn lt c.index_mut-own.ensures.value c.in_ok-reach.ensures.lent (inv.lent below);
+      same = plain_still d t.owns.items o c.steal_handle.new.self lt c.index_mut-own.ensures.value c.steal_handle.ensures.plain ∙ inv.same;
+      lent = λ below. lent_step was.workers c.args.which below c.loop-k.k d was.owns.items t.owns.items o c.steal_handle.new.self (omega arith) (omega (arith, inv.workers)) turn lt c.index_mut-own.ensures.value c.in_ok-steal_handle.ensures.lent (inv.lent below);
       row = λ claims filled.
           let mine : own_plain o ≡ fresh (names_in was.owns.items) claims was.workers d =
           made_at own_plain (fresh (names_in was.owns.items) claims was.workers) was.workers t.owns.items d o (inv.same ∙ filled) (omega (arith, lt, t.count, inv.workers)) c.index_mut-own.ensures.value in
           ap row_plain c.in_ok-push.ensures.items
-          ∙ part_more (names_in was.owns.items) claims was.workers c.args.which c.loop-k.k d o c.in_ok-reach.field-0 c.loop-k.row.items (omega arith) turn mine c.in_ok-reach.ensures.reach.0 c.in_ok-reach.ensures.reach.1 (inv.row claims filled);
+          ∙ part_more (names_in was.owns.items) claims was.workers c.args.which c.loop-k.k d o c.in_ok-steal_handle.field-0 c.loop-k.row.items (omega arith) turn mine c.in_ok-steal_handle.ensures.steal_handle.0 c.in_ok-steal_handle.ensures.steal_handle.1 (inv.row claims filled);
     }
 
-pub returns-in_err-reach-clause-same : goal.returns-in_err-reach-clause-same
-returns-in_err-reach-clause-same c =
+pub returns-in_err-steal_handle-clause-same : goal.returns-in_err-steal_handle-clause-same
+returns-in_err-steal_handle-clause-same c =
     let t = c.loop-k.self in
     let lt : (c.args.which + c.loop-k.k) % t.workers < length t.owns.items = omega (arith, t.count, mod-lt (c.args.which + c.loop-k.k) t.some) in
-    plain_still ((c.args.which + c.loop-k.k) % t.workers) t.owns.items c.index_mut-own.result.now c.reach.new.self lt c.index_mut-own.ensures.value c.reach.ensures.plain ∙ c.loop-k.invariant.same
+    plain_still ((c.args.which + c.loop-k.k) % t.workers) t.owns.items c.index_mut-own.result.now c.steal_handle.new.self lt c.index_mut-own.ensures.value c.steal_handle.ensures.plain ∙ c.loop-k.invariant.same
 
 pub returns-in_err-push-clause-same : goal.returns-in_err-push-clause-same
 returns-in_err-push-clause-same c =
     let t = c.loop-k.self in
     let lt : (c.args.which + c.loop-k.k) % t.workers < length t.owns.items = omega (arith, t.count, mod-lt (c.args.which + c.loop-k.k) t.some) in
-    plain_still ((c.args.which + c.loop-k.k) % t.workers) t.owns.items c.index_mut-own.result.now c.reach.new.self lt c.index_mut-own.ensures.value c.reach.ensures.plain ∙ c.loop-k.invariant.same
+    plain_still ((c.args.which + c.loop-k.k) % t.workers) t.owns.items c.index_mut-own.result.now c.steal_handle.new.self lt c.index_mut-own.ensures.value c.steal_handle.ensures.plain ∙ c.loop-k.invariant.same
 
 pub returns-clause-row : goal.returns-clause-row
 returns-clause-row c = λ claims filled.

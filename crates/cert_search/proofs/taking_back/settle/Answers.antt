@@ -2,7 +2,7 @@ use Rattle.std.proofs.Common.{sym, subst}
 use Rattle.cert_search.specs.Settled.{AreTied}
 use Rattle.cert_search.specs.Dealing.{names_in}
 use Rattle.cert_search.proofs.Returns.{all_tied, views_are, had_once, each_had}
-use Rattle.cert_search.proofs.settling.settle.Goals as goal
+use Rattle.cert_search.proofs.taking_back.settle.Goals as goal
 
 pub gather-requires : goal.gather-requires
 gather-requires c =

@@ -54,7 +54,7 @@ fn pairs_of(claim: &ClaimRef<'_>) -> usize {
 }
 
 /// Returns how many of `workers` workers are worth their threads for these claims.
-pub fn worth(claims: &[ClaimRef<'_>], workers: usize) -> usize
+pub fn useful_workers(claims: &[ClaimRef<'_>], workers: usize) -> usize
     requires { 0 < workers }
     ensures { (0 < result) × (result ≤ workers) }
 {

@@ -1,7 +1,7 @@
 //! Takes back the hands of a deal, which shows that each claim was taken once.
 ghost use Rattle.std.specs.Prelude.{◌≡◌, ◌++◌, map, IfOk, IfErr};
 ghost use Rattle.volume_model.specs.declared.fault.Fault.TheVariants.{NoMemory};
-ghost use Rattle.cert_search.specs.Sights.{own_sight, reach_sight};
+ghost use Rattle.cert_search.specs.NamedViews.{own_named, handle_named};
 ghost use Rattle.cert_search.specs.Dealing.{names_in};
 ghost use Rattle.cert_search.specs.Settled.{all_others, hand_own, AreOfOneDeal, AreTied, EachHad, EachSettles, EachTaken, HadOnce};
 
@@ -23,46 +23,46 @@ pub fn settle(alloc: Global, hands: Vec<Hand>) -> Result<(), Fault>
     ensures each { IfOk result (λ _. EachHad hands.items) }
     ensures fault { IfErr result (λ f. f ≡ NoMemory) }
 {
-    let (mut owns, reaches) = parts_of(alloc, hands)?;
-    gather(&mut owns, reaches);
+    let (mut owns, handles) = parts_of(alloc, hands)?;
+    gather(&mut owns, handles);
     learn_all(&mut owns);
     Ok(())
 }
 
 // Returns the hands' own deques in order, and their views of other deques.
 fn parts_of(alloc: Global, hands: Vec<Hand>) -> Result<(Vec<Own>, Vec<StealHandle>), AllocError>
-    ensures { IfOk result (λ p. (map own_sight p.0.items ≡ map hand_own hands.items)
-        × (map reach_sight p.1.items ≡ all_others hands.items)) }
+    ensures { IfOk result (λ p. (map own_named p.0.items ≡ map hand_own hands.items)
+        × (map handle_named p.1.items ≡ all_others hands.items)) }
 {
     let mut owns = Vec::new(alloc);
-    let mut reaches = Vec::new(alloc);
+    let mut handles = Vec::new(alloc);
     for hand in hands {
         let (own, others) = hand.into_parts();
         owns.push(own)?;
-        push_all(&mut reaches, others)?;
+        push_all(&mut handles, others)?;
     }
-    Ok((owns, reaches))
+    Ok((owns, handles))
 }
 
 // Appends the views of a hand.
-fn push_all(reaches: &mut Vec<StealHandle>, others: Vec<StealHandle>) -> Result<(), AllocError>
-    ensures { IfOk result (λ _. map reach_sight reaches.new.items ≡ map reach_sight reaches.old.items ++ map reach_sight
-        others.items) }
+fn push_all(handles: &mut Vec<StealHandle>, others: Vec<StealHandle>) -> Result<(), AllocError>
+    ensures { IfOk result (λ _. map handle_named handles.new.items ≡ map handle_named handles.old.items
+        ++ map handle_named others.items) }
 {
-    for reach in others {
-        reaches.push(reach)?;
+    for steal_handle in others {
+        handles.push(steal_handle)?;
     }
     Ok(())
 }
 
 // Gives each view back to the worker that owns its deque.
-fn gather(owns: &mut Vec<Own>, reaches: Vec<StealHandle>)
-    requires { AreTied (names_in owns.old.items) (map reach_sight reaches.items) }
-    ensures { EachTaken owns.old.items (map reach_sight reaches.items) owns.new.items }
+fn gather(owns: &mut Vec<Own>, handles: Vec<StealHandle>)
+    requires { AreTied (names_in owns.old.items) (map handle_named handles.items) }
+    ensures { EachTaken owns.old.items (map handle_named handles.items) owns.new.items }
 {
-    for reach in reaches {
-        let own = &mut owns[reach.which];
-        own.take_back(reach);
+    for steal_handle in handles {
+        let own = &mut owns[steal_handle.which];
+        own.take_back(steal_handle);
     }
 }
 
