@@ -1,7 +1,7 @@
 //! Tests of the authority.
 
-use super::said::Said::{self, Count, Step, View, Yes};
-use super::said::said_by;
+use super::replies::Reply::{self, Count, Step, View, Yes};
+use super::replies::reply_of;
 use super::texts::{GROWING, checked};
 use epochs::{Authority, Readiness};
 use quorum_expr::MemberSet;
@@ -42,7 +42,7 @@ enum Asked {
 }
 
 /// A call, and the expected answer or refusal.
-type Row = (Asked, Result<Said, Fault>);
+type Row = (Asked, Result<Reply, Fault>);
 
 /// Makes the authority's message.
 fn made(alloc: Global, authority: &mut Authority, asked: Asked) -> Result<Message, Fault> {
@@ -54,7 +54,7 @@ fn made(alloc: Global, authority: &mut Authority, asked: Asked) -> Result<Messag
     }
 }
 
-fn answer(alloc: Global, authority: &mut Authority, asked: Asked) -> Result<Said, Fault> {
+fn answer(alloc: Global, authority: &mut Authority, asked: Asked) -> Result<Reply, Fault> {
     match asked {
         Asked::MayAdvance(group, configuration) => authority.admits_advance(group, configuration)?,
         Asked::MayAssign => authority.admits_assign()?,
@@ -62,13 +62,13 @@ fn answer(alloc: Global, authority: &mut Authority, asked: Asked) -> Result<Said
         Asked::MayGrow => authority.admits_grow()?,
         Asked::Grow => authority.grow()?,
         Asked::Joined => return Ok(Count(usize::from(authority.joined()))),
-        _ => return Ok(said_by(&made(alloc, authority, asked)?)),
+        _ => return Ok(reply_of(&made(alloc, authority, asked)?)),
     }
     Ok(Yes)
 }
 
 /// Returns the index of the first row with another answer of a new volume's authority, `None` if there is none.
-fn broken(alloc: Global, text: &[u8], rows: &[Row]) -> Result<Option<usize>, Fault> {
+fn first_wrong(alloc: Global, text: &[u8], rows: &[Row]) -> Result<Option<usize>, Fault> {
     let mut authority = Authority::new(alloc, checked(alloc, text)?)?;
     for (place, (asked, expected)) in rows.iter().enumerate() {
         if answer(alloc, &mut authority, *asked) != *expected {
@@ -147,8 +147,8 @@ fn refused(alloc: Global, group: u8, configuration: u32) -> Result<Fault, Fault>
 
 #[test]
 fn authorities(rt: HostRuntime) {
-    assert_eq!(rt; broken(rt.alloc(), PLAN, STEPS_AND_VIEWS), Ok(None));
-    assert_eq!(rt; broken(rt.alloc(), GROWING, GROUPS_JOIN), Ok(None));
+    assert_eq!(rt; first_wrong(rt.alloc(), PLAN, STEPS_AND_VIEWS), Ok(None));
+    assert_eq!(rt; first_wrong(rt.alloc(), GROWING, GROUPS_JOIN), Ok(None));
     assert_eq!(rt; wrong_readiness(rt.alloc()), Ok(None));
     assert_eq!(rt; refused(rt.alloc(), 1, 1), Ok(NoGroup));
     assert_eq!(rt; refused(rt.alloc(), 0, 0), Ok(NotInPlan));

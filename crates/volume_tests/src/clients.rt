@@ -1,7 +1,7 @@
 //! Tests of a client from before its first View on: unborn, a recovery, and the writer that it becomes.
 
 use super::packets::shared;
-use super::said::Said::{self, Count, Recovers, Writes, Yes};
+use super::replies::Reply::{self, Count, Recovers, Writes, Yes};
 use super::texts::{SIX, checked};
 use super::writers::changes;
 use epochs::Authority;
@@ -51,7 +51,7 @@ enum Input {
 }
 
 /// An action or a question, and the expected answer or refusal.
-type Row = (Input, Result<Said, Fault>);
+type Row = (Input, Result<Reply, Fault>);
 
 fn message(alloc: Global, input: Input) -> Result<Message, Fault> {
     let root = Place {
@@ -85,7 +85,7 @@ fn made(
     client: &mut Client,
     action: ClientAction<'_>,
     found: Option<&Message>,
-) -> Result<Said, Fault> {
+) -> Result<Reply, Fault> {
     let judged = client.admits(alloc, action, found);
     let answer = client.act(alloc, action, found);
     match (judged, answer) {
@@ -96,12 +96,12 @@ fn made(
 }
 
 /// Returns the answer to a question.
-fn shown(client: &Client, input: Input) -> Said {
+fn shown(client: &Client, input: Input) -> Reply {
     match input {
         Input::Volume => Count(client.volume() as usize),
         Input::Groups => Count(usize::from(client.groups())),
         _ => match client.state() {
-            ClientState::Unborn => Said::No,
+            ClientState::Unborn => Reply::No,
             ClientState::Recovery(_) => Recovers,
             ClientState::Writer(_) => Writes,
         },
@@ -109,7 +109,7 @@ fn shown(client: &Client, input: Input) -> Said {
 }
 
 /// Returns the answer to an action or a question.
-fn answer(alloc: Global, client: &mut Client, input: Input) -> Result<Said, Fault> {
+fn answer(alloc: Global, client: &mut Client, input: Input) -> Result<Reply, Fault> {
     match input {
         Input::View | Input::Report(_) | Input::Ack(_) => {
             let found = message(alloc, input)?;
@@ -144,7 +144,7 @@ fn answer(alloc: Global, client: &mut Client, input: Input) -> Result<Said, Faul
 
 /// Returns the index of the first row with another answer, `None` if there is none. `first` selects the first writer,
 /// else the client is the unborn one of volume epoch 2.
-fn broken(alloc: Global, first: bool, rows: &[Row]) -> Result<Option<usize>, Fault> {
+fn first_wrong(alloc: Global, first: bool, rows: &[Row]) -> Result<Option<usize>, Fault> {
     let plan = checked(alloc, SIX)?;
     let mut client = if first {
         Client::first(alloc, plan)?
@@ -225,7 +225,7 @@ const TABLES: &[(&str, bool, &[Row])] = &[
 #[test]
 fn clients(rt: HostRuntime) {
     for (what, first, rows) in TABLES {
-        assert_eq!(rt; broken(rt.alloc(), *first, rows), Ok(None), "{what}");
+        assert_eq!(rt; first_wrong(rt.alloc(), *first, rows), Ok(None), "{what}");
     }
 }
 

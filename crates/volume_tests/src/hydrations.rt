@@ -76,7 +76,7 @@ fn answer(alloc: Global, hydration: &mut Hydration, sent: Sent) -> Answer {
 }
 
 /// Returns the index of the first row with another answer, `None` if there is none.
-fn broken(alloc: Global, rows: &[Row]) -> Option<usize> {
+fn first_wrong(alloc: Global, rows: &[Row]) -> Option<usize> {
     let mut hydration = Hydration::new(alloc);
     for (place, (sent, expected)) in rows.iter().enumerate() {
         if answer(alloc, &mut hydration, *sent) != *expected {
@@ -140,7 +140,7 @@ const TABLES: &[(&str, &[Row])] = &[
 #[test]
 fn pieces(rt: HostRuntime) {
     for (what, rows) in TABLES {
-        assert_eq!(rt; broken(rt.alloc(), rows), None, "{what}");
+        assert_eq!(rt; first_wrong(rt.alloc(), rows), None, "{what}");
     }
 }
 

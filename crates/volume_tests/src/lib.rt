@@ -28,7 +28,7 @@ mod recoveries;
 #[cfg(test)]
 mod replays;
 #[cfg(test)]
-mod said;
+mod replies;
 #[cfg(test)]
 mod segments;
 #[cfg(test)]

@@ -1,7 +1,7 @@
 //! Tests of recoveries.
 
 use super::packets::{Line, chained, packet, shared};
-use super::said::Said::{self, Count, Found, Record, Yes};
+use super::replies::Reply::{self, Count, Found, Record, Yes};
 use super::texts::{SIX, checked};
 use super::writers;
 use lineage::Lineage;
@@ -126,7 +126,7 @@ enum Input {
 }
 
 /// An action or a question, and the expected answer or refusal.
-type Row = (Input, Result<Said, Fault>);
+type Row = (Input, Result<Reply, Fault>);
 
 fn view(alloc: Global, places: &[Place]) -> Result<View, Fault> {
     let mut copies = Vec::new(alloc);
@@ -157,15 +157,15 @@ fn ack(from: u8) -> Ack {
 }
 
 /// Returns the result of the recovery's cut.
-fn found(recovery: &Recovery) -> Said {
+fn found(recovery: &Recovery) -> Reply {
     match recovery.found() {
         Some(found) => Found(found.cut, found.lineage.last_start(), found.log.len()),
-        None => Said::No,
+        None => Reply::No,
     }
 }
 
 /// Returns whether the recovery would take the message.
-fn judged(alloc: Global, recovery: &Recovery, input: Input) -> Result<Said, Fault> {
+fn judged(alloc: Global, recovery: &Recovery, input: Input) -> Result<Reply, Fault> {
     match input {
         Input::MayReport(group) => {
             let records = records(alloc, Log::Short, 1, 4)?;
@@ -181,7 +181,7 @@ fn judged(alloc: Global, recovery: &Recovery, input: Input) -> Result<Said, Faul
 }
 
 /// Returns the answer to an action or a question.
-fn answer(alloc: Global, recovery: &mut Recovery, input: Input) -> Result<Said, Fault> {
+fn answer(alloc: Global, recovery: &mut Recovery, input: Input) -> Result<Reply, Fault> {
     match input {
         Input::Report(group, from, log, first, last) => {
             let records = records(alloc, log, first, last)?;
@@ -217,7 +217,7 @@ fn born(alloc: Global, text: &[u8], places: &[Place]) -> Result<(Recovery, usize
 
 /// Returns the number of messages that the birth of a recovery of the plan of six makes, and the index of the first row
 /// with another answer.
-fn broken(alloc: Global, rows: &[Row]) -> Result<(usize, Option<usize>), Fault> {
+fn first_wrong(alloc: Global, rows: &[Row]) -> Result<(usize, Option<usize>), Fault> {
     let (mut recovery, fences) = born(alloc, SIX, &[ROOT])?;
     Ok((fences, broken_by(alloc, &mut recovery, rows)))
 }
@@ -243,7 +243,7 @@ const A_CUT_AT_5: &[Row] = &[
 /// One report is too few.
 const READING: &[Row] = &[
     (Input::View(&[ROOT]), Ok(Count(0))),
-    (Input::Find, Ok(Said::No)),
+    (Input::Find, Ok(Reply::No)),
     (Input::Report(0, 0, Log::Short, 1, 4), Ok(Yes)),
     (Input::MayCut, Err(NotReady)),
     (Input::Cut, Err(NotReady)),
@@ -270,7 +270,7 @@ const TABLES: &[(&str, &[Row])] = &[
 #[test]
 fn recoveries(rt: HostRuntime) {
     for (what, rows) in TABLES {
-        assert_eq!(rt; broken(rt.alloc(), rows), Ok((1, None)), "{what}");
+        assert_eq!(rt; first_wrong(rt.alloc(), rows), Ok((1, None)), "{what}");
     }
 }
 

@@ -1,7 +1,7 @@
 //! Tests of writers.
 
-use super::said::Said::{self, Count, Install, Point, Record, Yes};
-use super::said::said_by;
+use super::replies::Reply::{self, Count, Install, Point, Record, Yes};
+use super::replies::reply_of;
 use super::texts::{GROWING, SIX, checked};
 use std::alloc::Global;
 use std::test::*;
@@ -131,7 +131,7 @@ pub enum Input {
 }
 
 /// An action or a question, and the expected answer or refusal.
-pub type Row = (Input, Result<Said, Fault>);
+pub type Row = (Input, Result<Reply, Fault>);
 
 /// The place of a group at its root.
 const ROOT: Place = Place {
@@ -175,16 +175,16 @@ fn view(alloc: Global, volume: u32, places: &[Place]) -> Result<View, Fault> {
 }
 
 /// Takes a View. Returns the number of messages, or a single one in short.
-fn viewed(alloc: Global, writer: &mut Writer, view: &View) -> Result<Said, Fault> {
+fn viewed(alloc: Global, writer: &mut Writer, view: &View) -> Result<Reply, Fault> {
     let made = writer.view(alloc, view)?;
     Ok(match made.as_slice() {
-        [install] => said_by(install),
+        [install] => reply_of(install),
         _ => Count(made.len()),
     })
 }
 
 /// Returns the answer to a question about the log.
-fn logged(writer: &Writer, input: Input) -> Result<Said, Fault> {
+fn logged(writer: &Writer, input: Input) -> Result<Reply, Fault> {
     let log = writer.log();
     Ok(match input {
         Input::Log => Count(log.len()),
@@ -192,15 +192,15 @@ fn logged(writer: &Writer, input: Input) -> Result<Said, Fault> {
             let record = log.packet(place).record();
             Record(record.lsn, record.prev_volume)
         }
-        Input::Resend(lsn) => said_by(&writer.resend(lsn)?.write()?),
-        _ => Said::No,
+        Input::Resend(lsn) => reply_of(&writer.resend(lsn)?.write()?),
+        _ => Reply::No,
     })
 }
 
 /// Returns the answer to a question.
-fn shown(writer: &Writer, input: Input) -> Result<Said, Fault> {
+fn shown(writer: &Writer, input: Input) -> Result<Reply, Fault> {
     Ok(match input {
-        Input::Read(group) => said_by(&writer.read(group, 0)?),
+        Input::Read(group) => reply_of(&writer.read(group, 0)?),
         Input::GroupPoint(group) => Point(writer.group_point(group)?),
         Input::Complete => Point(writer.complete_point()),
         Input::Durable => Point(writer.durable_point()),
@@ -212,7 +212,7 @@ fn shown(writer: &Writer, input: Input) -> Result<Said, Fault> {
 }
 
 /// Returns the answer to an action or a question.
-fn answer(alloc: Global, writer: &mut Writer, input: Input) -> Result<Said, Fault> {
+fn answer(alloc: Global, writer: &mut Writer, input: Input) -> Result<Reply, Fault> {
     match input {
         Input::Ack(member, from, scl) => writer.take_ack(&ack(0, member, from, scl))?,
         Input::AckOf(group, scl) => writer.take_ack(&ack(group, 1, 0, scl))?,
@@ -240,7 +240,7 @@ pub fn broken_by(alloc: Global, writer: &mut Writer, rows: &[Row]) -> Option<usi
 }
 
 /// The same for the writer of a new volume over a plan.
-fn broken(alloc: Global, plan: Plan, rows: &[Row]) -> Result<Option<usize>, Fault> {
+fn first_wrong(alloc: Global, plan: Plan, rows: &[Row]) -> Result<Option<usize>, Fault> {
     let mut writer = Writer::first(alloc, checked(alloc, text(plan))?)?;
     Ok(broken_by(alloc, &mut writer, rows))
 }
@@ -280,7 +280,7 @@ const TRANSACTIONS: &[Row] = &[
     (Input::Volume, Ok(Point(1))),
     (Input::Start, Ok(Point(0))),
     (Input::Log, Ok(Count(10))),
-    (Input::Acknowledged(10), Ok(Said::No)),
+    (Input::Acknowledged(10), Ok(Reply::No)),
     (Input::Ack(1, 0, 10), Ok(Yes)),
     (Input::Ack(1, 1, 10), Ok(Yes)),
     (Input::Ack(1, 2, 10), Ok(Yes)),
@@ -474,6 +474,6 @@ const TABLES: &[(&str, Plan, &[Row])] = &[
 #[test]
 fn writers(rt: HostRuntime) {
     for (what, plan, rows) in TABLES {
-        assert_eq!(rt; broken(rt.alloc(), *plan, rows), Ok(None), "{what}");
+        assert_eq!(rt; first_wrong(rt.alloc(), *plan, rows), Ok(None), "{what}");
     }
 }

@@ -9,8 +9,8 @@ use super::messages::message;
 use super::nodes::At::{self, Copied, Fresh, Holding, Hydrated, Promised, Tail, Whole};
 use super::nodes::node;
 use super::rows::{Row, Table, are_kept};
-use super::steps::Said::{self, Acks, Asks, Byte, Copies, Nothing, Offers, Reports};
-use super::steps::said_by;
+use super::steps::Reply::{self, Acks, Asks, Byte, Copies, Nothing, Offers, Reports};
+use super::steps::reply_of;
 use segment_core::{NodeAction, Prepared, Segment};
 use std::alloc::Global;
 use std::test::*;
@@ -59,15 +59,15 @@ fn answers(rt: HostRuntime) {
 
 /// A step in two parts: the prepared answer, the complete point then, the answer once it is applied, and the complete
 /// point after it.
-type Parts = (Said, u64, Said, u64);
+type Parts = (Reply, u64, Reply, u64);
 
 /// Applies a prepared step. Returns it in two parts.
 fn applied(node: &mut Segment, prepared: Prepared) -> Parts
     requires { IsReady node.old prepared }
 {
-    let (shown, before) = (said_by(prepared.answers()), node.scl());
+    let (shown, before) = (reply_of(prepared.answers()), node.scl());
     let answers = node.apply(prepared);
-    (shown, before, said_by(&answers), node.scl())
+    (shown, before, reply_of(&answers), node.scl())
 }
 
 /// Returns whether a record is taken in these two parts.

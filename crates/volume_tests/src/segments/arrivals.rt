@@ -5,7 +5,7 @@ use super::inputs::Sent::{self, After, Ours};
 use super::nodes::At::{Tail, Whole};
 use super::nodes::node;
 use super::rows::{Row, Table, are_kept, broken_by};
-use super::steps::Said::{Acks, Byte, Nothing, Offers, Reports};
+use super::steps::Reply::{Acks, Byte, Nothing, Offers, Reports};
 use super::steps::answer;
 use segment_core::Segment;
 use std::alloc::Global;
@@ -119,8 +119,8 @@ const THE_LAST_OF_2000: &[Row] = &[(Write(0, 1, 1, After(1, 0)), Ok(Acks(2000)),
 fn in_reverse(alloc: Global) -> Result<(Option<u64>, Option<usize>), Fault> {
     let mut node = node(alloc, Whole)?;
     for before in (1..2000).rev() {
-        let said = answer(alloc, &mut node, Write(0, 1, 1, After(before + 1, before)))?;
-        if said != Acks(0) || node.scl() != 0 {
+        let reply = answer(alloc, &mut node, Write(0, 1, 1, After(before + 1, before)))?;
+        if reply != Acks(0) || node.scl() != 0 {
             return Ok((Some(before + 1), None));
         }
     }

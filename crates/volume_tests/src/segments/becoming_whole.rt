@@ -4,7 +4,7 @@ use super::inputs::Held::First;
 use super::inputs::Input::{ByteOf, CopyOf, Fence, Hydrate, Offer, Restart, Step};
 use super::nodes::At::{Hydrated, Joined, Joining};
 use super::rows::{Row, Table, are_kept};
-use super::steps::Said::{Asks, Byte, Nothing, Offers, Reports};
+use super::steps::Reply::{Asks, Byte, Nothing, Offers, Reports};
 use std::test::*;
 use volume_model::Fault::{AlreadyWhole, NoRecord, NotEnough, NotInstalled, NotWhole};
 

@@ -6,8 +6,8 @@ use super::inputs::{FIRST_THIRD, LAST_THIRD, ORDERS, SECOND_THIRD};
 use super::messages::message;
 use super::nodes::At::{Early, Fresh, Holding};
 use super::nodes::node;
-use super::rows::{Row, Table, are_kept, broken};
-use super::steps::Said::{Asks, Nothing};
+use super::rows::{Row, Table, are_kept, first_wrong};
+use super::steps::Reply::{Asks, Nothing};
 use super::steps::answer;
 use segment_core::Segment;
 use std::alloc::Global;
@@ -135,7 +135,7 @@ fn in_order(alloc: Global, [a, b, c]: [u16; 3]) -> Result<Option<usize>, Fault> 
         (Hydrate, Ok(Nothing), 3),
         (CopyPiece(2, 0, 1, One(c, 3)), Err(AlreadyWhole), 3),
     ];
-    broken(alloc, Fresh, &rows)
+    first_wrong(alloc, Fresh, &rows)
 }
 
 #[test]

@@ -6,7 +6,7 @@ use super::inputs::Sent::Ours;
 use super::nodes::At::{self, Fresh, Whole};
 use super::nodes::node;
 use super::rows::{Row, broken_by};
-use super::steps::Said::{Acks, Nothing};
+use super::steps::Reply::{Acks, Nothing};
 use super::steps::answer;
 use std::alloc::Global;
 use std::test::*;

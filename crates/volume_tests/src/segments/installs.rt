@@ -5,8 +5,8 @@ use super::inputs::Part::{Of, One};
 use super::inputs::Sent::{self, Ours};
 use super::inputs::{FIRST_THIRD, LAST_THIRD, ORDERS, SECOND_THIRD};
 use super::nodes::At::Holding;
-use super::rows::{Row, Table, are_kept, broken};
-use super::steps::Said::{Acks, Byte, Nothing, Reports};
+use super::rows::{Row, Table, are_kept, first_wrong};
+use super::steps::Reply::{Acks, Byte, Nothing, Reports};
 use std::alloc::Global;
 use std::test::*;
 use volume_model::Fault::{self, BadPiece, Full, NotInstalled, StaleMember, StaleVolume};
@@ -148,7 +148,7 @@ fn in_order(alloc: Global, [a, b, c]: [u16; 3]) -> Result<Option<usize>, Fault> 
         (InstallPiece(2, 1, One(c, 3)), Ok(Acks(3)), 3),
         (InstallPiece(2, 1, One(c, 3)), Ok(Acks(3)), 3),
     ];
-    broken(alloc, Holding(2), &rows)
+    first_wrong(alloc, Holding(2), &rows)
 }
 
 #[test]

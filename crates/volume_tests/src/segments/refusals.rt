@@ -6,7 +6,7 @@ use super::inputs::Input::{self, *};
 use super::inputs::Sent::{Others, Ours};
 use super::nodes::At::{self, Fresh, Nobody, Promised, Tail, Whole};
 use super::nodes::node;
-use super::steps::{Said, answer};
+use super::steps::{Reply, answer};
 use std::alloc::Global;
 use std::test::*;
 use volume_model::Fault::{self, *};
@@ -262,7 +262,7 @@ const KINDS: &[(&str, &[Case])] = &[
 ];
 
 /// Returns the answer of a new node.
-fn input(alloc: Global, at: At, input: Input) -> Result<Said, Fault> {
+fn input(alloc: Global, at: At, input: Input) -> Result<Reply, Fault> {
     answer(alloc, &mut node(alloc, at)?, input)
 }
 

@@ -2,14 +2,14 @@
 
 use super::inputs::Input;
 use super::nodes::{At, node};
-use super::steps::{Said, answer};
+use super::steps::{Reply, answer};
 use segment_core::Segment;
 use std::alloc::Global;
 use std::process::Abort;
 use volume_model::Fault;
 
 /// An input, the expected answer or refusal, and the complete point after it.
-pub type Row = (Input, Result<Said, Fault>, u64);
+pub type Row = (Input, Result<Reply, Fault>, u64);
 
 /// The name of a table, the node at its beginning, and its rows.
 pub type Table = (&'static str, At, &'static [Row]);
@@ -25,7 +25,7 @@ pub fn broken_by(alloc: Global, node: &mut Segment, rows: &[Row]) -> Option<usiz
 }
 
 /// The same for a new node.
-pub fn broken(alloc: Global, at: At, rows: &[Row]) -> Result<Option<usize>, Fault> {
+pub fn first_wrong(alloc: Global, at: At, rows: &[Row]) -> Result<Option<usize>, Fault> {
     let mut node = node(alloc, at)?;
     Ok(broken_by(alloc, &mut node, rows))
 }
@@ -33,6 +33,6 @@ pub fn broken(alloc: Global, at: At, rows: &[Row]) -> Result<Option<usize>, Faul
 /// Fails at the first table with a row that has another answer.
 pub fn are_kept(rt: &impl Abort, alloc: Global, tables: &[Table]) {
     for (what, at, rows) in tables {
-        assert_eq!(rt; broken(alloc, *at, rows), Ok(None), "{what}");
+        assert_eq!(rt; first_wrong(alloc, *at, rows), Ok(None), "{what}");
     }
 }

@@ -10,7 +10,7 @@ use wire::{Message, Messages};
 
 /// An answer of a node, in short.
 #[derive(Clone, Copy, PartialEq, Eq)]
-pub enum Said {
+pub enum Reply {
     /// No message.
     Nothing,
     /// An acknowledgement of a complete point.
@@ -42,51 +42,51 @@ fn last_of(packets: &[SharedRecord]) -> u64 {
 }
 
 /// Returns a message in short.
-fn said_in(message: &Message) -> Said {
+fn reply_in(message: &Message) -> Reply {
     match message {
-        Message::Ack(ack) => Said::Acks(ack.scl),
-        Message::Report(report) => Said::Reports(last_of(report.contents.records.as_slice())),
-        Message::CopyReport(copy) => Said::Copies(last_of(copy.part.contents.records.as_slice())),
-        Message::CopyAsk(ask) => Said::Asks(ask.epoch),
-        Message::Page(page) => Said::Byte(page.image.bytes[0]),
+        Message::Ack(ack) => Reply::Acks(ack.scl),
+        Message::Report(report) => Reply::Reports(last_of(report.contents.records.as_slice())),
+        Message::CopyReport(copy) => Reply::Copies(last_of(copy.part.contents.records.as_slice())),
+        Message::CopyAsk(ask) => Reply::Asks(ask.epoch),
+        Message::Page(page) => Reply::Byte(page.image.bytes[0]),
         Message::Gossip(gossip) => {
             let label = gossip.label;
-            Said::Offers(label.volume, label.member, gossip.packet.lsn())
+            Reply::Offers(label.volume, label.member, gossip.packet.lsn())
         }
-        _ => Said::Another,
+        _ => Reply::Another,
     }
 }
 
 /// Returns messages in short.
-pub fn said_by(messages: &Messages) -> Said {
+pub fn reply_of(messages: &Messages) -> Reply {
     match messages {
-        Messages::Empty => Said::Nothing,
-        Messages::One(message) => said_in(message),
-        Messages::Many(_) => Said::Another,
+        Messages::Empty => Reply::Nothing,
+        Messages::One(message) => reply_in(message),
+        Messages::Many(_) => Reply::Another,
     }
 }
 
-fn delivered(alloc: Global, node: &mut Segment, input: Input) -> Result<Said, Fault> {
+fn delivered(alloc: Global, node: &mut Segment, input: Input) -> Result<Reply, Fault> {
     let message = message(alloc, input)?;
     let answers = node.deliver(alloc, &message)?;
-    Ok(said_by(&answers))
+    Ok(reply_of(&answers))
 }
 
 /// Returns the node's answer.
-pub fn answer(alloc: Global, node: &mut Segment, input: Input) -> Result<Said, Fault> {
+pub fn answer(alloc: Global, node: &mut Segment, input: Input) -> Result<Reply, Fault> {
     match input {
         Input::Restart => {
             node.restart();
-            Ok(Said::Nothing)
+            Ok(Reply::Nothing)
         }
         Input::Hydrate => {
             node.hydrate(alloc)?;
-            Ok(Said::Nothing)
+            Ok(Reply::Nothing)
         }
-        Input::Offer(lsn) => Ok(said_in(&node.offer(lsn)?.gossip()?)),
+        Input::Offer(lsn) => Ok(reply_in(&node.offer(lsn)?.gossip()?)),
         Input::ByteOf(block, point, place) => match node.page_at(alloc, block, point)?.get(place) {
-            Some(byte) => Ok(Said::Byte(*byte)),
-            None => Ok(Said::Another),
+            Some(byte) => Ok(Reply::Byte(*byte)),
+            None => Ok(Reply::Another),
         },
         _ => delivered(alloc, node, input),
     }

@@ -4,7 +4,7 @@ use wire::Message;
 
 /// An answer of the authority or a client, in short.
 #[derive(Clone, Copy, PartialEq, Eq)]
-pub enum Said {
+pub enum Reply {
     /// It is so, or the call may be made or was made.
     Yes,
     /// It isn't so.
@@ -30,26 +30,26 @@ pub enum Said {
 }
 
 /// Returns a message in short: a step, a View, an Install, the record of a Write, or the point of a PageAsk.
-pub fn said_by(message: &Message) -> Said {
+pub fn reply_of(message: &Message) -> Reply {
     match message {
         Message::StepTo(step) => {
-            Said::Step(step.group, step.place.configuration, step.place.epoch)
+            Reply::Step(step.group, step.place.configuration, step.place.epoch)
         }
         Message::View(view) => match view.places.as_slice() {
-            [first, ..] => Said::View(
+            [first, ..] => Reply::View(
                 view.volume,
                 view.places.len(),
                 first.configuration,
                 first.epoch,
             ),
-            [] => Said::No,
+            [] => Reply::No,
         },
-        Message::Install(install) => Said::Install(install.group),
-        Message::Write(write) => Said::Record(
+        Message::Install(install) => Reply::Install(install.group),
+        Message::Write(write) => Reply::Record(
             write.packet.lsn(),
             write.packet.record().prev_volume,
         ),
-        Message::PageAsk(ask) => Said::Point(ask.point),
-        _ => Said::No,
+        Message::PageAsk(ask) => Reply::Point(ask.point),
+        _ => Reply::No,
     }
 }
