@@ -1,10 +1,7 @@
 //! Tests of fleets.
 
 mod calls;
-mod copies;
 mod drive;
-mod letters;
 mod looks;
-mod refusals;
 mod tables;
 mod threads;

@@ -1,9 +1,7 @@
 //! Tests of searches whose workers wait for each other.
 
-use super::kept::claims_of;
 use super::texts::{WIDE, plan_of};
-use cert_search::{Gate, search_all, search_one};
-use quorum_checker::check;
+use cert_search::{Gate, search_all};
 use std::alloc::Global;
 use std::sync::Wait;
 use std::sync::atomic::{AtomicBool, Ordering};
@@ -117,8 +115,9 @@ fn two_claims_at_a_time(rt: HostRuntime) {
         first: Flag::new(),
         second: Flag::new(),
     };
-    assert_eq!(rt; found(&rt, rt.alloc(), &gate), Ok(5));
-    assert!(rt; gate.first.was_seen() && gate.second.was_seen());
+    let found = found(&rt, rt.alloc(), &gate);
+    let have_met = gate.first.was_seen() && gate.second.was_seen();
+    assert_eq!(rt; (found, have_met), (Ok(5), true));
 }
 
 #[test]
@@ -126,25 +125,6 @@ fn a_held_claim_keeps_no_other(rt: HostRuntime) {
     let gate = Later {
         finished: Flag::new(),
     };
-    assert_eq!(rt; found(&rt, rt.alloc(), &gate), Ok(5));
-    assert!(rt; gate.finished.was_seen());
-}
-
-/// Returns whether the certificate found for the first claim refutes it, `None` if none is found.
-fn alone(alloc: Global) -> Result<Option<bool>, Fault> {
-    let plan = plan_of(alloc, WIDE)?;
-    let claims = claims_of(alloc, &plan)?;
-    let Some(first) = claims.first() else {
-        return Ok(None);
-    };
-    let claim = first.claim_in(alloc)?;
-    match search_one(alloc, &claim, 100)? {
-        Some(certificate) => Ok(Some(check(alloc, &claim, &certificate).is_ok())),
-        None => Ok(None),
-    }
-}
-
-#[test]
-fn a_plain_claim_alone(rt: HostRuntime) {
-    assert_eq!(rt; alone(rt.alloc()), Ok(Some(true)));
+    let found = found(&rt, rt.alloc(), &gate);
+    assert_eq!(rt; (found, gate.finished.was_seen()), (Ok(5), true));
 }

@@ -46,6 +46,27 @@ pub const WIDE: &str = r#"{"format":1,"lal":10,"groups":[{"configurations":[
 {"parent":1,"members":[0,1,2,3,4,5,6,7],"full":[0,1,2,3,4,5,6,7],"read":{"k":1,"of":[{"k":3,"of":[0,1,2,3,4,5]},{"k":3,"of":[0,1,2,3,4,6]},{"k":3,"of":[0,1,2,3,5,7]},{"k":3,"of":[0,1,2,3,6,7]}]},"write":{"k":4,"of":[{"k":4,"of":[0,1,2,3,4,5]},{"k":4,"of":[0,1,2,3,4,6]},{"k":4,"of":[0,1,2,3,5,7]},{"k":4,"of":[0,1,2,3,6,7]}]},"meets":{"rule":"open","side":"right","item":0,"then":{"rule":"pick","side":"left","item":0,"children":[0,1,2,3],"then":[{"rule":"match","left":0,"right":0,"pairs":[[0,0],[1,1],[2,2],[3,3],[4,4],[5,5]],"then":[{"rule":"clash","left":0,"right":3},{"rule":"clash","left":0,"right":3},{"rule":"clash","left":0,"right":3},{"rule":"clash","left":0,"right":3},{"rule":"clash","left":0,"right":3},{"rule":"clash","left":0,"right":3}]},{"rule":"match","left":0,"right":1,"pairs":[[0,0],[1,1],[2,2],[3,3],[4,4],[5,5]],"then":[{"rule":"clash","left":0,"right":3},{"rule":"clash","left":0,"right":3},{"rule":"clash","left":0,"right":3},{"rule":"clash","left":0,"right":3},{"rule":"clash","left":0,"right":3},{"rule":"clash","left":0,"right":3}]},{"rule":"match","left":0,"right":2,"pairs":[[0,0],[1,1],[2,2],[3,3],[4,4],[5,5]],"then":[{"rule":"clash","left":0,"right":3},{"rule":"clash","left":0,"right":3},{"rule":"clash","left":0,"right":3},{"rule":"clash","left":0,"right":3},{"rule":"clash","left":0,"right":3},{"rule":"clash","left":0,"right":3}]},{"rule":"match","left":0,"right":3,"pairs":[[0,0],[1,1],[2,2],[3,3],[4,4],[5,5]],"then":[{"rule":"clash","left":0,"right":3},{"rule":"clash","left":0,"right":3},{"rule":"clash","left":0,"right":3},{"rule":"clash","left":0,"right":3},{"rule":"clash","left":0,"right":3},{"rule":"clash","left":0,"right":3}]}]}},"step":{"rule":"open","side":"right","item":0,"then":{"rule":"pick","side":"left","item":0,"children":[0,1,2,3],"then":[{"rule":"match","left":0,"right":0,"pairs":[[0,0],[1,1],[2,2],[3,3],[4,4],[5,5]],"then":[{"rule":"clash","left":0,"right":1},{"rule":"clash","left":0,"right":1},{"rule":"clash","left":0,"right":1},{"rule":"clash","left":0,"right":1},{"rule":"clash","left":0,"right":1},{"rule":"clash","left":0,"right":1}]},{"rule":"match","left":0,"right":1,"pairs":[[0,0],[1,1],[2,2],[3,3],[4,4],[5,5]],"then":[{"rule":"clash","left":0,"right":1},{"rule":"clash","left":0,"right":1},{"rule":"clash","left":0,"right":1},{"rule":"clash","left":0,"right":1},{"rule":"clash","left":0,"right":1},{"rule":"clash","left":0,"right":1}]},{"rule":"match","left":0,"right":0,"pairs":[[0,0],[1,1],[2,2],[3,3],[4,5],[5,4]],"then":[{"rule":"clash","left":0,"right":1},{"rule":"clash","left":0,"right":1},{"rule":"clash","left":0,"right":1},{"rule":"clash","left":0,"right":1},{"rule":"clash","left":0,"right":1},{"rule":"dead","side":"left","item":0}]},{"rule":"match","left":0,"right":1,"pairs":[[0,0],[1,1],[2,2],[3,3],[4,5],[5,4]],"then":[{"rule":"clash","left":0,"right":1},{"rule":"clash","left":0,"right":1},{"rule":"clash","left":0,"right":1},{"rule":"clash","left":0,"right":1},{"rule":"clash","left":0,"right":1},{"rule":"dead","side":"left","item":0}]}]}}}
 ]}]}"#;
 
+/// Three copies, of which two read and two write. The child of the root adds member 3: its read quorums are those of 0,
+/// 1 and 2 or those of 0, 1 and 3, its write quorums those of both.
+pub const THREE_COPIES: &str = r#"{"format":1,"lal":1000,"groups":[{"configurations":[
+{"parent":null,"members":[0,1,2],"full":[0,1,2],"read":{"k":2,"of":"all"},"write":{"k":2,"of":"all"},
+"meets":{"rule":"match","left":0,"right":0,"pairs":[[0,0],[1,1],[2,2]],"then":[
+{"rule":"clash","left":0,"right":0},{"rule":"clash","left":0,"right":0},{"rule":"clash","left":0,"right":0}]},"step":null},
+{"parent":0,"members":[0,1,2,3],"full":[0,1,2,3],
+"read":{"k":1,"of":[{"k":2,"of":[0,1,2]},{"k":2,"of":[0,1,3]}]},
+"write":{"k":2,"of":[{"k":2,"of":[0,1,2]},{"k":2,"of":[0,1,3]}]},
+"meets":{"rule":"match","left":0,"right":0,"pairs":[[0,0],[1,1]],"then":[
+{"rule":"match","left":0,"right":0,"pairs":[[0,0],[1,1],[2,2]],"then":[
+{"rule":"clash","left":0,"right":0},{"rule":"clash","left":0,"right":0},{"rule":"clash","left":0,"right":0}]},
+{"rule":"match","left":0,"right":0,"pairs":[[0,0],[1,1],[2,2]],"then":[
+{"rule":"clash","left":0,"right":0},{"rule":"clash","left":0,"right":0},{"rule":"clash","left":0,"right":0}]}]},
+"step":{"rule":"pick","side":"left","item":0,"children":[0,1],"then":[
+{"rule":"match","left":0,"right":0,"pairs":[[0,0],[1,1],[2,2]],"then":[
+{"rule":"clash","left":0,"right":0},{"rule":"clash","left":0,"right":0},{"rule":"clash","left":0,"right":0}]},
+{"rule":"match","left":0,"right":0,"pairs":[[0,0],[1,1],[2,2]],"then":[
+{"rule":"clash","left":0,"right":0},{"rule":"clash","left":0,"right":0},{"rule":"dead","side":"left","item":0}]}]}}
+]}]}"#;
+
 /// Returns the plan of a text; `Malformed` if it isn't one.
 pub fn plan_of(alloc: Global, text: &str) -> Result<Plan, Fault> {
     match read_plan(alloc, text.as_bytes()) {

@@ -1,6 +1,6 @@
 //! Tables of calls of a fleet.
 
-use super::looks::{Lent, Look};
+use super::looks::{Look, Seen};
 use node_fleet::{Fleet, FleetSite, Pass, Receipt};
 use segment_core::NodeAction;
 use std::alloc::{AllocError, Global};
@@ -14,6 +14,14 @@ use writer_core::Change;
 pub enum Call {
     /// Deliver a message to a member.
     Deliver(u8, u64),
+    /// Deliver the messages from the first to the last to a member.
+    DeliverAll(u8, u64, u64),
+    /// Post a letter with a message to a member's mailbox.
+    Post(u8, u64),
+    /// Post the closing letter to a member's mailbox.
+    Close(u8),
+    /// Collect a member's oldest letter and deliver its message, 0 for the closing letter, to the member.
+    Collect(u8),
     /// Perform a member's action.
     Node(u8, NodeAction),
     /// Perform an action of the authority.
@@ -46,6 +54,45 @@ fn changes(alloc: Global, bytes: &str) -> Result<Vec<Change>, AllocError> {
     Ok(changes)
 }
 
+/// Returns the message of a member's oldest letter, 0 if it is the closing letter. Blocks while there is no letter.
+fn collected<'a, L: FleetSite, R: Wait>(
+    rt: &R,
+    fleet: &Fleet<'a, L>,
+    pass: &mut Pass<'a, L>,
+    member: u8,
+) -> u64 {
+    if !fleet.names(0, member) {
+        return 0;
+    }
+    fleet.collect(rt, pass, 0, member).unwrap_or(0)
+}
+
+/// Posts a letter to a member; `None` is the closing letter.
+fn post<'a, L: FleetSite, R: Wait>(
+    rt: &R,
+    fleet: &Fleet<'a, L>,
+    pass: &mut Pass<'a, L>,
+    member: u8,
+    letter: Option<u64>,
+) -> Result<Receipt, Fault> {
+    if !fleet.names(0, member) {
+        return Err(Fault::NoActor);
+    }
+    match letter {
+        Some(message) => fleet.post(rt, pass, 0, member, message),
+        None => fleet.close_mailbox(rt, pass, 0, member),
+    }
+    Ok(NO_STEP)
+}
+
+/// The receipt of a call that makes no step.
+const NO_STEP: Receipt = Receipt {
+    number: 0,
+    first_message: 0,
+    made: 0,
+    durable: 0,
+};
+
 impl Call {
     /// Makes the call with a pass.
     fn made<'a, L: FleetSite, R: Wait>(
@@ -58,6 +105,19 @@ impl Call {
     ) -> Result<Receipt, Fault> {
         match self {
             Call::Deliver(member, message) => fleet.deliver(rt, pass, 0, member, message, look),
+            Call::DeliverAll(member, first, last) => {
+                let mut receipt = NO_STEP;
+                for message in first..=last {
+                    receipt = fleet.deliver(rt, pass, 0, member, message, look)?;
+                }
+                Ok(receipt)
+            }
+            Call::Post(member, message) => post(rt, fleet, pass, member, Some(message)),
+            Call::Close(member) => post(rt, fleet, pass, member, None),
+            Call::Collect(member) => {
+                let message = collected(rt, fleet, pass, member);
+                fleet.deliver(rt, pass, 0, member, message, look)
+            }
             Call::Node(member, action) => fleet.node_step(rt, pass, 0, member, action),
             Call::Authority(action) => fleet.advance(rt, pass, action),
             Call::Issue(volume, bytes) => fleet.issue(rt, pass, volume, changes(alloc, bytes)?),
@@ -89,11 +149,17 @@ fn result_of(made: &Result<Receipt, Fault>) -> CallResult {
 
 /// Returns whether the gate was called exactly once by a delivery, with all messages of the step, and by no other call.
 /// A refused delivery calls it only if the journal is full.
-fn is_lent(call: Call, made: &Result<Receipt, Fault>, before: Lent, after: Lent) -> bool {
+fn is_lent(call: Call, made: &Result<Receipt, Fault>, before: Seen, after: Seen) -> bool {
     let calls = after.calls.saturating_sub(before.calls);
     let messages = after.messages.saturating_sub(before.messages);
     match (call, made) {
-        (Call::Deliver(..), Ok(receipt)) => calls == 1 && messages == receipt.made as u64,
+        (Call::Deliver(..) | Call::Collect(_), Ok(receipt)) => {
+            calls == 1 && messages == receipt.made as u64
+        }
+        (Call::DeliverAll(_, first, last), Ok(receipt)) => {
+            calls == last.saturating_add(1).saturating_sub(first)
+                && messages == calls.saturating_mul(receipt.made as u64)
+        }
         (Call::Deliver(..), Err(Fault::JournalFull)) => calls <= 1,
         _ => calls == 0 && messages == 0,
     }
@@ -115,12 +181,15 @@ pub fn first_wrong<'a, L: FleetSite, R: Wait>(
     }
     let mut last = 0;
     for (i, (call, expected)) in steps.iter().enumerate() {
-        let before = look.lent();
+        let before = look.seen();
         let made = call.made(rt, alloc, fleet, &mut passes[i % count], look);
-        if result_of(&made) != *expected || !is_lent(*call, &made, before, look.lent()) {
+        if result_of(&made) != *expected || !is_lent(*call, &made, before, look.seen()) {
             return Some(i);
         }
-        let number = made.map_or(0, |receipt| receipt.number);
+        let number = match made {
+            Ok(receipt) => receipt.number,
+            Err(_) => 0,
+        };
         if number != 0 && number <= last {
             return Some(i);
         }

@@ -17,29 +17,16 @@ use std::sync::{Arc, Wait};
 use volume_model::Fault;
 use world::{Outcome, run};
 
-/// The result of a fleet.
-#[derive(Clone, Copy)]
-pub struct Ending {
-    /// The index of the first call with another result than the table's.
-    pub wrong: Option<usize>,
-    /// The number of steps of the closed journal.
-    pub steps: usize,
-    /// The number of its events that a run of the world refuses.
-    pub refused: usize,
-    /// The number of writers at the end of that run.
-    pub writers: usize,
-    /// The first writer's volume epoch, durable point and last LSN.
-    pub writer: Option<(u32, u64, u64)>,
-    /// The volume epoch and the cut of the first recovery that has cut.
-    pub find: Option<(u32, u64)>,
-}
-
-impl Ending {
-    /// Returns the index of the first wrong call, the number of steps and the number of refused events.
-    pub fn counts(&self) -> (Option<usize>, usize, usize) {
-        (self.wrong, self.steps, self.refused)
-    }
-}
+/// The result of a fleet: the index of the first call with another result than the table's, the number of steps of the
+/// closed journal, and how many of these a run of the world refuses; at the end of that run the first writer's volume
+/// epoch, durable point and last LSN; and the volume epoch and the cut of the first recovery that has cut.
+pub type Ending = (
+    Option<usize>,
+    usize,
+    usize,
+    Option<(u32, u64, u64)>,
+    Option<(u32, u64)>,
+);
 
 /// Returns the first writer's volume epoch, durable point and last LSN.
 fn writer_of(outcome: &Outcome) -> Option<(u32, u64, u64)> {
@@ -71,14 +58,13 @@ pub fn ended<'a, L: FleetSite>(
     for expected in &outcome.results {
         refused = refused.saturating_add(usize::from(expected.is_err()));
     }
-    Ok(Ending {
+    Ok((
         wrong,
-        steps: journal.len(),
+        journal.len(),
         refused,
-        writers: outcome.writers.len(),
-        writer: writer_of(&outcome),
-        find: find_of(&outcome),
-    })
+        writer_of(&outcome),
+        find_of(&outcome),
+    ))
 }
 
 /// Returns the result of a fleet after the calls of a table, which its passes make in turn.
@@ -105,7 +91,8 @@ fn drive<L: FleetSite, R: Wait>(
     ended(alloc, fleet, passes, &plan, wrong)
 }
 
-/// Returns the result of a fleet over the plan of a text after the calls of a table.
+/// Returns the result of a fleet over the plan of a text after the calls of a table; `NoActor` if it has no pass or no
+/// slot.
 pub fn run_table<R: Wait>(
     rt: &R,
     alloc: Global,
@@ -115,10 +102,10 @@ pub fn run_table<R: Wait>(
     cells: usize,
     steps: &[Step],
     look: &Look,
-) -> Result<Ending, Fault>
-    requires passes { 0 < passes }
-    requires slots { 1 ≤ slots }
-{
+) -> Result<Ending, Fault> {
+    if passes == 0 || slots == 0 {
+        return Err(Fault::NoActor);
+    }
     let plan = checked(alloc, text)?;
     let mut row = Row::new(alloc, cells)?;
     let base = Base::new(alloc, &plan, passes)?;

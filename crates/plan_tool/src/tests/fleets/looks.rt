@@ -2,84 +2,53 @@
 
 use node_fleet::StepGate;
 use std::sync::atomic::{AtomicBool, AtomicU64, Ordering};
-use wire::{Ack, CopyReport, Message, Messages};
+use wire::{Message, Messages};
 
-/// How often a gate was called, and with how many messages.
-#[derive(Clone, Copy, Debug, PartialEq, Eq)]
-pub struct Lent {
+/// What a gate has seen.
+#[derive(Clone, Copy)]
+pub struct Seen {
     /// The number of calls.
     pub calls: u64,
     /// The number of messages of all calls.
     pub messages: u64,
+    /// The member and the complete point of the last acknowledgement that was the only answer.
+    pub ack: (u64, u64),
+    /// Whether the last page that was the only answer begins with these bytes: `abc` and a 0.
+    pub page: bool,
 }
 
-/// A gate that counts its calls and messages, and notes whether a node answered with a page that begins with these
-/// three bytes and is 0 after them.
+/// A gate that records what it sees.
 #[derive(Drop)]
 pub struct Look {
-    seen: AtomicBool,
+    page: AtomicBool,
     calls: AtomicU64,
     messages: AtomicU64,
     from: AtomicU64,
     scl: AtomicU64,
-    pieces: AtomicU64,
-    records: AtomicU64,
 }
 
 impl Look {
     /// Makes a gate that has seen nothing.
     pub fn new() -> Look {
         Look {
-            seen: AtomicBool::new(false),
+            page: AtomicBool::new(false),
             calls: AtomicU64::new(0),
             messages: AtomicU64::new(0),
             from: AtomicU64::new(0),
             scl: AtomicU64::new(0),
-            pieces: AtomicU64::new(0),
-            records: AtomicU64::new(0),
         }
     }
 
-    /// Returns whether the page was seen.
-    pub fn found(&self) -> bool {
-        self.seen.load(Ordering::SeqCst)
-    }
-
-    /// Returns the calls and messages so far.
-    pub fn lent(&self) -> Lent {
-        Lent {
+    /// Returns what it has seen so far.
+    pub fn seen(&self) -> Seen {
+        Seen {
             calls: self.calls.load(Ordering::SeqCst),
             messages: self.messages.load(Ordering::SeqCst),
-        }
-    }
-
-    /// Returns the member and the complete point of the last acknowledgement seen.
-    pub fn last_ack(&self) -> (u64, u64) {
-        (
-            self.from.load(Ordering::SeqCst),
-            self.scl.load(Ordering::SeqCst),
-        )
-    }
-
-    /// Returns how many pieces of copies were seen at the index of their number, and how many records these have.
-    pub fn pieces(&self) -> (u64, u64) {
-        (
-            self.pieces.load(Ordering::SeqCst),
-            self.records.load(Ordering::SeqCst),
-        )
-    }
-
-    fn note_ack(&self, ack: &Ack) {
-        self.from.store(u64::from(ack.from), Ordering::SeqCst);
-        self.scl.store(ack.scl, Ordering::SeqCst);
-    }
-
-    /// Notes a piece of a copy at an index of the messages.
-    fn note_piece(&self, place: usize, piece: &CopyReport) {
-        if usize::from(piece.piece) == place {
-            let records = piece.part.contents.records.len() as u64;
-            self.pieces.fetch_add(1, Ordering::SeqCst);
-            self.records.fetch_add(records, Ordering::SeqCst);
+            ack: (
+                self.from.load(Ordering::SeqCst),
+                self.scl.load(Ordering::SeqCst),
+            ),
+            page: self.page.load(Ordering::SeqCst),
         }
     }
 }
@@ -91,18 +60,12 @@ impl StepGate for Look {
             .fetch_add(answers.len() as u64, Ordering::SeqCst);
         match answers {
             Messages::One(Message::Page(page)) => {
-                let bytes = page.image.bytes.as_slice();
-                if bytes.starts_with(b"abc") && bytes.iter().skip(3).all(|byte| *byte == 0) {
-                    self.seen.store(true, Ordering::SeqCst);
-                }
+                let begins = page.image.bytes.as_slice().starts_with(b"abc\0");
+                self.page.store(begins, Ordering::SeqCst);
             }
-            Messages::One(Message::Ack(ack)) => self.note_ack(ack),
-            Messages::Many(list) => {
-                for (place, message) in list.iter().enumerate() {
-                    if let Message::CopyReport(piece) = message {
-                        self.note_piece(place, piece);
-                    }
-                }
+            Messages::One(Message::Ack(ack)) => {
+                self.from.store(u64::from(ack.from), Ordering::SeqCst);
+                self.scl.store(ack.scl, Ordering::SeqCst);
             }
             _ => {}
         }
