@@ -6,11 +6,11 @@ ghost use Rattle.plan.specs.CheckedModel.{checked_model};
 ghost use Rattle.journal.specs.Tokens.{ids_of};
 ghost use Rattle.node_fleet.specs.Bases.{passes_of, IsBaseOf};
 
-use super::super::gates::Flag;
-use super::super::texts::{SIX, checked};
 use super::calls::{Call, Step, first_wrong};
 use super::drive::{Ending, ended};
 use super::looks::Look;
+use crate::gates::Flag;
+use crate::texts::{SIX, checked};
 use node_fleet::{Base, Fleet, FleetSite, Pass, Row, StepGate};
 use plan::CheckedPlan;
 use segment_core::NodeAction;

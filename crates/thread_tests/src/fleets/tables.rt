@@ -1,9 +1,9 @@
 //! Tables of calls of fleets.
 
-use super::super::texts::{REPLACED, SIX, THREE_COPIES, TWO_GROUPS};
 use super::calls::{Call, Step};
 use super::drive::{Ending, run_table};
 use super::looks::Look;
+use crate::texts::{REPLACED, SIX, THREE_COPIES, TWO_GROUPS};
 use segment_core::NodeAction;
 use std::test::*;
 use volume_model::Fault;

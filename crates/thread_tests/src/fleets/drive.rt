@@ -6,9 +6,9 @@ ghost use Rattle.plan.specs.CheckedModel.{checked_model};
 ghost use Rattle.journal.specs.Tokens.{ids_of};
 ghost use Rattle.node_fleet.specs.Bases.{passes_of, IsBaseOf};
 
-use super::super::texts::checked;
 use super::calls::{Step, first_wrong};
 use super::looks::Look;
+use crate::texts::checked;
 use node_fleet::{Base, Fleet, FleetSite, Pass, Row};
 use plan::CheckedPlan;
 use std::alloc::Global;

@@ -1,5 +1,0 @@
-mod certificates;
-mod fleets;
-mod gates;
-mod hands;
-mod texts;
