@@ -3,7 +3,7 @@
 use super::calls::{Call, Step};
 use super::drive::{Ending, run_table};
 use super::looks::Look;
-use crate::texts::{REPLACED, SIX, THREE_COPIES, TWO_GROUPS};
+use crate::thread_plans::{REPLACED, SIX, THREE_COPIES, TWO_GROUPS};
 use segment_core::NodeAction;
 use std::test::*;
 use volume_model::Fault;

@@ -1,6 +1,6 @@
 //! Tests of searches whose workers wait for each other.
 
-use crate::texts::{WIDE, plan_of};
+use crate::thread_plans::{WIDE, plan_of};
 use cert_search::{Gate, search_all};
 use std::alloc::Global;
 use std::sync::Wait;

@@ -5,7 +5,7 @@ use Rattle.plan.specs.CheckedModel.{checked_model}
 use Rattle.journal.specs.Fronts.{book_of}
 use Rattle.journal.specs.Tokens.{ids_of}
 use Rattle.node_fleet.specs.Bases.{mail_in, passes_of}
-use Rattle.thread_tests.proofs.fleets.threads.run_threads.Given as goal
+use Rattle.volume_tests.proofs.fleets.threads.run_threads.Given as goal
 
 abbrev pub ghosts-work_over-L-Ledger : goal.ghosts-work_over-L-Ledger
 ghosts-work_over-L-Ledger g a = record { name = a.base.blank.name; parts = passes_of a.base }

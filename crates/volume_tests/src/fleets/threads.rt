@@ -10,7 +10,7 @@ use super::calls::{Call, Step, first_wrong};
 use super::drive::{Ending, ended};
 use super::looks::Look;
 use crate::gates::Flag;
-use crate::texts::{SIX, checked};
+use crate::thread_plans::{SIX, checked};
 use node_fleet::{Base, Fleet, FleetSite, Pass, Row, StepGate};
 use plan::CheckedPlan;
 use segment_core::NodeAction;

@@ -4,7 +4,7 @@ use Rattle.plan.specs.Plan.{plan_data}
 use Rattle.plan.specs.PlanClaims.{claims_in}
 use Rattle.plan.specs.NamedClaims.{placed, all_placed}
 use Rattle.plan.proofs.Reread.{ok_is}
-use Rattle.thread_tests.proofs.certificates.written.Goals as goal
+use Rattle.volume_tests.proofs.certificates.written.Goals as goal
 
 pub write_plan-requires : goal.write_plan-requires
 write_plan-requires c = λ plan claims read listed.

@@ -1,6 +1,6 @@
 //! Tests of certificates outside a search, and of what is written of a plan.
 
-use crate::texts::plan_of;
+use crate::thread_plans::plan_of;
 use cert_search::{Gate, keep_shortest, search_all, search_one};
 use plan::{PLAN_BYTES, Plan, PlanFault, claims, read_plan, write_plan};
 use quorum_checker::check;

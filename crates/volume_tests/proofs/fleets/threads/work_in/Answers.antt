@@ -8,10 +8,10 @@ use Rattle.journal.specs.declared.row.Site as site
 use Rattle.node_fleet.specs.declared.site.FleetSite as fleet_site
 use Rattle.node_fleet.proofs.pass.Pass.TheSendSync as pass
 use Rattle.drivers.proofs.Crossing.{fleet_sync}
-use Rattle.thread_tests.specs.contracts.fleets.threads.Hand as Hand
-use Rattle.thread_tests.specs.contracts.fleets.threads.Scene as Scene
-use Rattle.thread_tests.proofs.fleets.threads.Meeting.TheSendSync as meeting
-use Rattle.thread_tests.proofs.fleets.threads.work_in.Goals as goal
+use Rattle.volume_tests.specs.contracts.fleets.threads.Hand as Hand
+use Rattle.volume_tests.specs.contracts.fleets.threads.Scene as Scene
+use Rattle.volume_tests.proofs.fleets.threads.Meeting.TheSendSync as meeting
+use Rattle.volume_tests.proofs.fleets.threads.work_in.Goals as goal
 
 module _ (a b : NamedLft) (T : RattleType) (f : fleet_site.Ghosts T.Denot) (g : site.Ghosts T.Denot) (l : ledger.Ghosts T.Denot) where
   scene_field : IsSend (Scene.the_field a b T f g l).row

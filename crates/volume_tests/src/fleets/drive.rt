@@ -8,7 +8,7 @@ ghost use Rattle.node_fleet.specs.Bases.{passes_of, IsBaseOf};
 
 use super::calls::{Step, first_wrong};
 use super::looks::Look;
-use crate::texts::checked;
+use crate::thread_plans::checked;
 use node_fleet::{Base, Fleet, FleetSite, Pass, Row};
 use plan::CheckedPlan;
 use std::alloc::Global;

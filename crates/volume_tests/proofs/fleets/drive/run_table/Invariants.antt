@@ -5,7 +5,7 @@ use Rattle.plan.specs.CheckedModel.{checked_model}
 use Rattle.journal.specs.Fronts.{book_of}
 use Rattle.journal.specs.Tokens.{ids_of}
 use Rattle.node_fleet.specs.Bases.{mail_in, passes_of}
-use Rattle.thread_tests.proofs.fleets.drive.run_table.Given as goal
+use Rattle.volume_tests.proofs.fleets.drive.run_table.Given as goal
 
 abbrev pub ghosts-drive-L-Ledger : goal.ghosts-drive-L-Ledger
 ghosts-drive-L-Ledger g a = record { name = a.base.blank.name; parts = passes_of a.base }
