@@ -7,7 +7,7 @@ use Rattle.std.specs.declared.sync.ledger.Ledger as ledger
 use Rattle.journal.specs.declared.row.Site as site
 use Rattle.node_fleet.specs.declared.site.FleetSite as fleet_site
 use Rattle.node_fleet.proofs.pass.Pass.TheSendSync as pass
-use Rattle.drivers.proofs.Crossing.{fleet_sync}
+use Rattle.node_fleet.proofs.Crossing.{fleet_sync}
 use Rattle.volume_tests.specs.contracts.fleets.threads.Hand as Hand
 use Rattle.volume_tests.specs.contracts.fleets.threads.Scene as Scene
 use Rattle.volume_tests.proofs.fleets.threads.Meeting.TheSendSync as meeting
