@@ -36,11 +36,13 @@ fn prints<H: Threads + Wait + Sync>(
     }
 }
 
-/// An output of a job, and whether it is the expected one.
+/// The output of a job.
 #[derive(Drop)]
-pub struct Tried {
-    pub is_right: bool,
-    pub output: CommandOutput,
+enum Tried {
+    /// It is the expected one, and this is its standard output.
+    Right(String),
+    /// It isn't the expected one.
+    Wrong(CommandOutput),
 }
 
 /// Tries one job of a question.
@@ -57,8 +59,11 @@ fn try_job<H: Threads + Wait + Sync>(
     };
     let output = say(threads, alloc, job, plan, texts.script)?;
     let is_reported = output.ended_with(question.status, question.reported.as_str());
-    let is_right = is_reported && prints(threads, alloc, question, output.stdout.as_str())?;
-    Ok(Tried { is_right, output })
+    if is_reported && prints(threads, alloc, question, output.stdout.as_str())? {
+        Ok(Tried::Right(output.stdout))
+    } else {
+        Ok(Tried::Wrong(output))
+    }
 }
 
 /// Returns the plan of a file, with the edits of a case.
@@ -90,7 +95,7 @@ fn joined(alloc: Global, script: &str, end: &str) -> Result<String, AllocError> 
 }
 
 /// Tries a job of a question with each last line of the case's script, up to the first wrong output. Returns the last
-/// output, `None` if there is none.
+/// output.
 fn try_ends<H: Threads + Wait + Sync>(
     threads: &H,
     alloc: Global,
@@ -98,21 +103,20 @@ fn try_ends<H: Threads + Wait + Sync>(
     question: &Question<'_>,
     job: &Job<'_>,
     plan: &PlanText,
-) -> Result<Option<Tried>, AllocError> {
-    let mut last = None;
+) -> Result<Tried, AllocError> {
+    let mut printed = String::new(alloc);
     for end in case.ends() {
         let script = joined(alloc, case.script.as_str(), end)?;
         let texts = Texts {
             plan,
             script: script.as_str(),
         };
-        let tried = try_job(threads, alloc, question, job, &texts)?;
-        if !tried.is_right {
-            return Ok(Some(tried));
+        match try_job(threads, alloc, question, job, &texts)? {
+            Tried::Right(text) => printed = text,
+            Tried::Wrong(output) => return Ok(Tried::Wrong(output)),
         }
-        last = Some(tried);
     }
-    Ok(last)
+    Ok(Tried::Right(printed))
 }
 
 /// Tries a command of a question. Returns its first wrong output, or its last one.
@@ -122,7 +126,7 @@ fn try_command<H: Threads + Wait + Sync>(
     case: &Case<'_>,
     question: &Question<'_>,
     command: &str,
-) -> Result<Option<Tried>, Wrong> {
+) -> Result<Tried, Wrong> {
     let alloc = rt.alloc();
     let words = words_of(alloc, command)?;
     let Ok(job) = job(alloc, words.as_slice()) else {
@@ -141,15 +145,13 @@ fn try_question<H: Threads + Wait + Sync>(
 ) -> Result<Option<CommandOutput>, Wrong> {
     let mut first: Option<String> = None;
     for command in &question.commands {
-        let Some(tried) = try_command(rt, threads, case, question, command)? else {
-            continue;
+        let printed = match try_command(rt, threads, case, question, command)? {
+            Tried::Right(printed) => printed,
+            Tried::Wrong(output) => return Ok(Some(output)),
         };
-        if !tried.is_right {
-            return Ok(Some(tried.output));
-        }
         match &first {
-            None => first = Some(tried.output.stdout),
-            Some(first) if *first == tried.output.stdout => {}
+            None => first = Some(printed),
+            Some(first) if *first == printed => {}
             Some(_) => return Err(Wrong::Differs),
         }
     }
