@@ -6,7 +6,6 @@ use rand::RngExt;
 use rand::seq::SliceRandom;
 use rand_core::SeedableRng;
 use rand_xoshiro::Xoshiro256PlusPlus;
-use std::alloc::{AllocError, Global};
 
 /// A generator that returns the same numbers for the same seed.
 #[derive(Drop)]
@@ -48,10 +47,8 @@ impl Rng {
         all.get(place).copied()
     }
 
-    /// Returns the elements in a random order.
-    pub fn shuffled(&mut self, alloc: Global, all: &[u8]) -> Result<Vec<u8>, AllocError> {
-        let mut order = all.to_vec(alloc)?;
-        order.as_mut_slice().shuffle(&mut self.source);
-        Ok(order)
+    /// Puts the elements into a random order.
+    pub fn shuffle(&mut self, all: &mut [u8]) {
+        all.shuffle(&mut self.source);
     }
 }

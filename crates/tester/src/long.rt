@@ -1,8 +1,7 @@
 //! A log that is longer than a piece, so that copies and installs of it take two messages.
 
 use crate::schedule::Schedule;
-use crate::written::{Delivery, Issue, Receiver};
-use std::alloc::AllocError;
+use crate::written::{Delivery, Receiver};
 
 /// The number of transactions with which such a script begins.
 const TRANSACTIONS: u8 = 9;
@@ -15,23 +14,19 @@ const PIECES: u64 = 2;
 
 impl Schedule {
     /// Appends an issue of the first writer with the records of a transaction.
-    fn issue_many(&mut self) -> Result<u64, AllocError> {
-        self.written.text.push_str("issue 1")?;
+    fn issue_many(&mut self) -> u64 {
+        self.written.text.add("issue 1");
         for _ in 0..CHANGES {
-            let byte = self.rng.below(256);
-            write!(self.written.text, " 0:0:0:{byte:02x}")?;
+            self.written.text.add(" 0:0:0:");
+            self.add_random_byte();
         }
-        let line = self.written.end()?;
-        self.written.issues.push(Issue {
-            line,
-            client: 1,
-            changes: CHANGES,
-        })?;
-        Ok(line)
+        let line = self.written.end();
+        self.written.note_issue(line, 1, CHANGES);
+        line
     }
 
     /// Appends the deliveries of a line's records to a member. Returns the number of the last of these lines.
-    fn deliver_many(&mut self, line: u64, member: u8) -> Result<u64, AllocError> {
+    fn deliver_many(&mut self, line: u64, member: u8) -> u64 {
         let mut last = line;
         for change in 0..CHANGES {
             let delivery = Delivery {
@@ -40,27 +35,25 @@ impl Schedule {
                 group: 0,
                 member,
             };
-            last = self.written.deliver(delivery, Receiver::Client(1))?;
+            last = self.written.deliver(delivery, Receiver::Client(1));
         }
-        Ok(last)
+        last
     }
 
     /// Appends lines in which the first writer commits the records of a transaction.
-    fn commit_many(&mut self) -> Result<(), AllocError> {
-        let line = self.issue_many()?;
+    fn commit_many(&mut self) {
+        let line = self.issue_many();
         for member in self.members(0).iter() {
-            let last = self.deliver_many(line, *member)?;
-            self.written.take(1, last, 1)?;
+            let last = self.deliver_many(line, *member);
+            self.written.take(1, last, 1);
         }
-        Ok(())
     }
 
     /// Begins a script with enough records of the first group for two pieces.
-    pub fn lengthen(&mut self) -> Result<(), AllocError> {
+    pub fn lengthen(&mut self) {
         for _ in 0..TRANSACTIONS {
-            self.commit_many()?;
+            self.commit_many();
         }
         self.pieces = PIECES;
-        Ok(())
     }
 }

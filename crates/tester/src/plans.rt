@@ -1,8 +1,9 @@
 //! Certified plans, and their read and write quorums.
 
 use crate::groups::{FULL_AND_TAIL, LARGE_AND_SMALL, MEMBER_REPLACED, SIX_COPIES, TWO_REPLACED};
+use crate::text::Text;
 use fuzzing::Rng;
-use std::alloc::{AllocError, Global};
+use std::alloc::Global;
 
 /// The kinds of groups.
 #[derive(Clone, Copy, PartialEq, Eq)]
@@ -189,23 +190,24 @@ impl Plan {
     }
 
     /// Returns the plan's text, on one line.
-    pub fn text(&self, alloc: Global) -> Result<String, AllocError> {
-        let (allowance, group) = (self.allowance, self.family.text());
-        let (format, born) = if self.born < self.groups {
-            (3, "\"born\":1,")
+    pub fn text(&self, alloc: Global) -> Text {
+        let group = self.family.text();
+        let mut text = Text::new(alloc);
+        text.add("{\"lal\":");
+        text.add_number(self.allowance as u64);
+        if self.born < self.groups {
+            text.add(",\"born\":1,\"format\":3");
         } else {
-            (self.family.format(), "")
-        };
-        let mut text = String::new(alloc);
-        write!(
-            text,
-            "{{\"format\":{format},\"lal\":{allowance},{born}\"groups\":[{group}"
-        )?;
-        if self.groups == 2 {
-            text.push(',')?;
-            text.push_str(group)?;
+            text.add(",\"format\":");
+            text.add_number(u64::from(self.family.format()));
         }
-        text.push_str("]}")?;
-        Ok(text)
+        text.add(",\"groups\":[");
+        text.add(group);
+        if self.groups == 2 {
+            text.add(",");
+            text.add(group);
+        }
+        text.add("]}");
+        text
     }
 }

@@ -73,6 +73,6 @@ pub fn report<H: Threads + Wait + Sync>(
 pub fn show(rt: &HostRuntime, seed: u64) -> io::Result<u8> {
     let trial = Trial::new(rt.alloc(), seed)?;
     println!(rt; "{}", trial.plan)?;
-    print!(rt; "{}", trial.script.text)?;
+    print!(rt; "{}", trial.script)?;
     Ok(0)
 }

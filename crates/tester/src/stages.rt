@@ -1,66 +1,71 @@
 //! The stages of tasks.
 
 use crate::schedule::Schedule;
+use crate::short_list::ShortList;
 use crate::tasks::{Stage, Task};
-use crate::written::{Issue, Receiver};
-use std::alloc::{AllocError, Global};
+use crate::written::Receiver;
+use std::alloc::Global;
 
 impl Schedule {
     /// Adds a random change to an Issue's line.
-    fn add_change(&mut self, group: u8) -> Result<(), AllocError> {
+    fn add_change(&mut self, group: u8) {
         let block = self.rng.below(3);
         let offset = self.rng.below(500);
-        write!(self.written.text, " {group}:{block}:{offset}:")?;
+        for number in [u64::from(group), block as u64, offset as u64] {
+            self.written.text.add_number(number);
+            self.written.text.add(":");
+        }
         let bytes = self.rng.from(1, 8);
         for _ in 0..bytes {
-            let byte = self.rng.below(256);
-            write!(self.written.text, "{byte:02x}")?;
+            self.add_random_byte();
         }
-        Ok(())
+    }
+
+    /// Adds a random byte to a line.
+    pub fn add_random_byte(&mut self) {
+        let byte = self.rng.below(256);
+        self.written.text.add_byte(u8::try_from(byte).unwrap_or(0));
     }
 
     /// Returns the groups of a transaction's changes.
-    fn groups_of_changes(&mut self, alloc: Global) -> Result<Vec<u8>, AllocError> {
-        let mut groups = Vec::new(alloc);
+    fn groups_of_changes(&mut self) -> ShortList {
+        let mut groups = ShortList::new();
         let changes = self.rng.from(1, 4);
         for _ in 0..changes {
             let is_second = self.viewed == 2 && self.rng.chance(50);
-            groups.push(u8::from(is_second))?;
+            groups.push(u8::from(is_second));
         }
-        Ok(groups)
+        groups
     }
 
     /// Begins a task in which a writer issues a transaction and sends its records.
-    pub fn begin_write(&mut self, alloc: Global) -> Result<(), AllocError> {
+    pub fn begin_write(&mut self, alloc: Global) {
         let client = self.writer();
-        let groups = self.groups_of_changes(alloc)?;
-        write!(self.written.text, "issue {client}")?;
+        let groups = self.groups_of_changes();
+        let groups = groups.as_slice();
+        self.written.begin("issue", &[u64::from(client)]);
         for group in groups.iter() {
-            self.add_change(*group)?;
+            self.written.text.add(" ");
+            self.add_change(*group);
         }
-        let line = self.written.end()?;
-        let changes = groups.len() as u64;
-        self.written.issues.push(Issue {
-            line,
-            client,
-            changes,
-        })?;
+        let line = self.written.end();
+        self.written.note_issue(line, client, groups.len() as u64);
         let mut task = Task::new(alloc, Stage::Finished, client);
-        self.send_records(alloc, &mut task, line, groups.as_slice())?;
-        self.keep(task)
+        self.send_records(&mut task, line, groups);
+        self.keep(task);
     }
 
     /// Begins a task in which the authority assigns a volume epoch to a recovery.
-    pub fn begin_recovery(&mut self, alloc: Global) -> Result<(), AllocError> {
-        let line = self.written.put("assign")?;
+    pub fn begin_recovery(&mut self, alloc: Global) {
+        let line = self.written.put("assign", &[]);
         self.clients = self.clients.saturating_add(1);
         let client = self.clients;
-        self.written.note(line, 1, Receiver::Client(client))?;
-        self.keep(Task::new(alloc, Stage::View(line), client))
+        self.written.note(line, 1, Receiver::Client(client));
+        self.keep(Task::new(alloc, Stage::View(line), client));
     }
 
     /// Begins a task in which a group steps to a child of its configuration.
-    pub fn begin_step(&mut self, alloc: Global) -> Result<(), AllocError> {
+    pub fn begin_step(&mut self, alloc: Global) {
         let group = if self.joined == 2 && self.rng.chance(50) {
             1
         } else {
@@ -68,10 +73,11 @@ impl Schedule {
         };
         let children = self.plan.family.children(self.place(group));
         let Some(child) = self.rng.one_of(children) else {
-            return self.begin_write(alloc);
+            self.begin_write(alloc);
+            return;
         };
-        let line = self.written.of_node("advance", group, child)?;
-        self.written.note(line, 1, Receiver::Nodes(group))?;
+        let line = self.written.of_node("advance", group, child);
+        self.written.note(line, 1, Receiver::Nodes(group));
         let [first, second] = self.places;
         self.places = if group == 0 {
             [child, second]
@@ -81,15 +87,15 @@ impl Schedule {
         let mut task = Task::new(alloc, Stage::Ask, self.clients);
         task.group = group;
         let members = self.members(group);
-        self.send(&mut task, (line, 1), group, members)?;
-        self.keep(task)
+        self.send(&mut task, (line, 1), group, members);
+        self.keep(task);
     }
 
     /// Moves a task that has delivered and taken all to its next stage.
-    pub fn next_stage(&mut self, alloc: Global, task: &mut Task) -> Result<(), AllocError> {
+    pub fn next_stage(&mut self, task: &mut Task) {
         match task.stage {
-            Stage::View(line) => self.be_born(alloc, task, line),
-            Stage::Cut => self.cut(alloc, task),
+            Stage::View(line) => self.be_born(task, line),
+            Stage::Cut => self.cut(task),
             Stage::Open => self.open(task),
             Stage::Ask => self.ask(task),
             Stage::Send => self.copy(task),
@@ -98,34 +104,34 @@ impl Schedule {
             Stage::Learn(line) => self.learn(task, line),
             Stage::Tell => self.announce(task),
             Stage::Join(line) => self.join(task, line),
-            Stage::Finished => Ok(()),
+            Stage::Finished => {}
         }
     }
 
     /// Lets a recovery take its View, and sends its Fences to a read quorum.
-    fn be_born(&mut self, alloc: Global, task: &mut Task, view: u64) -> Result<(), AllocError> {
-        let line = self.written.take(task.client, view, 1)?;
+    fn be_born(&mut self, task: &mut Task, view: u64) {
+        let line = self.written.take(task.client, view, 1);
         task.stage = Stage::Cut;
-        self.send_fences(alloc, task, line)
+        self.send_fences(task, line);
     }
 
     /// Lets a recovery cut, and sends its Installs.
-    fn cut(&mut self, alloc: Global, task: &mut Task) -> Result<(), AllocError> {
-        let line = self.written.of_client("cut", task.client)?;
+    fn cut(&mut self, task: &mut Task) {
+        let line = self.written.of_client("cut", task.client);
         task.stage = Stage::Open;
-        self.send_installs(alloc, task, line)
+        self.send_installs(task, line);
     }
 
     /// Lets a recovery open.
-    fn open(&mut self, task: &mut Task) -> Result<(), AllocError> {
-        self.written.of_client("open", task.client)?;
-        self.open.push(task.client)?;
+    fn open(&mut self, task: &mut Task) {
+        self.written.of_client("open", task.client);
+        let is_kept = self.open.push(task.client).is_ok();
+        self.written.text.note(is_kept);
         task.stage = Stage::Finished;
-        Ok(())
     }
 
     /// Sends a new member's request for copies to the old members.
-    fn ask(&mut self, task: &mut Task) -> Result<(), AllocError> {
+    fn ask(&mut self, task: &mut Task) {
         let group = task.group;
         let members = self.members(group);
         let fresh = self.plan.family.fresh(self.place(group));
@@ -137,18 +143,17 @@ impl Schedule {
         task.answers.clear();
         task.stage = Stage::Send;
         if let Some(asked) = asked {
-            self.send(task, (asked.line, 1), group, members)?;
+            self.send(task, (asked.line, 1), group, members);
         }
-        Ok(())
     }
 
     /// Sends the copies to the new member.
-    fn copy(&mut self, task: &mut Task) -> Result<(), AllocError> {
+    fn copy(&mut self, task: &mut Task) {
         let group = task.group;
         task.stage = Stage::Hydrate;
         let Some(fresh) = self.plan.family.fresh(self.place(group)) else {
             task.answers.clear();
-            return Ok(());
+            return;
         };
         for _ in 0..task.answers.len() {
             let Some(copy) = task.answers.pop() else {
@@ -156,64 +161,60 @@ impl Schedule {
             };
             for piece in 0..self.pieces_of(group) {
                 let place = piece.saturating_add(1);
-                self.send(task, (copy.line, place), group, &[fresh])?;
+                self.send(task, (copy.line, place), group, &[fresh]);
             }
         }
-        Ok(())
     }
 
     /// Lets the new member become whole.
-    fn hydrate(&mut self, task: &mut Task) -> Result<(), AllocError> {
+    fn hydrate(&mut self, task: &mut Task) {
         task.answers.clear();
         task.stage = Stage::Refresh;
         if let Some(fresh) = self.plan.family.fresh(self.place(task.group)) {
-            self.written.of_node("hydrate", task.group, fresh)?;
+            self.written.of_node("hydrate", task.group, fresh);
         }
-        Ok(())
     }
 
     /// Sends the newest client a View of the places.
-    fn refresh(&mut self, task: &mut Task) -> Result<(), AllocError> {
+    fn refresh(&mut self, task: &mut Task) {
         task.client = self.clients;
-        let line = self.written.of_client("refresh", task.client)?;
-        self.written.note(line, 1, Receiver::Client(task.client))?;
+        let line = self.written.of_client("refresh", task.client);
+        self.written.note(line, 1, Receiver::Client(task.client));
         task.stage = Stage::Learn(line);
-        Ok(())
     }
 
     /// Lets the newest client take its View.
-    fn learn(&mut self, task: &mut Task, view: u64) -> Result<(), AllocError> {
-        let line = self.written.take(task.client, view, 1)?;
+    fn learn(&mut self, task: &mut Task, view: u64) {
+        let line = self.written.take(task.client, view, 1);
         task.stage = Stage::Finished;
-        self.written.note_each(line, self.joined)
+        self.written.note_each(line, self.joined);
     }
 
     /// Begins a task in which the next group joins.
-    pub fn begin_growth(&mut self, alloc: Global) -> Result<(), AllocError> {
-        self.written.put("grow")?;
+    pub fn begin_growth(&mut self, alloc: Global) {
+        self.written.put("grow", &[]);
         let mut task = Task::new(alloc, Stage::Tell, self.clients);
         task.group = self.joined;
         self.joined = self.joined.saturating_add(1);
-        self.keep(task)
+        self.keep(task);
     }
 
     /// Sends the newest client a View with a group that has joined.
-    fn announce(&mut self, task: &mut Task) -> Result<(), AllocError> {
-        self.refresh(task)?;
+    fn announce(&mut self, task: &mut Task) {
+        self.refresh(task);
         if let Stage::Learn(line) = task.stage {
             task.stage = Stage::Join(line);
         }
-        Ok(())
     }
 
     /// Lets the newest client take its View, and sends the messages that it makes to members of the group.
-    fn join(&mut self, task: &mut Task, view: u64) -> Result<(), AllocError> {
-        let line = self.written.take(task.client, view, 1)?;
+    fn join(&mut self, task: &mut Task, view: u64) {
+        let line = self.written.take(task.client, view, 1);
         let group = task.group;
         self.viewed = self.joined;
-        self.written.note(line, 1, Receiver::Nodes(group))?;
+        self.written.note(line, 1, Receiver::Nodes(group));
         task.stage = Stage::Finished;
         let members = self.members(group);
-        self.send(task, (line, 1), group, members)
+        self.send(task, (line, 1), group, members);
     }
 }

@@ -3,7 +3,7 @@
 use crate::schedule::Schedule;
 use crate::tasks::{Stage, Task};
 use crate::written::{Delivery, Receiver};
-use std::alloc::{AllocError, Global};
+use std::alloc::Global;
 
 impl Schedule {
     fn any_group(&mut self) -> u8 {
@@ -16,12 +16,12 @@ impl Schedule {
     }
 
     /// Returns a random LSN.
-    fn any_record(&mut self) -> usize {
-        self.rng.from(1, 24)
+    fn any_record(&mut self) -> u64 {
+        self.rng.from(1, 24) as u64
     }
 
     /// Writes a line that belongs to no task.
-    pub fn stray(&mut self, alloc: Global) -> Result<(), AllocError> {
+    pub fn stray(&mut self, alloc: Global) {
         match self.rng.below(20) {
             0..=9 => self.repeat(),
             10..=11 => self.restart(),
@@ -35,13 +35,13 @@ impl Schedule {
     }
 
     /// Delivers a message, or lets a client take it, once more.
-    fn repeat(&mut self) -> Result<(), AllocError> {
+    fn repeat(&mut self) {
         let Some(message) = self.any_message() else {
-            return Ok(());
+            return;
         };
         match message.to {
             Receiver::Client(client) => {
-                self.written.take(client, message.line, message.place)?;
+                self.written.take(client, message.line, message.place);
             }
             Receiver::Nodes(group) => {
                 let member = self.any_member(group);
@@ -52,62 +52,59 @@ impl Schedule {
                     member,
                 };
                 let client = self.newest();
-                self.written.deliver(delivery, Receiver::Client(client))?;
+                self.written.deliver(delivery, Receiver::Client(client));
             }
         }
-        Ok(())
     }
 
-    fn restart(&mut self) -> Result<(), AllocError> {
+    fn restart(&mut self) {
         let group = self.any_group();
         let member = self.any_member(group);
-        self.written.of_node("restart", group, member)?;
-        Ok(())
+        self.written.of_node("restart", group, member);
     }
 
     /// Lets a node offer a record to its peers.
-    fn offer(&mut self) -> Result<(), AllocError> {
+    fn offer(&mut self) {
         let group = self.any_group();
         let member = self.any_member(group);
         let record = self.any_record();
-        write!(self.written.text, "offer {group} {member} {record}")?;
-        let line = self.written.end()?;
-        self.written.note(line, 1, Receiver::Nodes(group))
+        let numbers = [u64::from(group), u64::from(member), record];
+        let line = self.written.put("offer", &numbers);
+        self.written.note(line, 1, Receiver::Nodes(group));
     }
 
     /// Lets a writer send a record again, to all members of a group.
-    fn resend(&mut self, alloc: Global) -> Result<(), AllocError> {
+    fn resend(&mut self, alloc: Global) {
         let client = self.writer();
         let group = self.any_group();
         let record = self.any_record();
-        write!(self.written.text, "resend {client} {record}")?;
-        let line = self.written.end()?;
-        self.written.note(line, 1, Receiver::Nodes(group))?;
+        let line = self.written.put("resend", &[u64::from(client), record]);
+        self.written.note(line, 1, Receiver::Nodes(group));
         let mut task = Task::new(alloc, Stage::Finished, client);
         let members = self.members(group);
-        self.send(&mut task, (line, 1), group, members)?;
-        self.keep(task)
+        self.send(&mut task, (line, 1), group, members);
+        self.keep(task);
     }
 
     /// Lets a writer request a block.
-    fn read(&mut self) -> Result<(), AllocError> {
+    fn read(&mut self) {
         let client = self.writer();
         let group = self.any_group();
-        let block = self.rng.below(3);
-        write!(self.written.text, "read {client} {group} {block}")?;
-        let line = self.written.end()?;
-        self.written.note(line, 1, Receiver::Nodes(group))
+        let block = self.rng.below(3) as u64;
+        let numbers = [u64::from(client), u64::from(group), block];
+        let line = self.written.put("read", &numbers);
+        self.written.note(line, 1, Receiver::Nodes(group));
     }
 
     /// Sends a client a View of the groups' places.
-    fn tell(&mut self, alloc: Global) -> Result<(), AllocError> {
+    fn tell(&mut self, alloc: Global) {
         let client = self.clients;
-        let line = self.written.of_client("refresh", client)?;
-        self.keep(Task::new(alloc, Stage::Learn(line), client))
+        let line = self.written.of_client("refresh", client);
+        self.keep(Task::new(alloc, Stage::Learn(line), client));
     }
 
     /// Writes a line that is wrong on purpose.
-    fn mistake(&mut self) -> Result<(), AllocError> {
+    fn mistake(&mut self) {
         let client = self.writer();
         let line: &str = match self.rng.below(8) {
             0 => "issue 1 7:0:0:61",
@@ -118,11 +115,10 @@ impl Schedule {
             5 => "hydrate 0 1",
             6 => "read 1 0 4294967295",
             _ => {
-                self.written.of_client("open", client)?;
-                return Ok(());
+                self.written.of_client("open", client);
+                return;
             }
         };
-        self.written.put(line)?;
-        Ok(())
+        self.written.put(line, &[]);
     }
 }

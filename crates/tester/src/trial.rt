@@ -7,7 +7,7 @@ use crate::judge::{Shown, check_run};
 use crate::outcome::Outcome;
 use crate::plans::Plan;
 use crate::schedule::Schedule;
-use crate::written::Written;
+use crate::written::{Issue, Written};
 use commands::Job;
 use fuzzing::{CommandOutput, Rng};
 use std::alloc::{AllocError, Global};
@@ -18,7 +18,13 @@ use std::thread::Threads;
 #[derive(Drop)]
 pub struct Trial {
     pub plan: String,
-    pub script: Written,
+    pub script: String,
+    /// The number of lines of the script.
+    lines: u64,
+    /// The number of `wait` lines.
+    waits: u64,
+    /// The transactions that the script issues.
+    issues: Vec<Issue>,
 }
 
 /// What was checked in all runs.
@@ -58,18 +64,28 @@ impl Trial {
     pub fn new(alloc: Global, seed: u64) -> Result<Trial, AllocError> {
         let mut rng = Rng::new(seed);
         let plan = Plan::draw(&mut rng);
-        let text = plan.text(alloc)?;
-        let mut schedule = Schedule::new(alloc, plan, rng)?;
-        schedule.fill(alloc)?;
+        let plan_text = plan.text(alloc).finished()?;
+        let mut schedule = Schedule::new(alloc, plan, rng);
+        schedule.fill(alloc);
+        let Written {
+            text,
+            lines,
+            waits,
+            issues,
+            ..
+        } = schedule.written;
         Ok(Trial {
-            plan: text,
-            script: schedule.written,
+            plan: plan_text,
+            script: text.finished()?,
+            lines,
+            waits,
+            issues,
         })
     }
 
     /// Returns the number of events in the output of a fleet.
     fn events(&self) -> u64 {
-        self.script.lines.saturating_sub(self.script.waits)
+        self.lines.saturating_sub(self.waits)
     }
 
     /// Returns the output of a job over the plan and the script.
@@ -80,7 +96,7 @@ impl Trial {
         job: &Job<'_>,
     ) -> Result<CommandOutput, AllocError> {
         let plan = Ok(self.plan.as_bytes());
-        say(rt, alloc, job, plan, self.script.text.as_str())
+        say(rt, alloc, job, plan, self.script.as_str())
     }
 
     /// Runs the script on threads with this many drivers, and checks the output.
@@ -110,12 +126,7 @@ impl Trial {
     ) -> Result<(), Broken> {
         let output = self.output(rt, alloc, &run())?;
         let outcome = Outcome::of(alloc, &output)?;
-        let shown = check_run(
-            alloc,
-            &outcome,
-            self.script.lines,
-            self.script.issues.as_slice(),
-        )?;
+        let shown = check_run(alloc, &outcome, self.lines, self.issues.as_slice())?;
         if (output.status == 0) != (outcome.refusals() == 0) {
             let numbers = [u64::from(output.status), outcome.refusals(), 0, 0];
             return Err(Broken::new("a run's status (status, refused)", numbers));

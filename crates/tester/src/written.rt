@@ -1,6 +1,7 @@
 //! The text of a script under construction, and the messages that it may name.
 
-use std::alloc::{AllocError, Global};
+use crate::text::Text;
+use std::alloc::Global;
 
 /// The receiver of a message.
 #[derive(Clone, Copy)]
@@ -40,7 +41,7 @@ pub struct Issue {
 /// A script, and the messages that its lines may have made.
 #[derive(Drop)]
 pub struct Written {
-    pub text: String,
+    pub text: Text,
     /// The number of lines.
     pub lines: u64,
     /// The number of `wait` lines.
@@ -53,7 +54,7 @@ impl Written {
     /// Returns an empty script.
     pub fn new(alloc: Global) -> Written {
         Written {
-            text: String::new(alloc),
+            text: Text::new(alloc),
             lines: 0,
             waits: 0,
             issues: Vec::new(alloc),
@@ -62,72 +63,96 @@ impl Written {
     }
 
     /// Ends the last line of the text. Returns its number.
-    pub fn end(&mut self) -> Result<u64, AllocError> {
-        self.text.push('\n')?;
+    pub fn end(&mut self) -> u64 {
+        self.text.add("\n");
         self.lines = self.lines.saturating_add(1);
-        Ok(self.lines)
+        self.lines
     }
 
-    /// Adds a line. Returns its number.
-    pub fn put(&mut self, line: &str) -> Result<u64, AllocError> {
-        self.text.push_str(line)?;
+    /// Begins a line with a word and numbers.
+    pub fn begin(&mut self, word: &str, numbers: &[u64]) {
+        self.text.add(word);
+        for number in numbers.iter() {
+            self.text.add(" ");
+            self.text.add_number(*number);
+        }
+    }
+
+    /// Adds a line of a word and numbers. Returns its number.
+    pub fn put(&mut self, word: &str, numbers: &[u64]) -> u64 {
+        self.begin(word, numbers);
+        self.end()
+    }
+
+    /// Ends a line that names a message. Returns its number.
+    fn end_with(&mut self, line: u64, place: u64) -> u64 {
+        self.text.add(" ");
+        self.text.add_number(line);
+        self.text.add(".");
+        self.text.add_number(place);
         self.end()
     }
 
     /// Notes a message that a line may have made.
-    pub fn note(&mut self, line: u64, place: u64, to: Receiver) -> Result<(), AllocError> {
-        self.messages.push(Message { line, place, to })?;
-        Ok(())
+    pub fn note(&mut self, line: u64, place: u64, to: Receiver) {
+        let is_kept = self.messages.push(Message { line, place, to }).is_ok();
+        self.text.note(is_kept);
+    }
+
+    /// Notes a transaction that a line issues.
+    pub fn note_issue(&mut self, line: u64, client: u32, changes: u64) {
+        let is_kept = self
+            .issues
+            .push(Issue {
+                line,
+                client,
+                changes,
+            })
+            .is_ok();
+        self.text.note(is_kept);
     }
 
     /// Notes a message for each of this many groups.
-    pub fn note_each(&mut self, line: u64, groups: u8) -> Result<(), AllocError> {
+    pub fn note_each(&mut self, line: u64, groups: u8) {
         for group in 0..groups {
-            self.note(
-                line,
-                u64::from(group).saturating_add(1),
-                Receiver::Nodes(group),
-            )?;
+            let place = u64::from(group).saturating_add(1);
+            self.note(line, place, Receiver::Nodes(group));
         }
-        Ok(())
     }
 
     /// Delivers a message to a node, and notes its answer for this receiver.
-    pub fn deliver(&mut self, delivery: Delivery, answer: Receiver) -> Result<u64, AllocError> {
+    pub fn deliver(&mut self, delivery: Delivery, answer: Receiver) -> u64 {
         let Delivery {
             line,
             place,
             group,
             member,
         } = delivery;
-        write!(self.text, "deliver {group} {member} {line}.{place}")?;
-        let number = self.end()?;
-        self.note(number, 1, answer)?;
-        Ok(number)
+        self.begin("deliver", &[u64::from(group), u64::from(member)]);
+        let number = self.end_with(line, place);
+        self.note(number, 1, answer);
+        number
     }
 
     /// Lets a client take a message.
-    pub fn take(&mut self, client: u32, line: u64, place: u64) -> Result<u64, AllocError> {
-        write!(self.text, "take {client} {line}.{place}")?;
-        self.end()
+    pub fn take(&mut self, client: u32, line: u64, place: u64) -> u64 {
+        self.begin("take", &[u64::from(client)]);
+        self.end_with(line, place)
     }
 
     /// Adds a line with a word and a client.
-    pub fn of_client(&mut self, word: &str, client: u32) -> Result<u64, AllocError> {
-        write!(self.text, "{word} {client}")?;
-        self.end()
+    pub fn of_client(&mut self, word: &str, client: u32) -> u64 {
+        self.put(word, &[u64::from(client)])
     }
 
     /// Adds a line with a word, a group and a member.
-    pub fn of_node(&mut self, word: &str, group: u8, member: u8) -> Result<u64, AllocError> {
-        write!(self.text, "{word} {group} {member}")?;
-        self.end()
+    pub fn of_node(&mut self, word: &str, group: u8, member: u8) -> u64 {
+        self.put(word, &[u64::from(group), u64::from(member)])
     }
 
     /// Adds a `wait` line.
-    pub fn wait(&mut self) -> Result<(), AllocError> {
-        self.put("wait")?;
+    pub fn wait(&mut self) {
+        self.put("wait", &[]);
         self.waits = self.waits.saturating_add(1);
-        Ok(())
     }
 }
