@@ -27,7 +27,7 @@ TOP = pathlib.Path(__file__).resolve().parent.parent
 RECORDS = "20000"
 CORE = [
     ("message_bytes", "decoding", None, "decode"),
-    ("message_bytes", "encoding", None, "encode"),
+    ("message_bytes", "encoding", None, "encode_into"),
     ("message_bytes", "contents", None, "read_contents"),
     ("message_bytes", "writing", None, "put_contents_head"),
     ("message_bytes", "writing", None, "write_records"),

@@ -119,10 +119,20 @@ def declaration(docs, name, parameters, result):
     return f"{comment(docs)}{line}\n\n"
 
 
+def parts(name, file):
+    """A struct's comment and the text of its fields."""
+    text = (SOURCES / f"{file}.rt").read_text(encoding="utf-8")
+    return re.search(rf"((?:^///[^\n]*\n)+)#\[repr\(C\)\]\n#\[derive\([^\n]*\npub struct {name} \{{\n([^}}]*)^\}}", text, re.M).groups()
+
+
+def fields(name, file):
+    """The name and the type of each field of a struct."""
+    return re.findall(r"^    pub (\w+): (.+),$", parts(name, file)[1], re.M)
+
+
 def struct(name, file):
     """A struct with the comments of its fields."""
-    text = (SOURCES / f"{file}.rt").read_text(encoding="utf-8")
-    docs, fields = re.search(rf"((?:^///[^\n]*\n)+)#\[repr\(C\)\]\n#\[derive\([^\n]*\npub struct {name} \{{\n([^}}]*)^\}}", text, re.M).groups()
+    docs, fields = parts(name, file)
     made = f"{comment(docs)}struct {snake(name)} {{\n"
     for of, field, kind in re.findall(r"((?:^    ///.*\n)+)    pub (\w+): (.+),$", fields, re.M):
         array = re.fullmatch(r"\[(\w+); (\d+)\]", kind)
@@ -143,19 +153,24 @@ def numbers():
     return text + "};\n\n"
 
 
+def exports():
+    """The comment, the name, the parameters and the result of each export."""
+    found = []
+    for file in FILES:
+        found += EXPORT.findall((SOURCES / f"{file}.rt").read_text(encoding="utf-8"))
+    marked = sum(path.read_text(encoding="utf-8").count("#[unsafe(no_mangle)]") for path in SOURCES.glob("*.rt"))
+    if len(found) != marked:
+        sys.exit(f"header: {marked} exports, of which {len(found)} were read")
+    return found
+
+
 def header():
     """The text of the header."""
-    exports = []
-    for file in FILES:
-        exports += EXPORT.findall((SOURCES / f"{file}.rt").read_text(encoding="utf-8"))
-    told = sum(path.read_text(encoding="utf-8").count("#[unsafe(no_mangle)]") for path in SOURCES.glob("*.rt"))
-    if len(exports) != told:
-        sys.exit(f"header: {told} exports, of which {len(exports)} were read")
     handle = (SOURCES / "handle.rt").read_text(encoding="utf-8")
     for line in ["    at: *mut u8,\n    alloc: Global,\n", "    seal: Seal,\n    live: bool,\n"]:
         if line not in handle:
             sys.exit("header: the handle has other fields")
-    parts = [HEAD, numbers(), *(struct(*one) for one in STRUCTS.items()), *(declaration(*one) for one in exports), TAIL]
+    parts = [HEAD, numbers(), *(struct(*one) for one in STRUCTS.items()), *(declaration(*one) for one in exports()), TAIL]
     return "".join(parts)
 
 

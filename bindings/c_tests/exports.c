@@ -490,6 +490,19 @@ static void readiness_of_members(const struct bytes *text) {
     volume_close(&plan);
 }
 
+/* A resumed segment goes on counting the copies that it made: its snapshot is the one that it was resumed from. */
+static void counted_copies(struct volume_handle *plan, struct volume_handle *segment, uint32_t copies) {
+    struct volume_handle again = {0};
+    struct bytes before = segment_snapshot(segment);
+    WANT(number_at(before.at + 12) == 0 && number_at(before.at + 16) == copies);
+    DO(volume_segment_resume(plan, 0, 0, before.at, before.length, &again));
+    struct bytes after = segment_snapshot(&again);
+    WANT(are_same(&before, &after));
+    volume_close(&again);
+    free_bytes(&before);
+    free_bytes(&after);
+}
+
 /* A snapshot drops the copies that a fresh member took, and one that isn't made leaves them. */
 static void copies_and_snapshots(const struct bytes *text) {
     struct volume_handle plan = {0}, authority = {0}, fresh = {0}, again = {0}, whole[3] = {{0}};
@@ -512,6 +525,7 @@ static void copies_and_snapshots(const struct bytes *text) {
     take_copies(&fresh, whole, 3, &ask);
     GIVES(VOLUME_WRONG_HANDLE, volume_segment_snapshot(&fresh, &again));
     DO(volume_segment_hydrate(&fresh));
+    counted_copies(&plan, &whole[0], 2);
     struct volume_handle *const all[] = {&plan, &authority, &fresh, &again, &whole[0], &whole[1], &whole[2]};
     for (size_t i = 0; i < sizeof all / sizeof *all; i++)
         volume_close(all[i]);

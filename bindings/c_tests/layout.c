@@ -20,10 +20,17 @@ static const char *const FIELDS[KINDS] = {
 /* The fields of a record before its bytes; the last one is the number of bytes. */
 static const char RECORD[] = "8488814211";
 
+/* Bytes of the message that is read. */
+struct part {
+    const uint8_t *at;
+    size_t length;
+};
+
 struct reading {
     const uint8_t *at;
     size_t left;
     struct bytes out;
+    struct part last; /* the last record of the list that is read, empty before the first one */
     bool is_good;
 };
 
@@ -55,11 +62,24 @@ static void plain_bytes(struct reading *reading, uint64_t length) {
     reading->left -= length;
 }
 
+/* Whether a record comes before another one, in the order of their bytes. */
+static bool is_before(struct part left, struct part right) {
+    size_t least = left.length < right.length ? left.length : right.length;
+    int order = memcmp(left.at, right.at, least);
+    return order < 0 || (order == 0 && left.length < right.length);
+}
+
+/* Reads a record, which must come after the last one of its list. */
 static void record(struct reading *reading) {
+    const uint8_t *start = reading->at;
     uint64_t last = 0;
     for (const char *field = RECORD; *field != 0; field++)
         last = number(reading, (size_t)(*field - '0'));
     plain_bytes(reading, last);
+    struct part whole = {start, (size_t)(reading->at - start)};
+    if (reading->last.length > 0 && !is_before(reading->last, whole))
+        reading->is_good = false;
+    reading->last = whole;
 }
 
 /* Reads the fields up to the end of the text or of a list. */
@@ -68,6 +88,7 @@ static void fields(struct reading *reading, const char *text);
 /* Reads a list; returns the text after it. */
 static const char *list(struct reading *reading, const char *text) {
     uint64_t count = number(reading, 4);
+    reading->last = (struct part){0};
     for (uint64_t i = 0; i < count && reading->is_good; i++)
         fields(reading, text);
     return strchr(text, ')') + 1;
@@ -88,7 +109,7 @@ static void fields(struct reading *reading, const char *text) {
 }
 
 struct bytes rewritten(const struct bytes *message) {
-    struct reading reading = {message->at, message->length, {0}, true};
+    struct reading reading = {.at = message->at, .left = message->length, .is_good = true};
     uint64_t version = number(&reading, 1), kind = number(&reading, 1);
     if (version == 1 && kind >= VIEW && kind < KINDS)
         fields(&reading, FIELDS[kind]);

@@ -4,7 +4,8 @@
 
 #include "support.h"
 
-/* Reads a message field by field, and writes the fields again. Returns empty bytes if it isn't a message. */
+/* Reads a message field by field, and writes the fields again. Returns empty bytes if it isn't a message,
+ * or if its records are out of order. */
 struct bytes rewritten(const struct bytes *message);
 
 #endif

@@ -300,6 +300,42 @@ static uint8_t spoilt_snapshot(struct spoiling *spoiling, uint8_t member) {
     return status;
 }
 
+/* An Install of two records, each given as its Write. */
+static struct bytes install_of(const struct bytes *first, const struct bytes *second) {
+    enum { HEAD = 11 };
+    static const uint8_t piece[] = {0, 0, 0, 1, 0, 0, 0, 0, 0, 0, 0, 2}; /* 0 of 1, no entries, 2 records */
+    struct bytes made = bytes_of(first->at, HEAD);
+    made.at[1] = INSTALL;
+    append(&made, piece, sizeof piece);
+    append(&made, first->at + HEAD, first->length - HEAD);
+    append(&made, second->at + HEAD, second->length - HEAD);
+    return made;
+}
+
+/* The records of a message are in growing LSN, each once: of four Installs of two records one is taken. */
+static void order_of_records(struct volume_handle *plan) {
+    struct volume_handle writer = {0}, segment = {0};
+    struct volume_change changes[2] = {{.length = 1}, {.length = 1}};
+    DO(volume_writer_first(plan, &writer));
+    DO(volume_segment_new(plan, 0, 0, &segment));
+    DO(volume_writer_issue(&writer, changes, 2));
+    struct messages writes = all_messages(&writer);
+    WANT(writes.count == 2);
+    for (int first = 0; first < 2; first++) {
+        for (int second = 0; second < 2; second++) {
+            struct bytes install = install_of(&writes.at[first], &writes.at[second]);
+            GIVES(first < second ? VOLUME_OK : VOLUME_BAD_FIELD,
+                volume_segment_take(&segment, install.at, install.length));
+            struct messages answers = all_messages(&segment);
+            free_messages(&answers);
+            free_bytes(&install);
+        }
+    }
+    free_messages(&writes);
+    volume_close(&segment);
+    volume_close(&writer);
+}
+
 static void end(struct spoiling *spoiling) {
     for (int kind = 0; kind < KINDS; kind++)
         free_messages(&spoiling->pool.of[kind]);
@@ -323,6 +359,7 @@ int main(int count, char **words) {
     struct bytes plan = read_file(words[1]);
     size_t messages = strtoull(words[2], NULL, 10), snapshots = strtoull(words[3], NULL, 10);
     begin(&spoiling, &plan);
+    order_of_records(&spoiling.cluster.plan);
     for (size_t i = 0; i < messages; i++) {
         spoilt_message(&spoiling);
         if (i % CHECKED == 0)

@@ -9,5 +9,4 @@ pub mod Places
 pub mod LastWords
 pub mod NamedLines
 pub mod PlainChanges
-pub mod Crossing
 pub mod Sending

@@ -12,7 +12,7 @@ use Rattle.world.proofs.event.Order.TheSendSync as order
 use Rattle.drivers.specs.contracts.worker.WorkerContext as WorkerContext
 use Rattle.drivers.specs.contracts.run.Run as Run
 use Rattle.drivers.proofs.completion_table.CompletionTable.TheSendSync as completions
-use Rattle.drivers.proofs.Crossing.{fleet_sync}
+use Rattle.node_fleet.proofs.Crossing.{fleet_sync}
 
 module _ (a b : NamedLft) (T : RattleType) (f : fleet_site.Ghosts T.Denot) (g : site.Ghosts T.Denot) (l : ledger.Ghosts T.Denot) where
   run_field : IsSend (Run.the_field a b T f g l).row

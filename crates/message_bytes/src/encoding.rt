@@ -67,7 +67,25 @@ fn bytes_to_reserve(message: &Message) -> usize {
     }
 }
 
-/// Returns the canonical bytes of a message, from which [`decode`](crate::decode) gives the same message.
+/// Replaces the bytes of a buffer by the canonical bytes of a message, from which [`decode`](crate::decode) gives the same
+/// message. The buffer keeps its memory, so a buffer that is used again mostly allocates nothing.
+///
+/// # Errors
+/// `Full` if a list is longer than a `u32` can count, `NoMemory` if memory runs out. The buffer's bytes are unspecified
+/// then.
+pub fn encode_into(alloc: Global, out: &mut Vec<u8>, message: &Message) -> Result<(), Fault>
+    ensures text { OnOk result (out.new.items ≡ message_spelled (message_of message.now)) }
+    ensures reads { OnOk result (message_in out.new.items ≡ Ok (message_of message.now)) }
+{
+    out.clear();
+    out.reserve(bytes_to_reserve(message))?;
+    out.push(VERSION)?;
+    out.push(kind(message))?;
+    put_body(alloc, out, message)?;
+    Ok(())
+}
+
+/// Returns the canonical bytes of a message, as [`encode_into`] writes them.
 ///
 /// # Errors
 /// `Full` if a list is longer than a `u32` can count, `NoMemory` if memory runs out.
@@ -75,9 +93,7 @@ pub fn encode(alloc: Global, message: &Message) -> Result<Vec<u8>, Fault>
     ensures text { IfOk result (λ text. text.items ≡ message_spelled (message_of message.now)) }
     ensures reads { IfOk result (λ text. message_in text.items ≡ Ok (message_of message.now)) }
 {
-    let mut out = Vec::with_capacity(alloc, bytes_to_reserve(message))?;
-    out.push(VERSION)?;
-    out.push(kind(message))?;
-    put_body(alloc, &mut out, message)?;
+    let mut out = Vec::new(alloc);
+    encode_into(alloc, &mut out, message)?;
     Ok(out)
 }

@@ -12,3 +12,4 @@ pub mod Steps
 pub mod Calling
 pub mod Ending
 pub mod Missing
+pub mod Crossing

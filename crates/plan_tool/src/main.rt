@@ -3,9 +3,6 @@
 
 ghost use Rattle.std.specs.Prelude.{◌≤◌};
 
-#[cfg(test)]
-mod tests;
-
 use commands::{NO_MEMORY, Output, Source, deliver, job, opened, perform, print_usage};
 use std::alloc::{AllocError, Global};
 use std::io::ErrorKind;

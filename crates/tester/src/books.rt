@@ -13,6 +13,27 @@ use std::thread::Threads;
 use std::{fs, io};
 use trial::try_case;
 
+/// Tries a case. Prints what is wrong with it, and returns false if anything is.
+fn is_case_right<H: Threads + Wait + Sync>(
+    rt: &HostRuntime,
+    threads: &H,
+    name: &str,
+    case: &Case<'_>,
+) -> io::Result<bool> {
+    match try_case(rt, threads, case) {
+        Ok(None) => Ok(true),
+        Ok(Some(output)) => {
+            println!(rt; "{name}: {}: status {}", case.title, output.status)?;
+            print!(rt; "{}{}", output.stdout, output.stderr)?;
+            Ok(false)
+        }
+        Err(wrong) => {
+            println!(rt; "{name}: {}: {}", case.title, wrong.reason().0)?;
+            Ok(false)
+        }
+    }
+}
+
 /// Tries the cases of a book. Prints what is wrong with each, if anything, or at the end that nothing is.
 fn try_cases<H: Threads + Wait + Sync>(
     rt: &HostRuntime,
@@ -22,10 +43,7 @@ fn try_cases<H: Threads + Wait + Sync>(
 ) -> io::Result<bool> {
     let mut is_right = true;
     for case in cases {
-        if let Err(wrong) = try_case(rt, threads, case) {
-            println!(rt; "{name}: {}: {wrong}", case.title)?;
-            is_right = false;
-        }
+        is_right &= is_case_right(rt, threads, name, case)?;
     }
     if is_right {
         println!(rt; "{name}: {} cases pass", cases.len())?;
@@ -46,7 +64,8 @@ fn try_book<H: Threads + Wait + Sync>(
     match cases(rt.alloc(), book.as_str()) {
         Ok(cases) => try_cases(rt, threads, name, cases.as_slice()),
         Err(wrong) => {
-            println!(rt; "{name}: {wrong}")?;
+            let (reason, line) = wrong.reason();
+            println!(rt; "{name}: line {line}: {reason}")?;
             Ok(false)
         }
     }

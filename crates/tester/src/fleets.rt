@@ -13,22 +13,22 @@ pub fn check_fleet(
     events: u64,
 ) -> Result<(), Broken> {
     if fleet.journal != Some(true) {
-        return Err(Broken::Journal { drivers });
+        let numbers = [u64::from(drivers), 0, 0, 0];
+        return Err(Broken::new("a fleet's journal is no run (drivers)", numbers));
     }
     let (Some(steps), Some(refused)) = (fleet.steps, fleet.refused) else {
-        return Err(Broken::Strange("fleet"));
+        return Err(Broken::new("a fleet prints no counts", [0; 4]));
     };
     if steps.saturating_add(refused) != events {
-        return Err(Broken::Differ {
-            drivers,
-            what: "events",
-        });
+        let numbers = [u64::from(drivers), steps, refused, events];
+        return Err(Broken::new(
+            "a fleet's events (drivers, steps, refused, events)",
+            numbers,
+        ));
     }
     if (output.status == 0) != (refused == 0) {
-        return Err(Broken::Differ {
-            drivers,
-            what: "status",
-        });
+        let numbers = [u64::from(drivers), refused, u64::from(output.status), 0];
+        return Err(Broken::new("a fleet's status (drivers, refused, status)", numbers));
     }
     check_promises(fleet)?;
     Ok(())
@@ -37,13 +37,13 @@ pub fn check_fleet(
 /// Checks that a fleet with one driver prints what the run prints.
 pub fn check_alike(run: &Outcome, fleet: &Outcome) -> Result<(), Broken> {
     let what = if run.writers != fleet.writers {
-        "writers"
+        "a run and a fleet have other writers"
     } else if run.finds != fleet.finds {
-        "recoveries"
+        "a run and a fleet have other recoveries"
     } else if fleet.refused != Some(run.refusals()) {
-        "refused"
+        "a run and a fleet refuse other numbers of events"
     } else {
         return Ok(());
     };
-    Err(Broken::Differ { drivers: 1, what })
+    Err(Broken::new(what, [0; 4]))
 }

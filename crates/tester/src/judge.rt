@@ -28,15 +28,13 @@ fn check_answers(outcome: &Outcome, lines: u64) -> Result<(), Broken> {
     for answer in outcome.answers.iter() {
         place = place.saturating_add(1);
         if answer.line != place {
-            let line = answer.line;
-            return Err(Broken::Order { place, line });
+            let numbers = [place, answer.line, 0, 0];
+            return Err(Broken::new("an answer is of another line (place, line)", numbers));
         }
     }
     if place != lines {
-        return Err(Broken::Answers {
-            answers: place,
-            lines,
-        });
+        let numbers = [place, lines, 0, 0];
+        return Err(Broken::new("not one answer a line (answers, lines)", numbers));
     }
     Ok(())
 }
@@ -88,11 +86,8 @@ fn ends_of(alloc: Global, outcome: &Outcome, issues: &[Issue]) -> Result<Vec<End
         } = *issue;
         if let Some(made) = made_by(outcome, line) {
             if made != changes {
-                return Err(Broken::Records {
-                    line,
-                    changes,
-                    made,
-                });
+                let what = "not one message a change (line, changes, messages)";
+                return Err(Broken::new(what, [line, changes, made, 0]));
             }
             let client = u64::from(client);
             let last = last_of(outcome, ends.as_slice(), client).saturating_add(changes);
@@ -127,19 +122,13 @@ fn check_points(outcome: &Outcome, writer: Writer) -> Result<(), Broken> {
         next,
     } = writer;
     if !is_given(durable, next) || !is_given(start_of(outcome, client), next) {
-        return Err(Broken::Ahead {
-            writer: client,
-            durable,
-            next,
-        });
+        let what = "a writer's next LSN isn't above its points (writer, durable, next)";
+        return Err(Broken::new(what, [client, durable, next, 0]));
     }
     let cut = cut_of(outcome, client);
     if !is_kept(cut, durable) {
-        return Err(Broken::Fell {
-            recovery: client,
-            cut,
-            durable,
-        });
+        let what = "a writer's durable point is below its cut (writer, durable, cut)";
+        return Err(Broken::new(what, [client, durable, cut, 0]));
     }
     Ok(())
 }
@@ -148,11 +137,8 @@ fn check_points(outcome: &Outcome, writer: Writer) -> Result<(), Broken> {
 fn check_start(find: Find) -> Result<(), Broken> {
     let Find { client, cut, start } = find;
     if !is_kept(cut, start) {
-        return Err(Broken::Start {
-            recovery: client,
-            cut,
-            start,
-        });
+        let what = "a recovery starts below its cut (recovery, cut, start)";
+        return Err(Broken::new(what, [client, cut, start, 0]));
     }
     Ok(())
 }
@@ -167,17 +153,12 @@ fn check_log(outcome: &Outcome, ends: &[End], writer: Writer) -> Result<(), Brok
     } = writer;
     let last = last_of(outcome, ends, client);
     if last.saturating_add(1) != next {
-        return Err(Broken::Next {
-            writer: client,
-            last,
-            next,
-        });
+        let what = "a writer's next LSN isn't behind its last (writer, last, next)";
+        return Err(Broken::new(what, [client, last, next, 0]));
     }
     if durable != cut_of(outcome, client) && !ends_at(ends, client, durable) {
-        return Err(Broken::Torn {
-            writer: client,
-            durable,
-        });
+        let what = "a writer's durable point ends no transaction of it (writer, durable)";
+        return Err(Broken::new(what, [client, durable, 0, 0]));
     }
     Ok(())
 }
@@ -186,10 +167,8 @@ fn check_log(outcome: &Outcome, ends: &[End], writer: Writer) -> Result<(), Brok
 fn check_cut(ends: &[End], find: Find) -> Result<(), Broken> {
     let Find { client, cut, .. } = find;
     if cut != 0 && !ends_before(ends, client, cut) {
-        return Err(Broken::TornCut {
-            recovery: client,
-            cut,
-        });
+        let what = "a recovery's cut ends no transaction of an earlier writer (recovery, cut)";
+        return Err(Broken::new(what, [client, cut, 0, 0]));
     }
     Ok(())
 }
@@ -197,20 +176,14 @@ fn check_cut(ends: &[End], find: Find) -> Result<(), Broken> {
 /// Checks that a later recovery has a writer's commits, and reuses none of the writer's LSNs.
 fn check_pair(writer: Writer, find: Find) -> Result<(), Broken> {
     if !is_kept(writer.durable, find.cut) {
-        return Err(Broken::Lost {
-            writer: writer.client,
-            durable: writer.durable,
-            recovery: find.client,
-            cut: find.cut,
-        });
+        let what = "a later recovery lost commits (writer, durable, recovery, cut)";
+        let numbers = [writer.client, writer.durable, find.client, find.cut];
+        return Err(Broken::new(what, numbers));
     }
     if find.start < writer.next.saturating_sub(1) {
-        return Err(Broken::Twice {
-            writer: writer.client,
-            next: writer.next,
-            recovery: find.client,
-            start: find.start,
-        });
+        let what = "a later recovery gives LSNs again (writer, next, recovery, start)";
+        let numbers = [writer.client, writer.next, find.client, find.start];
+        return Err(Broken::new(what, numbers));
     }
     Ok(())
 }

@@ -170,18 +170,15 @@ impl Outcome {
     }
 
     /// Returns the output of a job, unless the job was refused.
-    pub fn of(
-        alloc: Global,
-        output: &CommandOutput,
-        name: &'static str,
-    ) -> Result<Outcome, Broken> {
+    pub fn of(alloc: Global, output: &CommandOutput) -> Result<Outcome, Broken> {
         if output.status > 1 || !output.stderr.is_empty() {
-            let line = String::from_str(alloc, output.stderr.as_str().trim_end())?;
-            return Err(Broken::Reported(name, line));
+            let numbers = [u64::from(output.status), 0, 0, 0];
+            return Err(Broken::new("a job reports an error (status)", numbers));
         }
         let outcome = Outcome::read(alloc, output.stdout.as_str())?;
         if outcome.strange != 0 {
-            return Err(Broken::Strange(name));
+            let numbers = [outcome.strange, 0, 0, 0];
+            return Err(Broken::new("lines of no known form (lines)", numbers));
         }
         Ok(outcome)
     }

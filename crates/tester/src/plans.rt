@@ -190,19 +190,22 @@ impl Plan {
 
     /// Returns the plan's text, on one line.
     pub fn text(&self, alloc: Global) -> Result<String, AllocError> {
-        let allowance = self.allowance;
-        let format = self.family.format();
-        let group = self.family.text();
-        if self.born < self.groups {
-            return format!(in alloc;
-                "{{\"format\":3,\"lal\":{allowance},\"born\":1,\"groups\":[{group},{group}]}}"
-            );
-        }
+        let (allowance, group) = (self.allowance, self.family.text());
+        let (format, born) = if self.born < self.groups {
+            (3, "\"born\":1,")
+        } else {
+            (self.family.format(), "")
+        };
+        let mut text = String::new(alloc);
+        write!(
+            text,
+            "{{\"format\":{format},\"lal\":{allowance},{born}\"groups\":[{group}"
+        )?;
         if self.groups == 2 {
-            return format!(in alloc;
-                "{{\"format\":{format},\"lal\":{allowance},\"groups\":[{group},{group}]}}"
-            );
+            text.push(',')?;
+            text.push_str(group)?;
         }
-        format!(in alloc; "{{\"format\":{format},\"lal\":{allowance},\"groups\":[{group}]}}")
+        text.push_str("]}")?;
+        Ok(text)
     }
 }

@@ -8,7 +8,7 @@ use std::sync::Wait;
 use std::thread::Threads;
 
 /// A run that breaks a promise.
-#[derive(Drop)]
+#[derive(Clone, Copy)]
 struct Found {
     seed: u64,
     broken: Broken,
@@ -61,7 +61,9 @@ pub fn report<H: Threads + Wait + Sync>(
             Ok(0)
         }
         Err(found) => {
-            println!(rt; "run {}: {}", found.seed, found.broken)?;
+            let [first, second, third, fourth] = found.broken.numbers;
+            println!(rt; "run {}: {}", found.seed, found.broken.what)?;
+            println!(rt; "{first} {second} {third} {fourth}")?;
             Ok(1)
         }
     }

@@ -92,7 +92,7 @@ impl Trial {
     ) -> Result<(), Broken> {
         let drivers: u8 = if run.is_some() { 1 } else { 4 };
         let output = self.output(rt, alloc, &fleet(drivers))?;
-        let fleet = Outcome::of(alloc, &output, "fleet")?;
+        let fleet = Outcome::of(alloc, &output)?;
         check_fleet(&output, &fleet, drivers, self.events())?;
         match run {
             Some(run) => check_alike(run, &fleet),
@@ -109,7 +109,7 @@ impl Trial {
         counts: &mut Counts,
     ) -> Result<(), Broken> {
         let output = self.output(rt, alloc, &run())?;
-        let outcome = Outcome::of(alloc, &output, "run")?;
+        let outcome = Outcome::of(alloc, &output)?;
         let shown = check_run(
             alloc,
             &outcome,
@@ -117,7 +117,8 @@ impl Trial {
             self.script.issues.as_slice(),
         )?;
         if (output.status == 0) != (outcome.refusals() == 0) {
-            return Err(Broken::Strange("run"));
+            let numbers = [u64::from(output.status), outcome.refusals(), 0, 0];
+            return Err(Broken::new("a run's status (status, refused)", numbers));
         }
         self.try_fleet(rt, alloc, Some(&outcome))?;
         if several {

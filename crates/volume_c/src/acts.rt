@@ -12,7 +12,6 @@ ghost use Rattle.volume_c.specs.Calls.{node_does, client_does, authority_does, D
 
 use crate::actor::{Actor, Held};
 use crate::handle::Handle;
-use crate::outbox::Outbox;
 use crate::status::{UNSENT, WRONG_HANDLE};
 use segment_core::{NodeAction, Segment};
 use std::alloc::Global;
@@ -41,7 +40,7 @@ fn deliver_held(alloc: Global, held: &mut Held, message: &Message) -> u8
     match &mut held.actor {
         Actor::Segment(segment) => match segment.deliver(alloc, message) {
             Ok(made) => {
-                held.outbox = Outbox::of(made);
+                held.outbox.fill(made);
                 0
             }
             Err(fault) => fault.number(),
@@ -60,7 +59,7 @@ fn segment_acts(alloc: Global, held: &mut Held, action: NodeAction) -> u8
     match &mut held.actor {
         Actor::Segment(segment) => match perform(alloc, segment, action) {
             Ok(made) => {
-                held.outbox = Outbox::of(made);
+                held.outbox.fill(made);
                 0
             }
             Err(fault) => fault.number(),
@@ -85,7 +84,7 @@ fn client_acts(
     match &mut held.actor {
         Actor::Client(client) => match client.act(alloc, action, found) {
             Ok(made) => {
-                held.outbox = Outbox::of(made);
+                held.outbox.fill(made);
                 0
             }
             Err(fault) => fault.number(),
@@ -105,7 +104,7 @@ fn authority_acts(alloc: Global, held: &mut Held, action: AuthorityAction) -> u8
     match &mut held.actor {
         Actor::Authority(authority) => match action.done_by(alloc, authority) {
             Ok(made) => {
-                held.outbox = Outbox::of(match made {
+                held.outbox.fill(match made {
                     Some(message) => Messages::One(message),
                     None => Messages::Empty,
                 });

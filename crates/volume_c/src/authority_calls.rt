@@ -20,13 +20,13 @@ use wire::Messages;
 use world::AuthorityAction;
 
 /// Returns the contents of a handle for an authority that has made no message.
-fn held_of(authority: Authority) -> Held
+fn held_of(alloc: Global, authority: Authority) -> Held
     ensures actor { result.actor ≡ Actor.Authority authority }
     ensures nothing { unsent (Some result) ≡ [] }
 {
     Held {
         actor: Actor::Authority(authority),
-        outbox: Outbox::of(Messages::Empty),
+        outbox: Outbox::of(alloc, Messages::Empty),
     }
 }
 
@@ -46,7 +46,7 @@ pub extern "C" fn volume_authority_new(alloc: Global, plan: &mut Handle, out: &m
         Err(status) => return status,
     };
     match Authority::new(alloc, plan) {
-        Ok(authority) => hold(alloc, held_of(authority), out),
+        Ok(authority) => hold(alloc, held_of(alloc, authority), out),
         Err(fault) => fault.number(),
     }
 }
@@ -79,7 +79,7 @@ pub extern "C" fn volume_authority_resume(
         Err(status) => return status,
     };
     match Authority::resumed(plan, snapshot) {
-        Ok(authority) => hold(alloc, held_of(authority), out),
+        Ok(authority) => hold(alloc, held_of(alloc, authority), out),
         Err(fault) => fault.number(),
     }
 }

@@ -50,13 +50,13 @@ pub struct VolumePoints {
 }
 
 /// Returns the contents of a handle for a client that made these messages.
-fn held_of(client: Client, made: Messages) -> Held
+fn held_of(alloc: Global, client: Client, made: Messages) -> Held
     ensures actor { result.actor ≡ Actor.Client client }
     ensures messages { unsent (Some result) ≡ messages_of (listed made) }
 {
     Held {
         actor: Actor::Client(client),
-        outbox: Outbox::of(made),
+        outbox: Outbox::of(alloc, made),
     }
 }
 
@@ -75,7 +75,7 @@ pub extern "C" fn volume_writer_first(alloc: Global, plan: &mut Handle, out: &mu
         Err(status) => return status,
     };
     match Client::first(alloc, plan) {
-        Ok(client) => hold(alloc, held_of(client, Messages::Empty), out),
+        Ok(client) => hold(alloc, held_of(alloc, client, Messages::Empty), out),
         Err(fault) => fault.number(),
     }
 }
@@ -89,7 +89,7 @@ fn born(alloc: Global, plan: Arc<CheckedPlan>, message: &Message) -> Result<Held
     };
     let mut client = Client::unborn(plan, view.volume);
     let made = client.act(alloc, TAKE, Some(message))?;
-    Ok(held_of(client, made))
+    Ok(held_of(alloc, client, made))
 }
 
 /// Makes a recovery from a `View` message of the authority, as `volume_authority_assign` makes it. Its `Fence`

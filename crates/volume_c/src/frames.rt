@@ -11,7 +11,6 @@ ghost use Rattle.volume_c.specs.Turns.{own_next, own_turn, turn_of, IsNextRefusa
 
 use crate::actor::{Actor, Held};
 use crate::handle::Handle;
-use crate::outbox::Outbox;
 use crate::status::{UNSENT, WRONG_HANDLE};
 use message_bytes::{decode, u32_at};
 use segment_core::Segment;
@@ -162,7 +161,7 @@ fn take_held(alloc: Global, held: &mut Held, frame: &[u8]) -> (usize, u8)
         Actor::Segment(segment) => {
             let mut waiting = Vec::new(alloc);
             let (rest, status) = take_all(alloc, segment, &mut waiting, frame);
-            held.outbox = Outbox::of(Messages::of(waiting));
+            held.outbox.fill(Messages::of(waiting));
             (frame.len() - rest.len(), status)
         }
         _ => (0, WRONG_HANDLE),

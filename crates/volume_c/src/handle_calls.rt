@@ -8,22 +8,14 @@ use crate::actor::Held;
 use crate::buffer::copy_out;
 use crate::handle::Handle;
 use crate::names::name;
-use crate::status::{NO_MORE, WRONG_HANDLE};
-use message_bytes::encode;
+use crate::status::WRONG_HANDLE;
 use std::alloc::Global;
 
 /// Hands out the next message of what is held.
 fn hand_out(alloc: Global, held: &mut Held, out: &mut [u8], needed: &mut usize) -> u8
     ensures { Hands result (Some held.old) (Some held.new) needed.new out.old out.new }
 {
-    let text = match held.outbox.first() {
-        Some(message) => match encode(alloc, message) {
-            Ok(text) => text,
-            Err(fault) => return fault.number(),
-        },
-        None => return NO_MORE,
-    };
-    let status = copy_out(text.as_slice(), out, needed);
+    let status = held.outbox.write_first(alloc, out, needed);
     if status == 0 {
         held.outbox.pass();
     }

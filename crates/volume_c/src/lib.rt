@@ -25,8 +25,6 @@ mod segment_calls;
 mod snapshot_bytes;
 mod snapshot_calls;
 mod status;
-#[cfg(test)]
-mod tests;
 
 pub use advance_calls::{VolumeReadiness, volume_authority_may_advance};
 pub use authority_calls::{

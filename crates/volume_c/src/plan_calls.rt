@@ -70,7 +70,7 @@ fn hold_plan(alloc: Global, plan: CheckedPlan, out: &mut Handle) -> u8
             alloc,
             Held {
                 actor: Actor::Plan(plan),
-                outbox: Outbox::of(Messages::Empty),
+                outbox: Outbox::of(alloc, Messages::Empty),
             },
             out,
         ),

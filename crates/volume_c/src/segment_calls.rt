@@ -41,13 +41,13 @@ pub struct VolumeSegmentState {
 }
 
 /// Returns the contents of a handle for a segment that has made no message.
-fn held_of(segment: Segment) -> Held
+fn held_of(alloc: Global, segment: Segment) -> Held
     ensures actor { result.actor ≡ Actor.Segment segment }
     ensures nothing { unsent (Some result) ≡ [] }
 {
     Held {
         actor: Actor::Segment(segment),
-        outbox: Outbox::of(Messages::Empty),
+        outbox: Outbox::of(alloc, Messages::Empty),
     }
 }
 
@@ -76,7 +76,7 @@ pub extern "C" fn volume_segment_new(
         Err(status) => return status,
     };
     match Segment::new(alloc, plan, group, member) {
-        Ok(segment) => hold(alloc, held_of(segment), out),
+        Ok(segment) => hold(alloc, held_of(alloc, segment), out),
         Err(fault) => fault.number(),
     }
 }
@@ -111,7 +111,7 @@ pub extern "C" fn volume_segment_resume(
         Err(status) => return status,
     };
     match Segment::resumed(alloc, plan, group, member, snapshot) {
-        Ok(segment) => hold(alloc, held_of(segment), out),
+        Ok(segment) => hold(alloc, held_of(alloc, segment), out),
         Err(fault) => fault.number(),
     }
 }

@@ -21,13 +21,13 @@ use volume_model::Fault;
 use wire::Messages;
 
 /// Returns what is held of a snapshot.
-fn held_of(bytes: SnapshotBytes) -> Held
+fn held_of(alloc: Global, bytes: SnapshotBytes) -> Held
     ensures actor { result.actor ≡ Actor.Snapshot bytes }
     ensures nothing { unsent (Some result) ≡ [] }
 {
     Held {
         actor: Actor::Snapshot(bytes),
-        outbox: Outbox::of(Messages::Empty),
+        outbox: Outbox::of(alloc, Messages::Empty),
     }
 }
 
@@ -50,7 +50,7 @@ fn save(alloc: Global, segment: &mut Segment, out: &mut Handle) -> u8
         Err(Fault::NoMemory) => return Fault::NoMemory.number(),
         Err(_) => return BAD_LENGTH,
     };
-    let status = hold(alloc, held_of(bytes), out);
+    let status = hold(alloc, held_of(alloc, bytes), out);
     if status != 0 {
         return status;
     }

@@ -9,7 +9,15 @@ mod blocks;
 #[cfg(test)]
 mod boards;
 #[cfg(test)]
+mod certificates;
+#[cfg(test)]
 mod clients;
+#[cfg(test)]
+mod fleets;
+#[cfg(test)]
+mod gates;
+#[cfg(test)]
+mod hands;
 #[cfg(test)]
 mod hydrations;
 #[cfg(test)]
@@ -37,6 +45,8 @@ mod sorted;
 mod spent;
 #[cfg(test)]
 mod texts;
+#[cfg(test)]
+mod thread_plans;
 #[cfg(test)]
 mod wires;
 #[cfg(test)]

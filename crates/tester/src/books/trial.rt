@@ -36,6 +36,13 @@ fn prints<H: Threads + Wait + Sync>(
     }
 }
 
+/// An output of a job, and whether it is the expected one.
+#[derive(Drop)]
+pub struct Tried {
+    pub is_right: bool,
+    pub output: CommandOutput,
+}
+
 /// Tries one job of a question.
 fn try_job<H: Threads + Wait + Sync>(
     threads: &H,
@@ -43,22 +50,15 @@ fn try_job<H: Threads + Wait + Sync>(
     question: &Question<'_>,
     job: &Job<'_>,
     texts: &Texts<'_>,
-) -> Result<CommandOutput, Wrong> {
+) -> Result<Tried, AllocError> {
     let plan = match texts.plan {
         Ok(text) => Ok(text.as_bytes()),
         Err(error) => Err(*error),
     };
     let output = say(threads, alloc, job, plan, texts.script)?;
     let is_reported = output.ended_with(question.status, question.reported.as_str());
-    if is_reported && prints(threads, alloc, question, output.stdout.as_str())? {
-        Ok(output)
-    } else {
-        Err(Wrong::Answer {
-            status: output.status,
-            printed: output.stdout,
-            reported: output.stderr,
-        })
-    }
+    let is_right = is_reported && prints(threads, alloc, question, output.stdout.as_str())?;
+    Ok(Tried { is_right, output })
 }
 
 /// Returns the plan of a file, with the edits of a case.
@@ -82,7 +82,15 @@ fn words_of(alloc: Global, command: &str) -> Result<Vec<&str>, AllocError> {
     Ok(words)
 }
 
-/// Tries a job of a question with each last line of the case's script. Returns its last output.
+/// Returns a script with its last line.
+fn joined(alloc: Global, script: &str, end: &str) -> Result<String, AllocError> {
+    let mut text = String::from_str(alloc, script)?;
+    text.push_str(end)?;
+    Ok(text)
+}
+
+/// Tries a job of a question with each last line of the case's script, up to the first wrong output. Returns the last
+/// output, `None` if there is none.
 fn try_ends<H: Threads + Wait + Sync>(
     threads: &H,
     alloc: Global,
@@ -90,66 +98,77 @@ fn try_ends<H: Threads + Wait + Sync>(
     question: &Question<'_>,
     job: &Job<'_>,
     plan: &PlanText,
-) -> Result<String, Wrong> {
-    let mut printed = String::new(alloc);
+) -> Result<Option<Tried>, AllocError> {
+    let mut last = None;
     for end in case.ends() {
-        let script = format!(in alloc; "{}{end}", case.script)?;
+        let script = joined(alloc, case.script.as_str(), end)?;
         let texts = Texts {
             plan,
             script: script.as_str(),
         };
-        printed = try_job(threads, alloc, question, job, &texts)?.stdout;
+        let tried = try_job(threads, alloc, question, job, &texts)?;
+        if !tried.is_right {
+            return Ok(Some(tried));
+        }
+        last = Some(tried);
     }
-    Ok(printed)
+    Ok(last)
 }
 
-/// Tries a command of a question. Returns its last output.
+/// Tries a command of a question. Returns its first wrong output, or its last one.
 fn try_command<H: Threads + Wait + Sync>(
     rt: &HostRuntime,
     threads: &H,
     case: &Case<'_>,
     question: &Question<'_>,
     command: &str,
-) -> Result<String, Wrong> {
+) -> Result<Option<Tried>, Wrong> {
     let alloc = rt.alloc();
     let words = words_of(alloc, command)?;
     let Ok(job) = job(alloc, words.as_slice()) else {
         return Err(Wrong::Words);
     };
     let plan = plan_of(rt, case, job.plan)?;
-    try_ends(threads, alloc, case, question, &job, &plan)
+    Ok(try_ends(threads, alloc, case, question, &job, &plan)?)
 }
 
-/// Tries each command of a question. All of them must print the same.
+/// Tries each command of a question. All of them must print the same. Returns the first wrong output.
 fn try_question<H: Threads + Wait + Sync>(
     rt: &HostRuntime,
     threads: &H,
     case: &Case<'_>,
     question: &Question<'_>,
-) -> Result<(), Wrong> {
-    let mut first = None;
+) -> Result<Option<CommandOutput>, Wrong> {
+    let mut first: Option<String> = None;
     for command in &question.commands {
-        let printed = try_command(rt, threads, case, question, command)?;
+        let Some(tried) = try_command(rt, threads, case, question, command)? else {
+            continue;
+        };
+        if !tried.is_right {
+            return Ok(Some(tried.output));
+        }
         match &first {
-            None => first = Some(printed),
-            Some(first) if *first == printed => {}
+            None => first = Some(tried.output.stdout),
+            Some(first) if *first == tried.output.stdout => {}
             Some(_) => return Err(Wrong::Differs),
         }
     }
-    Ok(())
+    Ok(None)
 }
 
-/// Tries each question of a case.
+/// Tries each question of a case. Returns the first output that isn't the expected one.
 ///
 /// # Errors
-/// The first answer that isn't the expected one, or what is wrong with the case.
+/// What is wrong with the case.
 pub fn try_case<H: Threads + Wait + Sync>(
     rt: &HostRuntime,
     threads: &H,
     case: &Case<'_>,
-) -> Result<(), Wrong> {
+) -> Result<Option<CommandOutput>, Wrong> {
     for question in &case.questions {
-        try_question(rt, threads, case, question)?;
+        if let Some(output) = try_question(rt, threads, case, question)? {
+            return Ok(Some(output));
+        }
     }
-    Ok(())
+    Ok(None)
 }

@@ -1,32 +1,37 @@
-//! What is wrong with a book, or with an answer.
+//! What is wrong with a book.
 
 use std::alloc::AllocError;
-use std::fmt;
-use thiserror::Error;
 
-/// Why a book's cases can't be tried, or which answer is wrong.
-#[derive(Drop, Error)]
+/// Why a book's cases can't be tried.
+#[derive(Clone, Copy)]
 pub enum Wrong {
-    #[error("memory ran out")]
-    Memory(#[from(alloc)] AllocError),
-    #[error("line {0} is none of a book")]
+    /// Memory ran out.
+    Memory,
+    /// The line with this number isn't one of a book.
     Line(usize),
-    #[error("the words ask for no job")]
+    /// The words of a command ask for no job.
     Words,
-    #[error("a text to be replaced isn't in the plan")]
+    /// A text to be replaced isn't in the plan.
     Edit,
-    #[error("its jobs print different texts")]
+    /// The jobs of a question print different texts.
     Differs,
-    #[error("status {status}\n{printed}{reported}")]
-    Answer {
-        status: u8,
-        printed: String,
-        reported: String,
-    },
 }
 
-impl fmt::Debug for Wrong {
-    fn fmt<W: fmt::Write>(&self, f: &mut fmt::Formatter<W>) -> fmt::Result {
-        fmt::Display::fmt(self, f)
+impl From<AllocError> for Wrong {
+    fn from(_: AllocError) -> Wrong {
+        Wrong::Memory
+    }
+}
+
+impl Wrong {
+    /// Returns the reason, and the number of the line.
+    pub fn reason(self) -> (&'static str, usize) {
+        match self {
+            Wrong::Memory => ("memory ran out", 0),
+            Wrong::Line(line) => ("a line is none of a book", line),
+            Wrong::Words => ("the words ask for no job", 0),
+            Wrong::Edit => ("a text to be replaced isn't in the plan", 0),
+            Wrong::Differs => ("its jobs print different texts", 0),
+        }
     }
 }

@@ -1,0 +1,7 @@
+//! Tests of fleets.
+
+mod calls;
+mod drive;
+mod looks;
+mod tables;
+mod threads;
