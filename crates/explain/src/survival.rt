@@ -21,7 +21,19 @@ pub struct Survival {
     pub alone: MemberSet,
 }
 
-/// Returns what an expression survives over these members. `budget` bounds how many losses are tried.
+/// Returns how many losses of `count` members have to be tried at least before a smallest one is known, if the loss of
+/// one member may stop the expression: no loss, and each of one member. If it can't: also each of two members.
+fn least_tried(count: u8, may_one: bool) -> u64 {
+    let more = u64::from(count).saturating_add(1);
+    if may_one {
+        more
+    } else {
+        more.saturating_mul(more.saturating_add(1)) / 2
+    }
+}
+
+/// Returns what an expression survives over these members. `budget` bounds how many losses are tried. If it is too
+/// small to find anything, only the loss of no member is tried.
 ///
 /// # Errors
 /// [`NoMemory`](Fault::NoMemory).
@@ -35,8 +47,13 @@ pub fn survival_of<A: Allocator>(
     ensures alone { IfOk result (λ s. (x : ℕ) → contains s.alone x
         ≡ is_stopping (formula_of expr.now) members x) }
 {
-    let smallest = stopping_set(alloc, expr, members, budget)?;
     let alone = stopping_members(expr, members);
+    let tries = if budget < least_tried(members.len(), !alone.is_empty()) {
+        budget.min(1)
+    } else {
+        budget
+    };
+    let smallest = stopping_set(alloc, expr, members, tries)?;
     Ok(Survival { smallest, alone })
 }
 
