@@ -3,15 +3,9 @@
 use crate::broken::Broken;
 use crate::judge::check_promises;
 use crate::outcome::Outcome;
-use fuzzing::CommandOutput;
 
 /// Returns whether a fleet's journal is a run of all events, and its status and its recoveries are right.
-pub fn check_fleet(
-    output: &CommandOutput,
-    fleet: &Outcome,
-    drivers: u8,
-    events: u64,
-) -> Result<(), Broken> {
+pub fn check_fleet(status: u8, fleet: &Outcome, drivers: u8, events: u64) -> Result<(), Broken> {
     if fleet.journal != Some(true) {
         let numbers = [u64::from(drivers), 0, 0, 0];
         return Err(Broken::new("a fleet's journal is no run (drivers)", numbers));
@@ -26,8 +20,8 @@ pub fn check_fleet(
             numbers,
         ));
     }
-    if (output.status == 0) != (refused == 0) {
-        let numbers = [u64::from(drivers), refused, u64::from(output.status), 0];
+    if (status == 0) != (refused == 0) {
+        let numbers = [u64::from(drivers), refused, u64::from(status), 0];
         return Err(Broken::new("a fleet's status (drivers, refused, status)", numbers));
     }
     check_promises(fleet)?;

@@ -54,78 +54,62 @@ pub struct Outcome {
     pub strange: u64,
 }
 
-fn number(word: &str) -> Option<u64> {
-    word.parse::<u64>().ok()
-}
-
-/// Returns the line of a writer with these numbers.
-fn of_writer(client: &str, durable: &str, next: &str) -> Option<Printed> {
-    Some(Printed::Writer(Writer {
-        client: number(client)?,
-        durable: number(durable)?,
-        next: number(next)?,
-    }))
-}
-
-/// Returns the line of a recovery with these numbers.
-fn of_find(client: &str, cut: &str, start: &str) -> Option<Printed> {
-    Some(Printed::Find(Find {
-        client: number(client)?,
-        cut: number(cut)?,
-        start: number(start)?,
-    }))
-}
-
-/// Returns an answer that isn't a refusal.
-fn done(line: &str, made: &str) -> Option<Printed> {
-    Some(Printed::Answer(Answer {
-        line: number(line)?,
-        made: Some(number(made)?),
-    }))
-}
-
-fn refusal(line: &str, fault: &str) -> Option<Printed> {
-    number(fault)?;
-    Some(Printed::Answer(Answer {
-        line: number(line)?,
-        made: None,
-    }))
-}
-
-/// Reads a line of six words.
-fn of_six(words: [&str; 6]) -> Option<Printed> {
-    let [who, client, first, low, second, high] = words;
-    if who == "writer" && first == "durable" && second == "next" {
-        return of_writer(client, low, high);
-    }
-    if who == "recovery" && first == "cut" && second == "start" {
-        return of_find(client, low, high);
-    }
-    None
-}
-
-/// Reads a line of two words.
-fn of_two(what: &str, word: &str) -> Option<Printed> {
-    if what == "steps" {
-        return Some(Printed::Steps(number(word)?));
-    }
-    if what == "refused" {
-        return Some(Printed::Refused(number(word)?));
-    }
-    if what == "journal" {
-        return Some(Printed::Journal(word == "yes"));
-    }
-    None
-}
-
-fn of_line(words: &[&str]) -> Option<Printed> {
-    match words {
-        [who, client, first, low, second, high] => {
-            of_six([*who, *client, *first, *low, *second, *high])
+/// Returns a line's first three words that aren't numbers and its first three numbers, and how many there are of each.
+fn parts(line: &str) -> ([&str; 3], [u64; 3], (usize, usize)) {
+    let mut words = [""; 3];
+    let mut numbers = [0u64; 3];
+    let (mut of_words, mut of_numbers) = (0usize, 0usize);
+    for word in line.split(' ') {
+        match word.parse::<u64>() {
+            Ok(number) if of_numbers < 3 => {
+                numbers[of_numbers] = number;
+                of_numbers += 1;
+            }
+            Err(_) if of_words < 3 => {
+                words[of_words] = word;
+                of_words += 1;
+            }
+            _ => return (words, numbers, (4, 4)),
         }
-        [line, word, made] if *word == "ok" => done(*line, *made),
-        [line, word, fault, _] if *word == "refused" => refusal(*line, *fault),
-        [what, word] => of_two(*what, *word),
+    }
+    (words, numbers, (of_words, of_numbers))
+}
+
+/// Reads a line with three words and three numbers.
+fn of_client(words: [&str; 3], numbers: [u64; 3]) -> Option<Printed> {
+    let [client, low, high] = numbers;
+    match words {
+        ["writer", "durable", "next"] => Some(Printed::Writer(Writer {
+            client,
+            durable: low,
+            next: high,
+        })),
+        ["recovery", "cut", "start"] => Some(Printed::Find(Find {
+            client,
+            cut: low,
+            start: high,
+        })),
+        _ => None,
+    }
+}
+
+/// Reads a line.
+fn of_line(line: &str) -> Option<Printed> {
+    let (words, numbers, counts) = parts(line);
+    let [first, second, _] = words;
+    match (first, counts) {
+        (_, (3, 3)) => of_client(words, numbers),
+        ("ok", (1, 2)) => Some(Printed::Answer(Answer {
+            line: numbers[0],
+            made: Some(numbers[1]),
+        })),
+        ("refused", (2, 2)) => Some(Printed::Answer(Answer {
+            line: numbers[0],
+            made: None,
+        })),
+        ("steps", (1, 1)) => Some(Printed::Steps(numbers[0])),
+        ("refused", (1, 1)) => Some(Printed::Refused(numbers[0])),
+        ("journal", (2, 0)) => Some(Printed::Journal(second == "yes")),
         _ => None,
     }
 }
@@ -162,8 +146,7 @@ impl Outcome {
         let mut outcome = Outcome::new(alloc);
         for line in text.split('\n') {
             if !line.is_empty() {
-                let words: Vec<&str> = line.split(' ').collect(alloc)?;
-                outcome.add(of_line(words.as_slice()))?;
+                outcome.add(of_line(line))?;
             }
         }
         Ok(outcome)

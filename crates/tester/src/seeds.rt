@@ -54,16 +54,21 @@ pub fn report<H: Threads + Wait + Sync>(
 ) -> io::Result<u8> {
     match try_many(threads, rt.alloc(), first, count) {
         Ok(counts) => {
-            println!(rt; "runs {}", counts.runs)?;
-            println!(rt; "events {}", counts.events)?;
-            println!(rt; "acknowledged {}", counts.acknowledged)?;
-            println!(rt; "finds {}", counts.finds)?;
+            let Counts {
+                runs,
+                events,
+                acknowledged,
+                finds,
+            } = counts;
+            println!(rt;
+                "runs {runs}\nevents {events}\nacknowledged {acknowledged}\nfinds {finds}"
+            )?;
             Ok(0)
         }
         Err(found) => {
             let [first, second, third, fourth] = found.broken.numbers;
-            println!(rt; "run {}: {}", found.seed, found.broken.what)?;
-            println!(rt; "{first} {second} {third} {fourth}")?;
+            let (seed, what) = (found.seed, found.broken.what);
+            println!(rt; "run {seed}: {what}: {first} {second} {third} {fourth}")?;
             Ok(1)
         }
     }
@@ -72,7 +77,6 @@ pub fn report<H: Threads + Wait + Sync>(
 /// Prints the plan and the script of a seed.
 pub fn show(rt: &HostRuntime, seed: u64) -> io::Result<u8> {
     let trial = Trial::new(rt.alloc(), seed)?;
-    println!(rt; "{}", trial.plan)?;
-    print!(rt; "{}", trial.script)?;
+    print!(rt; "{}\n{}", trial.plan, trial.script)?;
     Ok(0)
 }

@@ -67,13 +67,14 @@ impl Trial {
         let plan_text = plan.text(alloc).finished()?;
         let mut schedule = Schedule::new(alloc, plan, rng);
         schedule.fill(alloc);
+        let written = schedule.written;
         let Written {
             text,
             lines,
             waits,
             issues,
             ..
-        } = schedule.written;
+        } = written;
         Ok(Trial {
             plan: plan_text,
             script: text.finished()?,
@@ -88,15 +89,16 @@ impl Trial {
         self.lines.saturating_sub(self.waits)
     }
 
-    /// Returns the output of a job over the plan and the script.
-    fn output<H: Threads + Wait + Sync>(
+    /// Returns the status of a job over the plan and the script, and its output.
+    fn outcome<H: Threads + Wait + Sync>(
         &self,
         rt: &H,
         alloc: Global,
         job: &Job<'_>,
-    ) -> Result<CommandOutput, AllocError> {
+    ) -> Result<(u8, Outcome), Broken> {
         let plan = Ok(self.plan.as_bytes());
-        say(rt, alloc, job, plan, self.script.as_str())
+        let output = say(rt, alloc, job, plan, self.script.as_str())?;
+        Ok((output.status, Outcome::of(alloc, &output)?))
     }
 
     /// Runs the script on threads with this many drivers, and checks the output.
@@ -107,9 +109,8 @@ impl Trial {
         run: Option<&Outcome>,
     ) -> Result<(), Broken> {
         let drivers: u8 = if run.is_some() { 1 } else { 4 };
-        let output = self.output(rt, alloc, &fleet(drivers))?;
-        let fleet = Outcome::of(alloc, &output)?;
-        check_fleet(&output, &fleet, drivers, self.events())?;
+        let (status, fleet) = self.outcome(rt, alloc, &fleet(drivers))?;
+        check_fleet(status, &fleet, drivers, self.events())?;
         match run {
             Some(run) => check_alike(run, &fleet),
             None => Ok(()),
@@ -124,11 +125,10 @@ impl Trial {
         several: bool,
         counts: &mut Counts,
     ) -> Result<(), Broken> {
-        let output = self.output(rt, alloc, &run())?;
-        let outcome = Outcome::of(alloc, &output)?;
+        let (status, outcome) = self.outcome(rt, alloc, &run())?;
         let shown = check_run(alloc, &outcome, self.lines, self.issues.as_slice())?;
-        if (output.status == 0) != (outcome.refusals() == 0) {
-            let numbers = [u64::from(output.status), outcome.refusals(), 0, 0];
+        if (status == 0) != (outcome.refusals() == 0) {
+            let numbers = [u64::from(status), outcome.refusals(), 0, 0];
             return Err(Broken::new("a run's status (status, refused)", numbers));
         }
         self.try_fleet(rt, alloc, Some(&outcome))?;

@@ -18,24 +18,36 @@ pub fn is_book(word: &str) -> bool {
 
 /// Returns what these words ask for besides books. The first word is the program's own name.
 pub fn asked_by(words: &[String]) -> Option<Wish> {
-    let mut others = words.iter().skip(1).filter(|word| !is_book(word.as_str()));
-    match (others.next(), others.next(), others.next()) {
-        (None, _, _) if words.len() > 1 => Some(Wish::Books),
-        (Some(seed), None, _) => Some(Wish::Try {
-            seed: number(seed)?,
+    let mut others = [""; 2];
+    let mut count = 0usize;
+    for word in words.iter().skip(1) {
+        let word = word.as_str();
+        if !is_book(word) {
+            if count >= others.len() {
+                return None;
+            }
+            others[count] = word;
+            count += 1;
+        }
+    }
+    let [first, second] = others;
+    match count {
+        0 if words.len() > 1 => Some(Wish::Books),
+        1 => Some(Wish::Try {
+            seed: number(first)?,
             count: 1,
         }),
-        (Some(show), Some(seed), None) if show.as_str() == "show" => Some(Wish::Show {
-            seed: number(seed)?,
+        2 if first == "show" => Some(Wish::Show {
+            seed: number(second)?,
         }),
-        (Some(seed), Some(count), None) => Some(Wish::Try {
-            seed: number(seed)?,
-            count: number(count)?,
+        2 => Some(Wish::Try {
+            seed: number(first)?,
+            count: number(second)?,
         }),
         _ => None,
     }
 }
 
-fn number(word: &String) -> Option<u64> {
-    word.as_str().parse::<u64>().ok()
+fn number(word: &str) -> Option<u64> {
+    word.parse::<u64>().ok()
 }
