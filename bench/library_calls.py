@@ -9,7 +9,7 @@ and the kit's clang compiles at -O3. It needs `cc`. Each price is the least of s
 records of 64 bytes, in nanoseconds of a processor.
 
 If valgrind is there, such a build is also compared with the core. The instructions of a call that count as the core's are
-those of the calls into the crates below volume_c (`decode`, `Segment::deliver`, `encode` ..), which are kept out of line,
+those of the calls into the crates below volume_c (`decode`, `Segment::deliver`, `encode_into` ..), which are kept out of line,
 and those that free their results, which each caller of the core needs.
 """
 import importlib.machinery

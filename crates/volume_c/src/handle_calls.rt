@@ -16,10 +16,11 @@ fn hand_out(alloc: Global, held: &mut Held, out: &mut [u8], needed: &mut usize) 
     ensures { Hands result (Some held.old) (Some held.new) needed.new out.old out.new }
 {
     let status = held.outbox.write_first(alloc, out, needed);
-    if status == 0 {
-        held.outbox.pass();
+    if status != 0 {
+        return status;
     }
-    status
+    held.outbox.pass();
+    0
 }
 
 /// Writes the next message that the actor made to `out`, and drops it. Each message is handed out once, in the order

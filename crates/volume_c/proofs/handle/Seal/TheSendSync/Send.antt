@@ -87,7 +87,7 @@ client_send : IsSend Client.the_row
 client_send = search (sendable, client_field) depth 30
 
 outbox_field : IsSend (Outbox.the_field).row
-outbox_field = struct_send (declared Outbox.the_type) (messages_type.the_field_send, (search sendable, tt))
+outbox_field = struct_send (declared Outbox.the_type) (messages_type.the_field_send, (search sendable, (search (sendable, heap.crosses), tt)))
 
 snapshot_field : IsSend (SnapshotBytes.the_field).row
 snapshot_field = search (sendable, heap.crosses, contents_type.the_send, contents_type.the_sync) depth 30
