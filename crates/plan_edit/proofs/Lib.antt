@@ -1,3 +1,0 @@
-pub mod RenamedLaws
-pub mod Sets
-pub mod Behind

@@ -1,4 +1,0 @@
-pub mod Renamed
-pub mod Drafts
-pub mod Replaced
-pub mod Edited
