@@ -5,7 +5,7 @@ without a fresh member. The claims are computed here from the plan's text.
     python3 bench/witnesses.py
     python3 bench/witnesses.py --losses [crates/plan_tool/out/plan_tool]
 
-It builds a small program over the crates `plan` and `explain` in a folder of its own, without proofs, and prints a line a family: how many
+It builds a small program over the crates `plan` and `quorum_checker` in a folder of its own, without proofs, and prints a line a family: how many
 claims fail, and for how many a witness was found.
 
 With `--losses` it builds nothing: it checks what `explain --json` says of 500 expressions by a fixed seed, over up to 12 members, by trying each loss:
@@ -28,13 +28,13 @@ PROGRAM = r"""//! Decides each claim of a plan, and prints the two sets of its w
 #![tactic(auto)]
 
 use plan::{Plan, claims, read_plan};
+use quorum_checker::{Decision, decide};
 use quorum_expr::{MEMBERS, MemberSet};
 use std::alloc::Global;
 use std::fs::read;
 use std::process::ExitCode;
 use std::rt::{Env, Files};
 use std::{env, io};
-use explain::{Decision, decide};
 
 /// Prints the members of a set.
 fn print_set<R: Print>(rt: &R, members: MemberSet) -> io::Result<()> {
@@ -197,7 +197,7 @@ def main():
         top = pathlib.Path(folder)
         first = top / "first.json"
         first.write_text(plans_of([("", most([0, 1, 2]), most([0, 1, 2]))])[0])
-        program = tried(top, "witness_work", PROGRAM, ["quorum_expr", "plan", "explain"], [str(first)])
+        program = tried(top, "witness_work", PROGRAM, ["quorum_expr", "plan", "quorum_checker"], [str(first)])
         print("| Family | Claims | That hold | With a witness | Unknown |\n|---|---|---|---|---|")
         for name, texts in families("false"):
             file = top / "plan.json"
