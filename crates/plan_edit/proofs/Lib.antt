@@ -1,0 +1,3 @@
+pub mod RenamedLaws
+pub mod Sets
+pub mod Behind

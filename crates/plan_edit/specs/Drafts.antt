@@ -1,0 +1,29 @@
+-- The data of configurations without certificates.
+use Rattle.std.specs.Prelude.{Some, None}
+use Rattle.quorum_expr.specs.Expr.{formula_of}
+use Rattle.plan.specs.PlanData.{ConfigurationData}
+use Rattle.plan_edit.specs.declared.drafts.Draft.{Draft}
+
+-- a configuration without its certificates
+abbrev pub uncertified : ConfigurationData → ConfigurationData
+uncertified x = record {
+  parent = x.parent;
+  members = x.members;
+  full = x.full;
+  read = x.read;
+  write = x.write;
+  meets = None;
+  step = None;
+}
+
+-- a configuration that isn't part of a plan yet
+abbrev pub draft_data : Draft → ConfigurationData
+draft_data x = record {
+  parent = Some x.parent;
+  members = x.members;
+  full = x.full;
+  read = formula_of x.read;
+  write = formula_of x.write;
+  meets = None;
+  step = None;
+}

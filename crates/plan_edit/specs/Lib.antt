@@ -1,0 +1,4 @@
+pub mod Renamed
+pub mod Drafts
+pub mod Replaced
+pub mod Edited
