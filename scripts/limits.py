@@ -5,7 +5,9 @@
 
 Such texts are too long for a case file. The answers are those of docs/PLANS.md and docs/SCRIPTS.md: a plan of one byte more than 16,777,216
 is over a limit; a script's first line that doesn't lie within the first 16,777,216 bytes, or isn't one of the first 100,000, is bad.
+The last case is a script that is a named pipe which nobody writes: a plan's fault is printed before the script is opened.
 """
+import os
 import pathlib
 import subprocess
 import sys
@@ -69,6 +71,10 @@ def cases(tool, folder):
         files = [TOP / "examples/six_copies.json", script]
         yield f"run, {name}", answer(tool, "run", *files), bad(line) if line else RUN
         yield f"fleet, {name}", answer(tool, "fleet", *files, "-w", "2"), bad(line) if line else FLEET
+    pipe, faulty = folder / "pipe.script", TOP / "examples/write_three.json"
+    os.mkfifo(pipe)
+    for command in "run", "fleet", "explain":
+        yield f"{command}, a plan with a fault and a pipe", answer(tool, command, faulty, pipe), answer(tool, "check", faulty)
 
 
 def main():

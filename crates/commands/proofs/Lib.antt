@@ -5,6 +5,7 @@ pub mod Reported
 pub mod Calls
 pub mod Due
 pub mod ExplainedPlans
+pub mod ExplainedScripts
 pub mod Failing
 pub mod FaultQueries
 pub mod Findings

@@ -5,6 +5,7 @@ use Rattle.commands.specs.Answer.{Answer, IsSaid, line_answer}
 use Rattle.commands.specs.Answers.{AnswersOf, ChecksTo, File}
 use Rattle.commands.specs.Answers.AnswersOf.{read, unread, unmade}
 use Rattle.commands.specs.Answers.PlanAnswers.{faulty, certified}
+use Rattle.commands.specs.Reports.{ChecksFault}
 use Rattle.commands.specs.Searched.{SearchesTo}
 use Rattle.commands.specs.Stops.{is_input_stop, stop_answer, stop_line}
 use Rattle.commands.specs.Streams.{Delivers, Ends, Gets, IsTextOf}
@@ -57,6 +58,13 @@ yes_due file a (read text whole is (faulty fault bad said)) zero = absurd (not_y
 yes_due file a (read text whole is (certified h said)) zero = known IsCertifiedText file.known text is h
 yes_due file a (unread failed said) zero = absurd (not_yes a true _ said zero)
 yes_due file a (unmade said) zero = absurd (not_yes a true _ said zero)
+
+-- the answer 0 about a plan's file, whatever is said of a plan without a fault
+pub yes_fault : (file : File) (a : Answer) → ChecksFault file a → a.status ≡ 0 → IfSome file.known (λ bytes. IsCertifiedText (take 16777217 bytes))
+yes_fault file a (read text whole is (faulty fault bad said)) zero = absurd (not_yes a (is_input fault) _ said zero)
+yes_fault file a (read text whole is (certified h said)) zero = known IsCertifiedText file.known text is h
+yes_fault file a (unread failed said) zero = absurd (not_yes a true _ said zero)
+yes_fault file a (unmade said) zero = absurd (not_yes a true _ said zero)
 
 -- an answer below 2 of a check says nothing to standard error
 pub quiet_due : (file : File) (a : Answer) → AnswersOf file ChecksTo a → a.status < 2 → a.err ≡ []

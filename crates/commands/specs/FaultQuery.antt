@@ -17,9 +17,9 @@ use Rattle.commands.specs.declared.files.Source.{Source}
 abbrev pub IsFileName : List ℕ → Type 0
 IsFileName name = (number : ℕ) → number < 2 ^ 8 → IsNumberOf (Some name) number → ⊥
 
--- The job doesn't ask for a refusal by its number, nor for the explanation of a script.
+-- The job doesn't ask for a refusal by its number.
 abbrev pub HasFile : Job → Type 0
-HasFile job = job.action ≡ Explain → (job.script ≡ None) × IsFileName job.plan.now
+HasFile job = job.action ≡ Explain → job.script ≡ None → IsFileName job.plan.now
 
 -- no refusal has the number
 abbrev pub unknown_number : ℕ → Answer

@@ -1,7 +1,7 @@
 -- What `explain --json` answers.
 use Rattle.std.specs.Prelude.{◌≡◌, ◌⊎◌, ◌<◌, ℕ, nat_lt, if◌then◌else◌, List, [], Bool, true, false, Result, Ok, Err, string_bytes}
 use Rattle.commands.specs.Answer.{Answer, no_memory}
-use Rattle.commands.specs.Answers.{ChecksTo}
+use Rattle.commands.specs.Answers.{AnswersOf, ChecksTo, File, PlanAnswers}
 use Rattle.commands.specs.Explains.{ExplainsTo}
 use Rattle.commands.specs.Stops.{stop_answer}
 use Rattle.commands.specs.declared.reply.Report.{Report}
@@ -45,3 +45,30 @@ IsReported text answer = ReportsTo text answer ⊎ (answer ≡ no_memory)
 abbrev pub ExplainsAs : Bool → List ℕ → Answer → Type 0
 ExplainsAs true = ReportsTo
 ExplainsAs false = ExplainsTo
+
+-- ---- a script over a plan
+
+-- a report's answer has the status of another answer, and writes the same to standard error
+pub record IsReportOf (checked answer : Answer) : Type 0 where
+  pub status_is : answer.status ≡ checked.status
+  pub err_is : answer.err ≡ checked.err
+
+-- The answer is such a report, or memory ran out.
+abbrev pub SaysAs : Answer → Answer → Type 0
+SaysAs checked answer = IsReportOf checked answer ⊎ (answer ≡ no_memory)
+
+-- The answer about a plan's file: if its text has a fault, that of a check. Nothing is said of the answer about a plan
+-- without a fault.
+abbrev pub ChecksFault : File → Answer → Type 0
+ChecksFault file answer = AnswersOf file (λ text. PlanAnswers text (λ plan said. Unit {0})) answer
+
+-- the same of a report: it has the status of such an answer, and writes the same to standard error
+pub record ReportsFault (file : File) (answer : Answer) : Type 0 where
+  pub checked : Answer
+  pub due : ChecksFault file checked
+  pub is : IsReportOf checked answer
+
+-- the answer about the file of a plan that a script is to run over, as JSON or in words
+abbrev pub ExplainsFault : Bool → File → Answer → Type 0
+ExplainsFault true = ReportsFault
+ExplainsFault false = ChecksFault

@@ -1,6 +1,6 @@
 //! A job, done on the contents of its files.
 
-ghost use Rattle.std.specs.Prelude.{◌≡◌, ◌≢◌, ◌≤◌, ◌<◌, IfErr, IfOk, None, string_bytes};
+ghost use Rattle.std.specs.Prelude.{◌≡◌, ◌≢◌, ◌≤◌, ◌<◌, IfErr, IfOk, IsSome, None, string_bytes};
 ghost use Rattle.plan.specs.CheckedModel.{checked_model};
 ghost use Rattle.commands.specs.declared.action.Action.TheVariants.{Check, Explain, Fleet, Run, Search};
 ghost use Rattle.commands.specs.Answer.{IsSaid};
@@ -8,7 +8,7 @@ ghost use Rattle.commands.specs.Answers.{AnswersOf, ChecksTo, FleetsTo, RunsTo, 
 ghost use Rattle.commands.specs.Explains.{ExplainsTo};
 ghost use Rattle.commands.specs.FaultQuery.{ExplainsJob, HasFile, IsFileName};
 ghost use Rattle.commands.specs.Held.{HoldsCertified, HoldsFault};
-ghost use Rattle.commands.specs.Reports.{ExplainsAs, ReportsTo};
+ghost use Rattle.commands.specs.Reports.{ExplainsAs, ExplainsFault, ReportsTo};
 ghost use Rattle.commands.specs.Searched.{SearchesTo};
 ghost use Rattle.commands.specs.ShownName.{shown_name};
 ghost use Rattle.commands.specs.Stops.{answer_of, stop_answer};
@@ -337,20 +337,24 @@ fn perform_explain<P: FallibleRead, O: FallibleWrite, E: FallibleWrite>(
 fn perform_explain_named<P: FallibleRead, S: FallibleRead, O: FallibleWrite, E: FallibleWrite>(
     alloc: Global,
     json: bool,
-    names: (&str, &str),
+    plan_name: &str,
+    script_name: &str,
     plan: &mut Source<P>,
     script: &mut Source<S>,
     out: &mut Output<O>,
     err: &mut Output<E>,
 ) -> u8
     ensures status { result ≤ 2 }
+    ensures yes { result ≡ 0 → HoldsCertified P.remaining plan.old }
+    ensures ends { Ends O.contents E.contents (ExplainsFault json
+        (file_of P.remaining plan_name.now plan.old plan.new)) result out.old out.new err.old err.new }
     ensures quiet { result < 2 → err.new ≡ err.old }
     ensures plan_read { FailsByRead P.answers plan.old plan.new }
     ensures script_read { FailsByRead S.answers script.old script.new }
     ensures out_written { FailsByWrite O.answers out.old out.new }
     ensures err_written { FailsByWrite E.answers err.old err.new }
 {
-    match explain_script(alloc, json, names, plan, script) {
+    match explain_script(alloc, json, plan_name, script_name, plan, script) {
         Ok(report) => deliver(
             report.status,
             report.value.as_bytes(),
@@ -359,6 +363,42 @@ fn perform_explain_named<P: FallibleRead, S: FallibleRead, O: FallibleWrite, E: 
             err,
         ),
         Err(stop) => refuse(alloc, &stop, out, err),
+    }
+}
+
+/// Performs the explanation of a script's file with this name over a plan whose file is printed with the other name.
+fn perform_explain_over<P: FallibleRead, S: FallibleRead, O: FallibleWrite, E: FallibleWrite>(
+    alloc: Global,
+    json: bool,
+    plan_name: &str,
+    name: &str,
+    plan: &mut Source<P>,
+    script: &mut Source<S>,
+    out: &mut Output<O>,
+    err: &mut Output<E>,
+) -> u8
+    ensures status { result ≤ 2 }
+    ensures yes { result ≡ 0 → HoldsCertified P.remaining plan.old }
+    ensures ends { Ends O.contents E.contents (ExplainsFault json
+        (file_of P.remaining plan_name.now plan.old plan.new)) result out.old out.new err.old err.new }
+    ensures quiet { result < 2 → err.new ≡ err.old }
+    ensures plan_read { FailsByRead P.answers plan.old plan.new }
+    ensures script_read { FailsByRead S.answers script.old script.new }
+    ensures out_written { FailsByWrite O.answers out.old out.new }
+    ensures err_written { FailsByWrite E.answers err.old err.new }
+{
+    match shown_name(alloc, name) {
+        Ok(shown) => perform_explain_named(
+            alloc,
+            json,
+            plan_name,
+            shown.as_str(),
+            plan,
+            script,
+            out,
+            err,
+        ),
+        Err(_) => refuse(alloc, &Stop::NoMemory, out, err),
     }
 }
 
@@ -373,18 +413,28 @@ fn perform_explain_script<P: FallibleRead, S: FallibleRead, O: FallibleWrite, E:
     err: &mut Output<E>,
 ) -> u8
     ensures status { result ≤ 2 }
+    ensures yes { result ≡ 0 → HoldsCertified P.remaining plan.old }
+    ensures ends { Ends O.contents E.contents (ExplainsFault job.now.json
+        (file_of P.remaining (shown_name job.now.plan.now) plan.old plan.new)) result out.old out.new err.old err.new }
     ensures quiet { result < 2 → err.new ≡ err.old }
     ensures plan_read { FailsByRead P.answers plan.old plan.new }
     ensures script_read { FailsByRead S.answers script.old script.new }
     ensures out_written { FailsByWrite O.answers out.old out.new }
     ensures err_written { FailsByWrite E.answers err.old err.new }
 {
-    let (Ok(plan_name), Ok(script_name)) = (shown_name(alloc, job.plan), shown_name(alloc, name))
-    else {
-        return refuse(alloc, &Stop::NoMemory, out, err);
-    };
-    let names = (plan_name.as_str(), script_name.as_str());
-    perform_explain_named(alloc, job.json, names, plan, script, out, err)
+    match shown_name(alloc, job.plan) {
+        Ok(shown) => perform_explain_over(
+            alloc,
+            job.json,
+            shown.as_str(),
+            name,
+            plan,
+            script,
+            out,
+            err,
+        ),
+        Err(_) => refuse(alloc, &Stop::NoMemory, out, err),
+    }
 }
 
 /// Performs a job on the contents of its files, prints its answer, and returns the exit status: 0 for yes, 1 for a
@@ -408,8 +458,8 @@ pub fn perform<
 ) -> u8
     ensures status { result ≤ 2 }
 
-    // The status 0 of a check, an explanation of a plan, a run or a fleet says that the plan's text spells a plan
-    // without a fault, whose quorums all meet.
+    // The status 0 of a check, an explanation of a plan or of a script over one, a run or a fleet says that the plan's
+    // text spells a plan without a fault, whose quorums all meet.
     ensures yes { job.now.action ≢ Search → HasFile job.now → result ≡ 0
         → HoldsCertified P.remaining plan.old }
 
@@ -449,9 +499,15 @@ pub fn perform<
 
     // An explanation of a plan's text has the status and the last line of a check, on the same output; as JSON, the
     // status and what a check prints to standard error. One of a number prints the refusal with that number in words.
-    // Of one with a script nothing is said here but its status and that a status below 2 leaves `err` as it was.
     ensures explains { job.now.action ≡ Explain → job.now.script ≡ None → Ends O.contents E.contents
         (ExplainsJob P.remaining job.now plan.old plan.new) result out.old out.new err.old err.new }
+
+    // An explanation of a script over a plan with a fault prints what a check prints; as JSON, it has the status of a
+    // check and prints what a check prints to standard error. Of one over a plan without a fault nothing is said here
+    // but its status and that a status below 2 leaves `err` as it was.
+    ensures explains_fault { job.now.action ≡ Explain → IsSome job.now.script → Ends O.contents E.contents
+        (ExplainsFault job.now.json (file_of P.remaining (shown_name job.now.plan.now) plan.old plan.new)) result
+        out.old out.new err.old err.new }
 
     // A file is said to be one that can't be read only where it couldn't be opened, or a read of it failed; and an
     // output one that can't be written only where a write to it failed, or took none of its bytes.

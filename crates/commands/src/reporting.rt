@@ -21,6 +21,25 @@ use explain::{ConfigurationFacts, json_report, known_configurations};
 use plan::{Plan, PlanFault};
 use std::alloc::Global;
 
+/// Returns a report with this value, beside the status and the line of a check.
+pub(crate) fn report_of(
+    alloc: Global,
+    value: String,
+    status: u8,
+    line: &str,
+) -> Result<Report, Stop<'static>>
+    ensures report { IfOk result (IsReport status line.now) }
+    ensures stop { IfErr result (λ stop. stop ≡ NoMemory) }
+{
+    let shown = if status < 2 { "" } else { line };
+    let line = String::from_str(alloc, shown)?;
+    Ok(Report {
+        status,
+        value,
+        line,
+    })
+}
+
 /// Returns the report of a text with what is known of its configurations, beside the status and the line of a check.
 fn made(
     alloc: Global,
@@ -34,13 +53,7 @@ fn made(
     ensures stop { IfErr result (λ stop. stop ≡ NoMemory) }
 {
     let value = json_report(alloc, text, known, status, line)?;
-    let shown = if status < 2 { "" } else { line };
-    let line = String::from_str(alloc, shown)?;
-    Ok(Report {
-        status,
-        value,
-        line,
-    })
+    report_of(alloc, value, status, line)
 }
 
 /// Returns the report of a text that spells a plan.

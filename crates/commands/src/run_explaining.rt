@@ -1,15 +1,19 @@
 //! A script's run in words or as JSON: `explain PLAN SCRIPT`.
 
-ghost use Rattle.std.specs.Prelude.{IfOk};
-ghost use Rattle.commands.specs.Reports.{IsQuiet};
+ghost use Rattle.std.specs.Prelude.{◌≡◌, IfErr, IfOk};
+ghost use Rattle.commands.specs.Answer.{fault_answer};
+ghost use Rattle.commands.specs.Answers.{file_of};
+ghost use Rattle.commands.specs.Reports.{ExplainsFault, IsQuiet, IsReportOf, SaysAs, made_of, report_answer};
+ghost use Rattle.commands.specs.Stops.{stop_answer};
 ghost use Rattle.commands.specs.Streams.{FailsByRead};
+ghost use Rattle.commands.specs.declared.reply.Stop.TheVariants.{NoMemory};
 
 use crate::fallible::FallibleRead;
 use crate::files::Source;
 use crate::inputs::{checked, contents};
 use crate::leaking::leak;
 use crate::reply::{Report, Stop};
-use crate::reporting::status_of;
+use crate::reporting::{report_of, status_of};
 use crate::run_json::{refusal_report, run_report};
 use crate::run_state::run_facts;
 use crate::run_tables::run_words;
@@ -83,21 +87,19 @@ fn explained_line(
 
 /// Returns the report of a plan's fault, as JSON.
 fn explained_fault(alloc: Global, fault: PlanFault) -> Result<Report, Stop<'static>>
+    ensures report { IfOk result (λ report. IsReportOf (fault_answer fault) (made_of report)) }
+    ensures stop { IfErr result (λ stop. stop ≡ NoMemory) }
     ensures quiet { IfOk result IsQuiet }
 {
     let status = status_of(&fault);
     let line = format!(in alloc; "{fault}\n")?;
     let value = refusal_report(alloc, status, line.as_str(), None)?;
-    let shown = if status < 2 { String::new(alloc) } else { line };
-    Ok(Report {
-        status,
-        value,
-        line: shown,
-    })
+    report_of(alloc, value, status, line.as_str())
 }
 
 /// Returns the report of a plan that can't be used, as JSON if the plan has a fault.
 fn explained_stop<'a>(alloc: Global, stop: Stop<'a>) -> Result<Report, Stop<'a>>
+    ensures answers { SaysAs (stop_answer stop) (report_answer result) }
     ensures quiet { IfOk result IsQuiet }
 {
     match stop {
@@ -123,23 +125,38 @@ fn explained_script(
     }
 }
 
+/// Returns the report of a script's file over a plan.
+fn over_plan<'a, S: FallibleRead>(
+    alloc: Global,
+    json: bool,
+    plan: CheckedPlan,
+    name: &'a str,
+    script: &mut Source<S>,
+) -> Result<Report, Stop<'a>>
+    ensures quiet { IfOk result IsQuiet }
+    ensures reason { FailsByRead S.answers script.old script.new }
+{
+    let text = contents(alloc, name, script)?;
+    explained_script(alloc, json, plan, text.as_slice())
+}
+
 /// Returns the answer of `explain PLAN SCRIPT`, where the files are printed with these names.
 pub fn explain_script<'a, P: FallibleRead, S: FallibleRead>(
     alloc: Global,
     json: bool,
-    names: (&'a str, &'a str),
+    plan_name: &'a str,
+    script_name: &'a str,
     plan: &mut Source<P>,
     script: &mut Source<S>,
 ) -> Result<Report, Stop<'a>>
+    ensures answers { ExplainsFault json (file_of P.remaining plan_name.entry.now plan.old plan.new)
+        (report_answer result) }
     ensures quiet { IfOk result IsQuiet }
     ensures plan_read { FailsByRead P.answers plan.old plan.new }
     ensures script_read { FailsByRead S.answers script.old script.new }
 {
-    match checked(alloc, names.0, plan) {
-        Ok(plan) => {
-            let text = contents(alloc, names.1, script)?;
-            explained_script(alloc, json, plan, text.as_slice())
-        }
+    match checked(alloc, plan_name, plan) {
+        Ok(plan) => over_plan(alloc, json, plan, script_name, script),
         Err(stop) if json => explained_stop(alloc, stop),
         Err(stop) => Err(stop),
     }

@@ -3,7 +3,9 @@
 
 ghost use Rattle.std.specs.Prelude.{◌≤◌};
 
-use commands::{NO_MEMORY, Output, Source, deliver, job, opened, perform, print_usage};
+use commands::{
+    NO_MEMORY, Output, Source, deliver, job, opened, opened_late, perform, print_usage,
+};
 use std::alloc::{AllocError, Global};
 use std::io::ErrorKind;
 use std::process::ExitCode;
@@ -29,7 +31,7 @@ fn texts<'a>(alloc: Global, words: &'a [String]) -> Result<Vec<&'a str>, AllocEr
 }
 
 /// Reads the words of the command line and performs the job. A search and a fleet start their threads with the second
-/// handle.
+/// handle. A script is opened when it is read, after the plan was checked: opening a named pipe waits for its writer.
 fn run<H: Threads + Wait + Sync>(rt: &HostRuntime, threads: &H) -> u8
     ensures { result ≤ 2 }
 {
@@ -46,7 +48,7 @@ fn run<H: Threads + Wait + Sync>(rt: &HostRuntime, threads: &H) -> u8
     match job(alloc, words.as_slice()) {
         Ok(job) if job.reads_stdin() => {
             let mut plan = Source::new(Ok(rt.stdin()));
-            let mut script = opened(rt, job.script);
+            let mut script = opened_late(rt, job.script);
             perform(
                 threads,
                 alloc,
@@ -72,7 +74,7 @@ fn run<H: Threads + Wait + Sync>(rt: &HostRuntime, threads: &H) -> u8
         }
         Ok(job) => {
             let mut plan = opened(rt, Some(job.plan));
-            let mut script = opened(rt, job.script);
+            let mut script = opened_late(rt, job.script);
             perform(
                 threads,
                 alloc,
