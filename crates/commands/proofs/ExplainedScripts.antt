@@ -1,5 +1,6 @@
 -- What an explanation of a script over a plan says of the plan.
-use Rattle.std.proofs.Common.{◌≡◌, ◌∙◌, ap, inl, inr, refl, subst, sym, ℕ, List, ◌++◌, Bool, true, false, IfErr, IfOk, IfSome, Result, Ok, Err, codes, take}
+use Rattle.std.proofs.Common.{◌≡◌, ◌∙◌, ap, inl, inr, refl, subst, sym, ℕ, ◌<◌, nat_lt, if◌then◌else◌, List, [], ◌++◌, Bool, true, false, IfErr, IfOk, IfSome, Result, Ok, Err, codes, take}
+use Rattle.std.proofs.lemmas.Bool.{lt-ltb}
 use Rattle.std.proofs.lemmas.Result.{IfOk-weaker}
 use Rattle.plan.specs.FaultKinds.{is_input}
 use Rattle.plan.specs.PlanFaultText.{plan_fault_text}
@@ -10,7 +11,7 @@ use Rattle.commands.specs.Answers.{AnswersOf, File, PlanAnswers}
 use Rattle.commands.specs.Answers.AnswersOf.{read, unmade}
 use Rattle.commands.specs.Answers.PlanAnswers.{certified}
 use Rattle.commands.specs.Read.{IsPlanOf, IsRead}
-use Rattle.commands.specs.Reports.{ChecksFault, ExplainsFault, IsReport, IsReportOf, ReportsFault, SaysAs, made_of, report_answer, status_of}
+use Rattle.commands.specs.Reports.{ChecksFault, ExplainsFault, IsQuiet, IsReport, IsReportOf, ReportsFault, SaysAs, made_of, report_answer, status_of}
 use Rattle.commands.specs.Stops.{stop_answer}
 use Rattle.commands.specs.Verdict.{IsCertifiedText}
 use Rattle.commands.specs.declared.reply.Report.{Report}
@@ -36,6 +37,9 @@ plan_stops json file a h = as_report json file a (never_certified (λ plan said.
 pub plan_reports : (file : File) (checked a : Answer) → AnswersOf file (λ text. PlanAnswers text (λ _ _. ⊥)) checked → SaysAs checked a → ReportsFault file a
 plan_reports file checked a h (inl is) = record { checked = checked; due = never_certified (λ plan said. Unit {0}) file checked h; is = is }
 plan_reports file checked a h (inr out) = record { checked = a; due = unmade out; is = record { status_is = refl; err_is = refl } }
+
+pub json_stops : (json : Bool) (file : File) (checked a : Answer) → json ≡ true → AnswersOf file (λ text. PlanAnswers text (λ _ _. ⊥)) checked → SaysAs checked a → ExplainsFault json file a
+json_stops json file checked a is h says = subst (λ (b : Bool). ExplainsFault b file a) (sym is) (plan_reports file checked a h says)
 
 -- memory ran out before the plan was read
 pub never_explained : (json : Bool) (file : File) (a : Answer) → IsSaid (stop_answer stops.NoMemory) a → ExplainsFault json file a
@@ -72,3 +76,14 @@ fault_reports fault status line r same e made =
 pub fault_says : (fault : PlanFault) (r : Result Report Stop) → IfOk r (λ report. IsReportOf (fault_answer fault) (made_of report)) → IfErr r (λ stop. stop ≡ stops.NoMemory) → SaysAs (fault_answer fault) (report_answer r)
 fault_says fault (Ok report) is out = inl is
 fault_says fault (Err stop) is out = inr (ap stop_answer out)
+
+-- a report with a status below 2 says nothing to standard error
+quiet_if : (quiet : Bool) (line : List ℕ) → quiet ≡ true → (if quiet then [] else line) ≡ []
+quiet_if true line e = refl
+quiet_if false line e = absurd cc
+
+report_quiet : (status : ℕ) (line : List ℕ) (report : Report) → IsReport status line report → IsQuiet report
+report_quiet status line report h = λ small. h.1 ∙ quiet_if (nat_lt status 2) line (lt-ltb status 2 (subst (λ n. n < 2) h.0 small))
+
+pub made_quiet : (status : ℕ) (line : List ℕ) (r : Result Report Stop) → IfOk r (IsReport status line) → IfOk r IsQuiet
+made_quiet status line r made = IfOk-weaker r _ _ (λ report h. report_quiet status line report h) made

@@ -28,6 +28,7 @@ pub(crate) fn report_of(
     status: u8,
     line: &str,
 ) -> Result<Report, Stop<'static>>
+    requires { status ≤ 2 }
     ensures report { IfOk result (IsReport status line.now) }
     ensures stop { IfErr result (λ stop. stop ≡ NoMemory) }
 {

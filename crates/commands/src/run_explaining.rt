@@ -92,14 +92,15 @@ fn explained_fault(alloc: Global, fault: PlanFault) -> Result<Report, Stop<'stat
     ensures quiet { IfOk result IsQuiet }
 {
     let status = status_of(&fault);
-    let line = format!(in alloc; "{fault}\n")?;
-    let value = refusal_report(alloc, status, line.as_str(), None)?;
-    report_of(alloc, value, status, line.as_str())
+    let text = format!(in alloc; "{fault}\n")?;
+    let line = text.as_str();
+    let value = refusal_report(alloc, status, line, None)?;
+    report_of(alloc, value, status, line)
 }
 
 /// Returns the report of a plan that can't be used, as JSON if the plan has a fault.
 fn explained_stop<'a>(alloc: Global, stop: Stop<'a>) -> Result<Report, Stop<'a>>
-    ensures answers { SaysAs (stop_answer stop) (report_answer result) }
+    ensures answers { SaysAs (stop_answer stop.entry) (report_answer result) }
     ensures quiet { IfOk result IsQuiet }
 {
     match stop {
