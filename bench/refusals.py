@@ -7,7 +7,7 @@ A small library that is loaded before the C library (`LD_PRELOAD`) lets the N-th
 on until no call fails any more.
 
 First the program itself: `check` and `search` of plans of all kinds, certified, without certificates, with a wrong one, and half a
-text; `run` and `fleet` of two scripts, one that writes three bytes and one in which a member joins. Each run has to end as with enough
+text; `replace` of a member; `run` and `fleet` of two scripts, one that writes three bytes and one in which a member joins. Each run has to end as with enough
 memory, or with status 2, nothing on standard output, and `input: 9 NoMemory` on standard error.
 
 With `--calls`, then the calls of the library, by two small programs that are built in other folders, each in some two minutes, without a
@@ -256,6 +256,8 @@ def program_jobs(folder):
         yield f"check, {name}", ["check", path]
         for workers in "1", "4":
             yield f"search -w {workers}, {name}", ["search", path, "-w", workers]
+    for options in "-w 1", "-w 4", "--direct -w 1", "--tail -c 1":
+        yield f"replace {options}", ["replace", TOP / "examples/six_copies.json", "--out", "5", "--in", "6", *options.split()]
     for plan, script, drivers in SCRIPTS:
         files = [TOP / "examples" / plan, TOP / "examples" / script]
         yield f"run, {script}", ["run", *files]

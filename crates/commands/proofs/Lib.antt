@@ -14,3 +14,4 @@ pub mod Given
 pub mod Says
 pub mod Searching
 pub mod Printing
+pub mod Edits

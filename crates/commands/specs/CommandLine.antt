@@ -1,5 +1,5 @@
 -- The command line, as clap reads it.
-use Rattle.std.specs.Prelude.{◌≡◌, [], ◌∷◌, codes, pos, Some, true, false}
+use Rattle.std.specs.Prelude.{◌≡◌, ℕ, [], ◌∷◌, codes, pos, Some, true, false}
 use Rattle.clap.specs.Words.{App, Rule, Text, app_of, new_app, new_rule, with_rule, with_subcommand}
 use Rattle.clap.specs.Simple.{on_top}
 use Rattle.clap.specs.declared.builder.command.Command.{Command}
@@ -38,14 +38,6 @@ fleet_leaf name = with_rule (script_leaf name) workers_rule
 abbrev pub other_file_rule : Text → Rule
 other_file_rule id = record (new_rule id) { action = Some Set }
 
--- whether an explanation is JSON: --json
-abbrev pub json_rule : Rule
-json_rule = record (new_rule (codes "json")) { long = Some (codes "json"); action = Some SetTrue }
-
--- a subcommand of a plan's file, and of a script's if it is named, that may write JSON
-abbrev pub json_leaf : Text → App
-json_leaf name = with_rule (with_rule (file_leaf name) (other_file_rule (codes "script"))) json_rule
-
 -- a subcommand before it is added
 pub record IsLeaf (a : App) (c : Command) : Type 0 where
   pub app : app_of c ≡ a
@@ -55,7 +47,45 @@ pub record IsLeaf (a : App) (c : Command) : Type 0 where
 abbrev pub program : App
 program = on_top (λ s. record s { has_version = true; subcommand_required = true }) (new_app (codes "plan_tool"))
 
--- the program with its first two subcommands, with its third, and with its fourth
+-- an option without a value: --ID
+abbrev pub flag_rule : Text → Rule
+flag_rule id = record (new_rule id) { long = Some id; action = Some SetTrue }
+
+-- a subcommand of a plan's file, and of a script's if it is named, that may write JSON
+abbrev pub json_leaf : Text → App
+json_leaf name = with_rule (with_rule (file_leaf name) (other_file_rule (codes "script"))) (flag_rule (codes "json"))
+
+-- a number from 0 to this one: --ID N
+abbrev pub number_rule : Text → ℕ → Rule
+number_rule id most = record (new_rule id) {
+  long = Some id;
+  value_names = 1;
+  parser = Some (parsers.Signed (pos 0) (pos most));
+}
+
+-- a member's number, from 0 to 63, which must be given
+abbrev pub member_rule : Text → Rule
+member_rule id = record (number_rule id 63) { required = true }
+
+-- the number of a group: -g N or --group N, from 0 to 15; 0 by default
+abbrev pub group_rule : Rule
+group_rule = record (number_rule (codes "group") 15) { short = Some 103; defaults = codes "0" ∷ [] }
+
+-- the number of a configuration: -c N or --configuration N, from 0 to 63
+abbrev pub configuration_rule : Rule
+configuration_rule = record (number_rule (codes "configuration") 63) { short = Some 99 }
+
+-- a subcommand of a plan's file, a number of workers and the options of a replacement
+abbrev pub members_leaf : Text → App
+members_leaf name = with_rule (with_rule (workers_leaf name) (member_rule (codes "out"))) (member_rule (codes "in"))
+
+abbrev pub places_leaf : Text → App
+places_leaf name = with_rule (with_rule (members_leaf name) group_rule) configuration_rule
+
+abbrev pub replace_leaf : Text → App
+replace_leaf name = with_rule (with_rule (places_leaf name) (flag_rule (codes "tail"))) (flag_rule (codes "direct"))
+
+-- the program with its first two subcommands, with its third, its fourth, and its fifth
 abbrev pub with_runs : App
 with_runs = with_subcommand (with_subcommand program (file_leaf (codes "check")).top) (script_leaf (codes "run")).top
 
@@ -65,6 +95,10 @@ with_fleet = with_subcommand with_runs (fleet_leaf (codes "fleet")).top
 abbrev pub with_search : App
 with_search = with_subcommand with_fleet (workers_leaf (codes "search")).top
 
--- check FILE, run PLAN SCRIPT, fleet PLAN SCRIPT -w N, search FILE -w N, explain FILE SCRIPT --json, whose script may be left out
+abbrev pub with_explain : App
+with_explain = with_subcommand with_search (json_leaf (codes "explain")).top
+
+-- check FILE, run PLAN SCRIPT, fleet PLAN SCRIPT -w N, search FILE -w N, explain FILE SCRIPT --json, whose script may be
+-- left out, replace FILE -w N --out N --in N -g N -c N --tail --direct
 abbrev pub tool : App
-tool = with_subcommand with_search (json_leaf (codes "explain")).top
+tool = with_subcommand with_explain (replace_leaf (codes "replace")).top

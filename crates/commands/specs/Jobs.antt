@@ -1,11 +1,12 @@
 -- A job, and the words of the command line that name it.
-use Rattle.std.specs.Prelude.{◌≡◌, ℕ, List, Bool, false, Option, Some, None, codes, option_map}
+use Rattle.std.specs.Prelude.{◌≡◌, ◌<◌, ◌^◌, ℕ, List, Bool, true, false, Option, Some, None, codes, option_map}
 use Rattle.std.specs.Str.{bytes_eq}
 use Rattle.std.specs.Str.Parse.{IsNumeral, digits_value, without_leading_plus}
 use Rattle.clap.specs.Words.{Row, Text, first_of, one_of}
 use Rattle.commands.specs.declared.action.Action.{Action}
-use Rattle.commands.specs.declared.action.Action.TheVariants.{Check, Run, Fleet, Search, Explain}
+use Rattle.commands.specs.declared.action.Action.TheVariants.{Check, Run, Fleet, Search, Explain, Replace}
 use Rattle.commands.specs.declared.action.Job.{Job}
+use Rattle.commands.specs.declared.action.ReplaceOptions.{ReplaceOptions}
 
 -- the subcommand of an action
 abbrev pub name_of : Action → Text
@@ -14,16 +15,67 @@ name_of Run = codes "run"
 name_of Fleet = codes "fleet"
 name_of Search = codes "search"
 name_of Explain = codes "explain"
+name_of (Replace options) = codes "replace"
+
+-- the action prints a plan of its own
+abbrev pub prints_plan : Action → Bool
+prints_plan Check = false
+prints_plan Run = false
+prints_plan Fleet = false
+prints_plan Search = true
+prints_plan Explain = false
+prints_plan (Replace options) = true
+
+-- the text is this number
+abbrev pub IsSpelled : Text → ℕ → Type 0
+IsSpelled text n = IsNumeral 10 (without_leading_plus text) × (n ≡ digits_value 10 (without_leading_plus text))
+
+-- there is a text, and it is this number
+abbrev pub IsNumberIn : Option Text → ℕ → Type 0
+IsNumberIn None n = ⊥
+IsNumberIn (Some text) n = IsSpelled text n
+
+-- the number that a text is, or this one if there is no text
+abbrev pub IsNumberOr : ℕ → Option Text → ℕ → Type 0
+IsNumberOr other None n = n ≡ other
+IsNumberOr other (Some text) n = IsSpelled text n
 
 -- the number that a text is, or 4 if there is no text
 abbrev pub IsNumberOf : Option Text → ℕ → Type 0
-IsNumberOf None n = n ≡ 4
-IsNumberOf (Some text) n = IsNumeral 10 (without_leading_plus text) × (n ≡ digits_value 10 (without_leading_plus text))
+IsNumberOf = IsNumberOr 4
+
+-- the number that a text is, if there is a text
+abbrev pub IsGiven : Option Text → Option ℕ → Type 0
+IsGiven text None = text ≡ None
+IsGiven text (Some n) = IsNumberIn text n
+
+-- the text is there, and isn't a number below 256
+abbrev pub IsNoNumber : Option Text → Type 0
+IsNoNumber None = ⊥
+IsNoNumber (Some text) = (n : ℕ) → n < 2 ^ 8 → IsSpelled text n → ⊥
 
 -- an option without a value is given
 abbrev pub is_asked : Option Text → Bool
 is_asked None = false
 is_asked (Some text) = bytes_eq text (codes "true")
+
+-- what the rows have for the options of a replacement; without a number the group is 0
+pub record AreOptions (rows : List Row) (o : ReplaceOptions) : Type 0 where
+  pub group : IsNumberOr 0 (one_of (codes "group") rows) o.group
+  pub configuration : IsGiven (one_of (codes "configuration") rows) o.configuration
+  pub old : IsNumberIn (one_of (codes "out") rows) o.old
+  pub new : IsNumberIn (one_of (codes "in") rows) o.new
+  pub tail : o.is_tail ≡ is_asked (first_of (codes "tail") rows)
+  pub direct : o.is_direct ≡ is_asked (first_of (codes "direct") rows)
+
+-- the rows have the options of the action
+abbrev pub HasOptions : List Row → Action → Type 0
+HasOptions rows Check = Unit {0}
+HasOptions rows Run = Unit {0}
+HasOptions rows Fleet = Unit {0}
+HasOptions rows Search = Unit {0}
+HasOptions rows Explain = Unit {0}
+HasOptions rows (Replace options) = AreOptions rows options
 
 -- the subcommand that clap entered, and what it has for each id
 pub record IsJob (found : Option (Text × List Row)) (j : Job) : Type 0 where
@@ -33,3 +85,4 @@ pub record IsJob (found : Option (Text × List Row)) (j : Job) : Type 0 where
   pub script : option_map (λ w. w.now) j.script ≡ first_of (codes "script") rows
   pub workers : IsNumberOf (one_of (codes "workers") rows) j.workers
   pub json : j.json ≡ is_asked (first_of (codes "json") rows)
+  pub options : HasOptions rows j.action

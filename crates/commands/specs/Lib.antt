@@ -12,6 +12,7 @@ pub mod RunLines
 pub mod FleetText
 pub mod Answers
 pub mod Read
+pub mod Replaces
 pub mod Unfound
 pub mod Searched
 pub mod UsageText

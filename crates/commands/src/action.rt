@@ -1,6 +1,27 @@
 //! The actions of the program.
 
-ghost use Rattle.std.specs.Prelude.{◌≤◌};
+ghost use Rattle.std.specs.Prelude.{◌<◌, ◌≤◌, ◌^◌, unwrap_or};
+
+/// How a member of a group is to be replaced.
+#[derive(Clone, Copy, Debug, PartialEq, Eq)]
+pub struct ReplaceOptions {
+    /// The number of the group.
+    pub group: u8,
+    /// The number of the configuration that is left; 0 if none is given.
+    pub configuration: Option<u8>,
+    /// The member that goes.
+    pub old: u8,
+    /// The member that comes in its place.
+    pub new: u8,
+    /// Whether the new member keeps the log alone.
+    pub is_tail: bool,
+    /// Whether the joint configuration is left out.
+    pub is_direct: bool,
+    ghost group_fits: { group < 2 ^ 8 },
+    ghost configuration_fits: { unwrap_or configuration 0 < 2 ^ 8 },
+    ghost old_fits: { old < 2 ^ 8 },
+    ghost new_fits: { new < 2 ^ 8 },
+}
 
 /// An action of the program.
 #[derive(Clone, Copy, Debug, PartialEq, Eq)]
@@ -15,6 +36,8 @@ pub enum Action {
     Search,
     /// Describe a plan in words.
     Explain,
+    /// Replace a member of a plan.
+    Replace(ReplaceOptions),
 }
 
 /// An action, the names of its files as given, and the number of workers.

@@ -71,3 +71,25 @@ Exit status, as of `check`, or of `run` with a script: 0 for yes; 1 for a fault 
 be read or its text isn't a plan's or a script's, or no refusal has the number (told on standard error).
 
 Example: plan_tool explain examples/write_three.json";
+
+/// Of `replace`.
+pub const REPLACE: &str = "\
+Reads the plan, and prints it as one line with new configurations behind those of the group, and with a certificate for
+each claim. The configurations that the plan has stay as they are. -c names the one that the replacement leaves, which
+may be left out if the group has only one.
+
+The first new configuration is the joint one: it has both members, writes satisfy the old and the new write expression,
+and reads the old or the new read expression. So writes go on while the new member hydrates, which is to copy what it
+lacks from the others, and either way is still open: the second new configuration is the new membership, the third one
+leads back to the old membership. Step to one of them once the new member is whole, or once it is given up.
+
+--direct leaves the joint configuration out: one step leads to the new membership, if that step can be certified. It has
+no way back, and until the new member is whole the group has a member less to read from.
+
+The new member is full, which is to say that it keeps pages, if the old one is. With --tail it keeps the log alone.
+
+Exit status: 0 where the plan is printed; 1 where it isn't and a line says why; 2 where the file can't be read or its
+text isn't a plan's (told on standard error). A fault of the plan that would be printed is told as `check` does it. What
+is printed has the status 0 in `check`.
+
+Example: plan_tool replace examples/six_copies.json --out 5 --in 6 > replaced.json";

@@ -1,13 +1,16 @@
 //! A job, done on the contents of its files.
 
-ghost use Rattle.std.specs.Prelude.{◌≡◌, ◌≢◌, ◌≤◌, ◌<◌, IfErr, IfOk, IsSome, None, string_bytes};
+ghost use Rattle.std.specs.Prelude.{◌≡◌, ◌≢◌, ◌≤◌, ◌<◌, IfErr, IfOk, IsSome, None, false, string_bytes};
 ghost use Rattle.plan.specs.CheckedModel.{checked_model};
-ghost use Rattle.commands.specs.declared.action.Action.TheVariants.{Check, Explain, Fleet, Run, Search};
+ghost use Rattle.commands.specs.declared.action.Action.TheVariants.{Check, Explain, Fleet, Replace, Run, Search};
+ghost use Rattle.commands.specs.declared.action.ReplaceOptions.{ReplaceOptions as Options};
 ghost use Rattle.commands.specs.Answer.{IsSaid};
 ghost use Rattle.commands.specs.Answers.{AnswersOf, ChecksTo, FleetsTo, RunsTo, file_of, script_name};
 ghost use Rattle.commands.specs.Explains.{ExplainsTo};
 ghost use Rattle.commands.specs.FaultQuery.{ExplainsJob, HasFile, IsFileName};
 ghost use Rattle.commands.specs.Held.{HoldsCertified, HoldsFault};
+ghost use Rattle.commands.specs.Jobs.{prints_plan};
+ghost use Rattle.commands.specs.Replaces.{ReplacesTo};
 ghost use Rattle.commands.specs.Reports.{ExplainsAs, ExplainsFault, ReportsTo};
 ghost use Rattle.commands.specs.Searched.{SearchesTo};
 ghost use Rattle.commands.specs.ShownName.{shown_name};
@@ -24,13 +27,14 @@ use crate::inputs::checked;
 use crate::leaking::leak;
 use crate::names::shown_name;
 use crate::outputs::{Output, deliver};
-use crate::reply::{Reply, Stop};
+use crate::replacing::replaced;
+use crate::reply::{Edited, Reply, Stop};
 use crate::reporting::reported;
 use crate::run_explaining::explain_script;
 use crate::run_text::checked_line;
 use crate::running::{fleet, run};
 use crate::search::search;
-use crate::{Action, Job};
+use crate::{Action, Job, ReplaceOptions};
 use plan::CheckedPlan;
 use std::alloc::Global;
 use std::sync::Wait;
@@ -204,6 +208,31 @@ fn perform_search<H: Threads + Wait + Sync, P: FallibleRead, O: FallibleWrite, E
             out,
             err,
         ),
+        Err(stop) => refuse(alloc, &stop, out, err),
+    }
+}
+
+/// Performs a replacement, as [`perform`] does.
+fn perform_replace<H: Threads + Wait + Sync, P: FallibleRead, O: FallibleWrite, E: FallibleWrite>(
+    rt: &H,
+    alloc: Global,
+    job: &Job<'_>,
+    options: ReplaceOptions,
+    plan: &mut Source<P>,
+    out: &mut Output<O>,
+    err: &mut Output<E>,
+) -> u8
+    ensures status { result ≤ 2 }
+    ensures quiet { result < 2 → err.new ≡ err.old }
+    ensures ends { Ends O.contents E.contents (AnswersOf (file_of P.remaining job.now.plan.now plan.old plan.new)
+        (ReplacesTo options)) result out.old out.new err.old err.new }
+    ensures plan_read { FailsByRead P.answers plan.old plan.new }
+    ensures out_written { FailsByWrite O.answers out.old out.new }
+    ensures err_written { FailsByWrite E.answers err.old err.new }
+{
+    match replaced(rt, alloc, job, options, plan) {
+        Ok(Edited::Plan(line)) => deliver(0, line.as_slice(), b"", out, err),
+        Ok(Edited::Reason(line)) => deliver(1, line.as_bytes(), b"", out, err),
         Err(stop) => refuse(alloc, &stop, out, err),
     }
 }
@@ -439,8 +468,8 @@ fn perform_explain_script<P: FallibleRead, S: FallibleRead, O: FallibleWrite, E:
 
 /// Performs a job on the contents of its files, prints its answer, and returns the exit status: 0 for yes, 1 for a
 /// refusal, 2 for an input that can't be used (printed to `err` alone) or an output that can't be written. Only `run`,
-/// `fleet` and an `explain` with a script read the script; only `fleet` and `search` start threads. It may leak memory
-/// to the end of the process.
+/// `fleet` and an `explain` with a script read the script; only `fleet`, `search` and `replace` start threads. It may
+/// leak memory to the end of the process.
 pub fn perform<
     H: Threads + Wait + Sync,
     P: FallibleRead,
@@ -460,7 +489,7 @@ pub fn perform<
 
     // The status 0 of a check, an explanation of a plan or of a script over one, a run or a fleet says that the plan's
     // text spells a plan without a fault, whose quorums all meet.
-    ensures yes { job.now.action ≢ Search → HasFile job.now → result ≡ 0
+    ensures yes { prints_plan job.now.action ≡ false → HasFile job.now → result ≡ 0
         → HoldsCertified P.remaining plan.old }
 
     // A check answers 1 only where the text has a fault.
@@ -497,6 +526,13 @@ pub fn perform<
         (AnswersOf (file_of P.remaining job.now.plan.now plan.old plan.new) SearchesTo) result out.old out.new err.old
         err.new }
 
+    // A replacement prints the line of the text's fault; else, with the status 0, a plan without a fault that begins
+    // as the text's plan and has the configurations of the replacement behind those of the group; else the line of that
+    // plan's fault, or a line that says why there is none.
+    ensures replaces { (options : Options) → job.now.action ≡ Replace options → Ends O.contents E.contents
+        (AnswersOf (file_of P.remaining job.now.plan.now plan.old plan.new) (ReplacesTo options)) result out.old out.new
+        err.old err.new }
+
     // An explanation of a plan's text has the status and the last line of a check, on the same output; as JSON, the
     // status and what a check prints to standard error. One of a number prints the refusal with that number in words.
     ensures explains { job.now.action ≡ Explain → job.now.script ≡ None → Ends O.contents E.contents
@@ -525,5 +561,6 @@ pub fn perform<
             Some(name) => perform_explain_script(alloc, job, name, plan, script, out, err),
             None => perform_explain(alloc, job, plan, out, err),
         },
+        Action::Replace(options) => perform_replace(rt, alloc, job, options, plan, out, err),
     }
 }

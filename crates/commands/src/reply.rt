@@ -35,6 +35,15 @@ pub struct Report {
     ghost known: { status ≤ 2 },
 }
 
+/// The answer of a replacement.
+#[derive(Drop)]
+pub enum Edited {
+    /// The line of the new plan.
+    Plan(Vec<u8>),
+    /// The line that says why there is none.
+    Reason(String),
+}
+
 /// Why a job ends before its own answer.
 #[derive(Drop)]
 pub enum Stop<'a> {

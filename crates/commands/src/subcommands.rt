@@ -3,8 +3,10 @@
 ghost use Rattle.std.specs.Prelude.{◌≡◌, IfOk, false};
 ghost use Rattle.clap.specs.Words.{app_of, rule_of, with_subcommand};
 ghost use Rattle.clap.specs.declared.builder.command.Command.TheViews.{out-Command as fields_of};
-ghost use Rattle.commands.specs.CommandLine.{IsLeaf, file_rule, json_leaf, json_rule, other_file_rule, tool, program};
+ghost use Rattle.commands.specs.CommandLine.{IsLeaf, file_rule, flag_rule, json_leaf, other_file_rule, tool, program};
 ghost use Rattle.commands.specs.CommandLine.{file_leaf, fleet_leaf, script_leaf, workers_leaf, workers_rule};
+ghost use Rattle.commands.specs.CommandLine.{configuration_rule, group_rule, member_rule, members_leaf};
+ghost use Rattle.commands.specs.CommandLine.{places_leaf, replace_leaf};
 
 use crate::help;
 use clap::{Arg, ArgAction, Command, value_parser};
@@ -109,15 +111,15 @@ fn of_fleet<'a>(
     ))
 }
 
-/// Returns the option of JSON.
-fn json<'a>(alloc: Global) -> Arg<'a>
-    ensures rule { rule_of result ≡ json_rule }
+/// Returns an option without a value.
+fn flag<'a>(alloc: Global, id: &'a str, about: &'a str) -> Arg<'a>
+    ensures rule { rule_of result ≡ flag_rule id.entry.now }
     ensures local { result.global ≡ false }
 {
-    Arg::new(alloc, "json")
-        .long("json")
+    Arg::new(alloc, id)
+        .long(id)
         .action(ArgAction::SetTrue)
-        .help("Print the same as one line of JSON, of the form in docs/EXPLAIN.md")
+        .help(about)
 }
 
 /// Returns a subcommand of a plan's file, and of a script's if it is named, that may write JSON.
@@ -131,7 +133,104 @@ fn of_json<'a>(
 {
     let script = other_file(alloc, "script", "A script's file, whose run is explained");
     let command = of_file(alloc, name, about, notes)?.arg(script)?;
-    command.arg(json(alloc))
+    command.arg(flag(
+        alloc,
+        "json",
+        "Print the same as one line of JSON, of the form in docs/EXPLAIN.md",
+    ))
+}
+
+/// Returns an option with a member's number, which must be given.
+fn member<'a>(alloc: Global, id: &'a str, about: &'a str) -> Arg<'a>
+    ensures rule { rule_of result ≡ member_rule id.entry.now }
+    ensures local { result.global ≡ false }
+{
+    Arg::new(alloc, id)
+        .long(id)
+        .value_name("MEMBER")
+        .help(about)
+        .value_parser(value_parser!(u8).range(0..=63))
+        .required(true)
+}
+
+/// Returns the option with a group's number.
+fn group<'a>(alloc: Global) -> Arg<'a>
+    ensures rule { rule_of result ≡ group_rule }
+    ensures local { result.global ≡ false }
+{
+    Arg::new(alloc, "group")
+        .short('g')
+        .long("group")
+        .value_name("N")
+        .help("The group")
+        .value_parser(value_parser!(u8).range(0..=15))
+        .default_value("0")
+}
+
+/// Returns the option with a configuration's number.
+fn configuration<'a>(alloc: Global) -> Arg<'a>
+    ensures rule { rule_of result ≡ configuration_rule }
+    ensures local { result.global ≡ false }
+{
+    Arg::new(alloc, "configuration")
+        .short('c')
+        .long("configuration")
+        .value_name("N")
+        .help(
+            "The configuration that the replacement leaves; may be left out if the group has only one",
+        )
+        .value_parser(value_parser!(u8).range(0..=63))
+}
+
+/// Returns a subcommand of a plan's file, a number of workers and two members.
+fn of_members<'a>(
+    alloc: Global,
+    name: &'a str,
+    about: &'a str,
+    notes: &'a str,
+) -> Result<Command<'a>, AllocError>
+    ensures { IfOk result (IsLeaf (members_leaf name.entry.now)) }
+{
+    let command = of_workers(alloc, name, about, notes)?;
+    let command = command.arg(member(alloc, "out", "The member that goes"))?;
+    command.arg(member(alloc, "in", "The member that comes in its place"))
+}
+
+/// Returns such a subcommand with the group and the configuration.
+fn of_places<'a>(
+    alloc: Global,
+    name: &'a str,
+    about: &'a str,
+    notes: &'a str,
+) -> Result<Command<'a>, AllocError>
+    ensures { IfOk result (IsLeaf (places_leaf name.entry.now)) }
+{
+    let command = of_members(alloc, name, about, notes)?;
+    let command = command.arg(group(alloc))?;
+    command.arg(configuration(alloc))
+}
+
+/// Returns a subcommand with all options of a replacement.
+fn of_replace<'a>(
+    alloc: Global,
+    name: &'a str,
+    about: &'a str,
+    notes: &'a str,
+) -> Result<Command<'a>, AllocError>
+    ensures { IfOk result (IsLeaf (replace_leaf name.entry.now)) }
+{
+    let command = of_places(alloc, name, about, notes)?;
+    let tail = flag(
+        alloc,
+        "tail",
+        "The new member keeps the log alone, even if the old one keeps pages",
+    );
+    let command = command.arg(tail)?;
+    command.arg(flag(
+        alloc,
+        "direct",
+        "Leave out the configuration with both members, if that can be certified",
+    ))
 }
 
 fn add<'a>(command: Command<'a>, leaf: Command<'a>) -> Result<Command<'a>, AllocError>
@@ -176,5 +275,12 @@ pub fn command_line<'a>(alloc: Global) -> Result<Command<'a>, AllocError>
         "Says what a plan survives, why its claims fail and where a script fails, or what a refusal means",
         help::EXPLAIN,
     )?;
-    add(command, explain)
+    let command = add(command, explain)?;
+    let replace = of_replace(
+        alloc,
+        "replace",
+        "Writes a plan in which a member may be replaced",
+        help::REPLACE,
+    )?;
+    add(command, replace)
 }

@@ -1,13 +1,15 @@
 //! What a command line asks for.
 
-ghost use Rattle.std.specs.Prelude.{◌≡◌, ◌≢◌, ◌≤◌, ◌<◌, ◌^◌, ℕ, IfErr, IfNone, IfOk, IfSome, codes, map, option_map};
-ghost use Rattle.clap.specs.Words.{first_of, found_of, one_of, rows_of, subcommand_of, subcommand_rows_of};
+ghost use Rattle.std.specs.Prelude.{◌≡◌, ◌≢◌, IfErr, IfNone, IfOk, IfSome, codes, map};
+ghost use Rattle.clap.specs.Words.{found_of, rows_of, subcommand_of, subcommand_rows_of};
 ghost use Rattle.commands.specs.CommandLine.{tool};
-ghost use Rattle.commands.specs.Jobs.{IsJob, IsNumberOf, is_asked, name_of};
+ghost use Rattle.commands.specs.Jobs.{AreOptions, HasOptions, IsJob, name_of};
 ghost use Rattle.commands.specs.Usage.{IsMissing, IsRefusal, IsRightFor};
 ghost use Rattle.commands.specs.declared.action.Action.{Action as ActionName};
+ghost use Rattle.commands.specs.declared.action.ReplaceOptions.{ReplaceOptions as OptionsName};
 
 use crate::action::{Action, Job};
+use crate::options::{is_given, options_of, text_of, workers_of};
 use crate::subcommands::command_line;
 use crate::usage::Usage;
 use clap::ArgMatches;
@@ -43,16 +45,24 @@ fn refusal(error: clap::Error) -> Usage
     }
 }
 
-/// Returns the first value of an id.
-fn text_of<'a>(matches: &ArgMatches<'a>, id: &str) -> Option<&'a str>
-    ensures { option_map (λ w. w.now) result ≡ first_of id.now (rows_of (found_of matches.now)) }
+/// Returns the replacement that the options ask for.
+fn replace_of(matches: &ArgMatches<'_>) -> Option<Action>
+    ensures named { IfSome result (λ action. name_of action ≡ codes "replace") }
+    ensures options { IfSome result (HasOptions (rows_of (found_of matches.now))) }
+    ensures none { IfNone result ((o : OptionsName) → AreOptions (rows_of (found_of matches.now)) o → ⊥) }
 {
-    matches.get_str(id)
+    match options_of(matches) {
+        Some(options) => Some(Action::Replace(options)),
+        None => None,
+    }
 }
 
-fn action_of(name: &str) -> Option<Action>
+/// Returns the action of a subcommand with this name, with its options.
+fn action_of(name: &str, matches: &ArgMatches<'_>) -> Option<Action>
     ensures named { IfSome result (λ action. name.now ≡ name_of action) }
-    ensures others { IfNone result ((action : ActionName) → name.now ≢ name_of action) }
+    ensures options { IfSome result (HasOptions (rows_of (found_of matches.now))) }
+    ensures others { IfNone result ((action : ActionName) → HasOptions (rows_of (found_of matches.now)) action
+        → name.now ≢ name_of action) }
 {
     match name {
         "check" => Some(Action::Check),
@@ -60,43 +70,8 @@ fn action_of(name: &str) -> Option<Action>
         "fleet" => Some(Action::Fleet),
         "search" => Some(Action::Search),
         "explain" => Some(Action::Explain),
+        "replace" => replace_of(matches),
         _ => None,
-    }
-}
-
-/// Returns the number of workers that the option gives, 4 if there is no option.
-fn number_of(matches: &ArgMatches<'_>) -> Option<u8>
-    ensures number { IfSome result (IsNumberOf (one_of (codes "workers") (rows_of (found_of matches.now)))) }
-    ensures none { IfNone result ((n : ℕ) → n < 2 ^ 8
-        → IsNumberOf (one_of (codes "workers") (rows_of (found_of matches.now))) n → ⊥) }
-{
-    match matches.try_get_one::<u8>("workers") {
-        Ok(None) => Some(4),
-        Ok(Some(number)) => Some(number),
-        Err(_) => None,
-    }
-}
-
-/// Returns the number of workers if it is from 1 to 16; 4 if there is no option.
-fn workers_of(matches: &ArgMatches<'_>) -> Option<u8>
-    ensures number { IfSome result (IsNumberOf (one_of (codes "workers") (rows_of (found_of matches.now)))) }
-    ensures range { IfSome result (λ n. (1 ≤ n) × (n ≤ 16)) }
-    ensures none { IfNone result ((n : ℕ) → 1 ≤ n → n ≤ 16
-        → IsNumberOf (one_of (codes "workers") (rows_of (found_of matches.now))) n → ⊥) }
-{
-    match number_of(matches) {
-        Some(number) if 1 <= number && number <= 16 => Some(number),
-        _ => None,
-    }
-}
-
-/// Returns whether the JSON option is given.
-fn json_of(matches: &ArgMatches<'_>) -> bool
-    ensures { result ≡ is_asked (first_of (codes "json") (rows_of (found_of matches.now))) }
-{
-    match text_of(matches, "json") {
-        Some(text) => text == "true",
-        None => false,
     }
 }
 
@@ -107,7 +82,7 @@ fn job_of<'a>(matches: &ArgMatches<'a>) -> Result<Job<'a>, Usage>
     let Some((name, inner)) = matches.subcommand() else {
         return Err(Usage::Missing("no subcommand"));
     };
-    let Some(action) = action_of(name) else {
+    let Some(action) = action_of(name, inner) else {
         return Err(Usage::Missing("no such subcommand"));
     };
     let Some(plan) = text_of(inner, "plan") else {
@@ -122,6 +97,6 @@ fn job_of<'a>(matches: &ArgMatches<'a>) -> Result<Job<'a>, Usage>
         plan,
         script,
         workers,
-        json: json_of(inner),
+        json: is_given(inner, "json"),
     })
 }

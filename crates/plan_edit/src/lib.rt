@@ -13,7 +13,9 @@ mod splicing;
 #[cfg(test)]
 mod tests;
 mod text;
+mod wording;
 
 pub use refusal::EditRefusal;
 pub use replacement::Replacement;
 pub use replacing::replace;
+pub use wording::reason;

@@ -30,8 +30,9 @@ fn texts<'a>(alloc: Global, words: &'a [String]) -> Result<Vec<&'a str>, AllocEr
     words.iter().map(|word| word.as_str()).collect(alloc)
 }
 
-/// Reads the words of the command line and performs the job. A search and a fleet start their threads with the second
-/// handle. A script is opened when it is read, after the plan was checked: opening a named pipe waits for its writer.
+/// Reads the words of the command line and performs the job. A search, a replacement and a fleet start their threads
+/// with the second handle. A script is opened when it is read, after the plan was checked: opening a named pipe waits
+/// for its writer.
 fn run<H: Threads + Wait + Sync>(rt: &HostRuntime, threads: &H) -> u8
     ensures { result ≤ 2 }
 {

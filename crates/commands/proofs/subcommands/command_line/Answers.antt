@@ -10,4 +10,5 @@ returns c =
     let two = c.in_ok-command-2.ensures ∙ ap₂ with_subcommand one (ap top c.in_ok-run.ensures.app) in
     let three = c.in_ok-command-3.ensures ∙ ap₂ with_subcommand two (ap top c.in_ok-fleet.ensures.app) in
     let four = c.in_ok-command-4.ensures ∙ ap₂ with_subcommand three (ap top c.in_ok-search.ensures.app) in
-    IfOk-weaker c.add-5.result _ _ (λ r h. h ∙ ap₂ with_subcommand four (ap top c.in_ok-explain.ensures.app)) c.add-5.ensures
+    let five = c.in_ok-command-5.ensures ∙ ap₂ with_subcommand four (ap top c.in_ok-explain.ensures.app) in
+    IfOk-weaker c.add-6.result _ _ (λ r h. h ∙ ap₂ with_subcommand five (ap top c.in_ok-replace.ensures.app)) c.add-6.ensures

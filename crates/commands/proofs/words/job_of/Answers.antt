@@ -13,5 +13,6 @@ returns-clause-job c =
       plan = sym c.in-Some-text_of.ensures;
       script = c.text_of-script.ensures;
       workers = c.in-Some-workers_of.ensures.number;
-      json = c.json_of.ensures;
+      json = c.is_given.ensures;
+      options = c.in-Some-action_of.ensures.options;
     }
