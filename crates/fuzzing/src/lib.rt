@@ -1,8 +1,34 @@
-//! Tools for random runs of the volume: random numbers from a seed, and verdicts over a command's output.
+//! Random runs of a volume: scripts over a plan from a seed, and verdicts over what a run of them prints.
 #![tactic(auto)]
 
+mod broken;
+mod counts;
+mod judge;
+mod long_log;
+mod numbers;
+mod outcome;
+mod places;
 mod rng;
+mod scenario;
+mod schedule;
+mod shortening;
+mod simulation;
+mod stages;
+mod stragglers;
+mod strays;
+mod tasks;
+mod text;
 mod verdicts;
+mod written;
 
+pub use broken::Broken;
+pub use counts::Counts;
+pub use judge::check_promises;
+pub use outcome::Outcome;
 pub use rng::Rng;
-pub use verdicts::{CommandOutput, is_given, is_kept};
+pub use scenario::Scenario;
+pub use schedule::Events;
+pub use shortening::{ScriptTest, shortened};
+pub use simulation::{ScriptRunner, Simulation, Verdict, simulate};
+pub use text::Text;
+pub use verdicts::CommandOutput;

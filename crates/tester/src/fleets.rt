@@ -1,8 +1,6 @@
 //! Checks the output of a fleet against that of a run.
 
-use crate::broken::Broken;
-use crate::judge::check_promises;
-use crate::outcome::Outcome;
+use fuzzing::{Broken, Outcome, check_promises};
 
 /// Returns whether a fleet's journal is a run of all events, and its status and its recoveries are right.
 pub fn check_fleet(status: u8, fleet: &Outcome, drivers: u8, events: u64) -> Result<(), Broken> {

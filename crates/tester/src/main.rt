@@ -4,25 +4,13 @@
 #![tactic(auto)]
 
 mod books;
-mod broken;
 mod fleets;
 mod groups;
 mod invocations;
-mod judge;
-mod long;
-mod outcome;
 mod plans;
-mod schedule;
 mod seeds;
-mod short_list;
-mod stages;
-mod stragglers;
-mod strays;
-mod tasks;
-mod text;
 mod trial;
 mod words;
-mod written;
 
 use books::try_books;
 use seeds::{report, show};

@@ -1,7 +1,7 @@
 //! Random runs: a plan and a script for each seed, judged by what is printed.
 
-use crate::broken::Broken;
-use crate::trial::{Counts, Trial};
+use crate::trial::Trial;
+use fuzzing::{Broken, Counts};
 use std::alloc::Global;
 use std::io;
 use std::sync::Wait;
@@ -59,6 +59,7 @@ pub fn report<H: Threads + Wait + Sync>(
                 events,
                 acknowledged,
                 finds,
+                ..
             } = counts;
             println!(rt;
                 "runs {runs}\nevents {events}\nacknowledged {acknowledged}\nfinds {finds}"
@@ -76,7 +77,14 @@ pub fn report<H: Threads + Wait + Sync>(
 
 /// Prints the plan and the script of a seed.
 pub fn show(rt: &HostRuntime, seed: u64) -> io::Result<u8> {
-    let trial = Trial::new(rt.alloc(), seed)?;
-    print!(rt; "{}\n{}", trial.plan, trial.script)?;
-    Ok(0)
+    match Trial::new(rt.alloc(), seed) {
+        Ok(trial) => {
+            print!(rt; "{}\n{}", trial.plan, trial.scenario.script)?;
+            Ok(0)
+        }
+        Err(broken) => {
+            println!(rt; "run {seed}: {}", broken.what)?;
+            Ok(1)
+        }
+    }
 }

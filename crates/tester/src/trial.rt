@@ -1,92 +1,51 @@
 //! A run of a seed: its plan, its script, and the check of its output.
 
-use crate::broken::Broken;
 use crate::fleets::{check_alike, check_fleet};
 use crate::invocations::{fleet, run, say};
-use crate::judge::{Shown, check_run};
-use crate::outcome::Outcome;
-use crate::plans::Plan;
-use crate::schedule::Schedule;
-use crate::written::{Issue, Written};
+use crate::plans::RandomPlan;
 use commands::Job;
-use fuzzing::{CommandOutput, Rng};
+use fuzzing::{Broken, Counts, Events, Outcome, Rng, Scenario};
+use plan::{CheckedPlan, check_plan, read_plan};
 use std::alloc::{AllocError, Global};
-use std::sync::Wait;
+use std::sync::{Arc, Wait};
 use std::thread::Threads;
+
+/// What happens in the scripts.
+const EVENTS: Events = Events {
+    restarts: true,
+    steps: true,
+};
 
 /// The plan and the script of a seed.
 #[derive(Drop)]
 pub struct Trial {
+    /// The plan's text.
     pub plan: String,
-    pub script: String,
-    /// The number of lines of the script.
-    lines: u64,
-    /// The number of `wait` lines.
-    waits: u64,
-    /// The transactions that the script issues.
-    issues: Vec<Issue>,
+    /// The script, and what is known of it.
+    pub scenario: Scenario,
 }
 
-/// What was checked in all runs.
-#[derive(Clone, Copy)]
-pub struct Counts {
-    pub runs: u64,
-    /// The number of events that weren't refused.
-    pub events: u64,
-    /// The number of acknowledged transactions: those up to their writer's durable point.
-    pub acknowledged: u64,
-    /// The number of pairs of a writer and a later recovery that were compared.
-    pub finds: u64,
-}
-
-impl Counts {
-    /// Makes zero counts.
-    pub fn new() -> Counts {
-        Counts {
-            runs: 0,
-            events: 0,
-            acknowledged: 0,
-            finds: 0,
-        }
-    }
-
-    /// Adds a run.
-    fn add(&mut self, events: u64, shown: Shown) {
-        self.runs = self.runs.saturating_add(1);
-        self.events = self.events.saturating_add(events);
-        self.acknowledged = self.acknowledged.saturating_add(shown.acknowledged);
-        self.finds = self.finds.saturating_add(shown.finds);
+/// Returns the checked plan of a text.
+fn checked(alloc: Global, text: &str) -> Result<CheckedPlan, Broken> {
+    let Ok(plan) = read_plan(alloc, text.as_bytes()) else {
+        return Err(Broken::new("the text is no plan's", [0; 4]));
+    };
+    match check_plan(alloc, plan) {
+        Ok(plan) => Ok(plan),
+        Err(_refused) => Err(Broken::new("the plan has a fault", [0; 4])),
     }
 }
 
 impl Trial {
     /// Returns the plan and the script of this seed.
-    pub fn new(alloc: Global, seed: u64) -> Result<Trial, AllocError> {
+    pub fn new(alloc: Global, seed: u64) -> Result<Trial, Broken> {
         let mut rng = Rng::new(seed);
-        let plan = Plan::draw(&mut rng);
-        let plan_text = plan.text(alloc).finished()?;
-        let mut schedule = Schedule::new(alloc, plan, rng);
-        schedule.fill(alloc);
-        let written = schedule.written;
-        let Written {
-            text,
-            lines,
-            waits,
-            issues,
-            ..
-        } = written;
-        Ok(Trial {
-            plan: plan_text,
-            script: text.finished()?,
-            lines,
-            waits,
-            issues,
-        })
-    }
-
-    /// Returns the number of events in the output of a fleet.
-    fn events(&self) -> u64 {
-        self.lines.saturating_sub(self.waits)
+        let plan = RandomPlan::draw(&mut rng).text(alloc).finished()?;
+        let Ok(checked) = Arc::new(alloc, checked(alloc, plan.as_str())?) else {
+            return Err(Broken::from(AllocError));
+        };
+        let scenario = Scenario::new(alloc, checked, rng, EVENTS)?;
+        Ok(Trial { plan, scenario })
     }
 
     /// Returns the status of a job over the plan and the script, and its output.
@@ -97,7 +56,7 @@ impl Trial {
         job: &Job<'_>,
     ) -> Result<(u8, Outcome), Broken> {
         let plan = Ok(self.plan.as_bytes());
-        let output = say(rt, alloc, job, plan, self.script.as_str())?;
+        let output = say(rt, alloc, job, plan, self.scenario.script.as_str())?;
         Ok((output.status, Outcome::of(alloc, &output)?))
     }
 
@@ -110,7 +69,7 @@ impl Trial {
     ) -> Result<(), Broken> {
         let drivers: u8 = if run.is_some() { 1 } else { 4 };
         let (status, fleet) = self.outcome(rt, alloc, &fleet(drivers))?;
-        check_fleet(status, &fleet, drivers, self.events())?;
+        check_fleet(status, &fleet, drivers, self.scenario.events())?;
         match run {
             Some(run) => check_alike(run, &fleet),
             None => Ok(()),
@@ -126,7 +85,7 @@ impl Trial {
         counts: &mut Counts,
     ) -> Result<(), Broken> {
         let (status, outcome) = self.outcome(rt, alloc, &run())?;
-        let shown = check_run(alloc, &outcome, self.lines, self.issues.as_slice())?;
+        let shown = self.scenario.check(alloc, &outcome)?;
         if (status == 0) != (outcome.refusals() == 0) {
             let numbers = [u64::from(status), outcome.refusals(), 0, 0];
             return Err(Broken::new("a run's status (status, refused)", numbers));

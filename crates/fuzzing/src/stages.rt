@@ -1,7 +1,7 @@
 //! The stages of tasks.
 
+use crate::numbers::Numbers;
 use crate::schedule::Schedule;
-use crate::short_list::ShortList;
 use crate::tasks::{Stage, Task};
 use crate::written::Receiver;
 use std::alloc::Global;
@@ -28,12 +28,12 @@ impl Schedule {
     }
 
     /// Returns the groups of a transaction's changes.
-    fn groups_of_changes(&mut self) -> ShortList {
-        let mut groups = ShortList::new();
+    fn groups_of_changes(&mut self) -> Numbers {
+        let mut groups = Numbers::new();
         let changes = self.rng.from(1, 4);
         for _ in 0..changes {
-            let is_second = self.viewed == 2 && self.rng.chance(50);
-            groups.push(u8::from(is_second));
+            let group = self.rng.below(usize::from(self.viewed));
+            groups.push(u8::try_from(group).unwrap_or(0));
         }
         groups
     }
@@ -66,38 +66,29 @@ impl Schedule {
 
     /// Begins a task in which a group steps to a child of its configuration.
     pub fn begin_step(&mut self, alloc: Global) {
-        let group = if self.joined == 2 && self.rng.chance(50) {
-            1
-        } else {
-            0
-        };
-        let children = self.plan.family.children(self.place(group));
-        let Some(child) = self.rng.one_of(children) else {
+        let group = self.joined_group();
+        let children = self.children(group);
+        let Some(child) = self.rng.one_of(children.as_slice()) else {
             self.begin_write(alloc);
             return;
         };
         let line = self.written.of_node("advance", group, child);
         self.written.note(line, 1, Receiver::Nodes(group));
-        let [first, second] = self.places;
-        self.places = if group == 0 {
-            [child, second]
-        } else {
-            [first, child]
-        };
+        self.set_place(group, child);
         let mut task = Task::new(alloc, Stage::Ask, self.clients);
         task.group = group;
         let members = self.members(group);
-        self.send(&mut task, (line, 1), group, members);
+        self.send(&mut task, (line, 1), group, members.as_slice());
         self.keep(task);
     }
 
     /// Moves a task that has delivered and taken all to its next stage.
-    pub fn next_stage(&mut self, task: &mut Task) {
+    pub fn next_stage(&mut self, alloc: Global, task: &mut Task) {
         match task.stage {
             Stage::View(line) => self.be_born(task, line),
             Stage::Cut => self.cut(task),
             Stage::Open => self.open(task),
-            Stage::Ask => self.ask(task),
+            Stage::Ask => self.ask(alloc, task),
             Stage::Send => self.copy(task),
             Stage::Hydrate => self.hydrate(task),
             Stage::Refresh => self.refresh(task),
@@ -130,31 +121,30 @@ impl Schedule {
         task.stage = Stage::Finished;
     }
 
-    /// Sends a new member's request for copies to the old members.
-    fn ask(&mut self, task: &mut Task) {
+    /// Begins a task for each member that a step adds: it asks the members of the group for copies.
+    fn ask(&mut self, alloc: Global, task: &mut Task) {
         let group = task.group;
         let members = self.members(group);
-        let fresh = self.plan.family.fresh(self.place(group));
-        let asked = task
-            .answers
-            .iter()
-            .find(|a| Some(a.member) == fresh)
-            .copied();
-        task.answers.clear();
-        task.stage = Stage::Send;
-        if let Some(asked) = asked {
-            self.send(task, (asked.line, 1), group, members);
+        let fresh = self.fresh(group, self.place(group));
+        for _ in 0..task.answers.len() {
+            let Some(answer) = task.answers.pop() else {
+                break;
+            };
+            if fresh.contains(answer.member) {
+                let mut copying = Task::new(alloc, Stage::Send, task.client);
+                copying.group = group;
+                copying.fresh = answer.member;
+                self.send(&mut copying, (answer.line, 1), group, members.as_slice());
+                self.keep(copying);
+            }
         }
+        task.stage = Stage::Refresh;
     }
 
     /// Sends the copies to the new member.
     fn copy(&mut self, task: &mut Task) {
-        let group = task.group;
+        let (group, fresh) = (task.group, task.fresh);
         task.stage = Stage::Hydrate;
-        let Some(fresh) = self.plan.family.fresh(self.place(group)) else {
-            task.answers.clear();
-            return;
-        };
         for _ in 0..task.answers.len() {
             let Some(copy) = task.answers.pop() else {
                 break;
@@ -169,10 +159,8 @@ impl Schedule {
     /// Lets the new member become whole.
     fn hydrate(&mut self, task: &mut Task) {
         task.answers.clear();
-        task.stage = Stage::Refresh;
-        if let Some(fresh) = self.plan.family.fresh(self.place(task.group)) {
-            self.written.of_node("hydrate", task.group, fresh);
-        }
+        task.stage = Stage::Finished;
+        self.written.of_node("hydrate", task.group, task.fresh);
     }
 
     /// Sends the newest client a View of the places.
@@ -215,6 +203,6 @@ impl Schedule {
         self.written.note(line, 1, Receiver::Nodes(group));
         task.stage = Stage::Finished;
         let members = self.members(group);
-        self.send(task, (line, 1), group, members);
+        self.send(task, (line, 1), group, members.as_slice());
     }
 }

@@ -2,8 +2,8 @@
 
 use crate::broken::Broken;
 use crate::outcome::{Find, Outcome, Writer};
+use crate::verdicts::{is_given, is_kept};
 use crate::written::Issue;
-use fuzzing::{is_given, is_kept};
 use std::alloc::{AllocError, Global};
 
 /// The last record of a transaction that was issued.
@@ -18,6 +18,8 @@ struct End {
 pub struct Shown {
     /// Transactions that are acknowledged: at or below their writer's durable point.
     pub acknowledged: u64,
+    /// Recoveries that have cut.
+    pub recoveries: u64,
     /// Pairs of a writer and a later recovery that were compared.
     pub finds: u64,
 }
@@ -244,6 +246,7 @@ pub fn check_run(
     }
     Ok(Shown {
         acknowledged,
+        recoveries: outcome.finds.len() as u64,
         finds,
     })
 }

@@ -1,22 +1,43 @@
 //! A random script: tasks that take turns, and lines that belong to no task.
 
-use crate::plans::{Plan, Side};
-use crate::short_list::ShortList;
+use crate::numbers::Numbers;
+use crate::rng::Rng;
 use crate::tasks::{Answered, Stage, Task};
 use crate::written::{Delivery, Message, Receiver, Written};
-use fuzzing::Rng;
+use plan::CheckedPlan;
+use quorum_expr::MemberSet;
 use std::alloc::Global;
+use std::sync::Arc;
 
 /// The most clients of a script.
 const MOST_CLIENTS: u32 = 24;
 
+/// The most groups of a plan.
+const GROUPS: usize = 16;
+
 /// The most tasks at a time.
 const MOST_TASKS: usize = 3;
+
+/// The least LAL of a plan whose scripts may begin with a long log.
+const LONG_LAL: u64 = 32;
+
+/// The most members of a group whose log may be long.
+const LONG_MEMBERS: usize = 8;
+
+/// What happens in a script beside writes, reads, recoveries, losses and repetitions.
+#[derive(Clone, Copy, Debug, PartialEq, Eq)]
+pub struct Events {
+    /// Nodes restart.
+    pub restarts: bool,
+    /// Groups step along the plan.
+    pub steps: bool,
+}
 
 /// A script under construction.
 #[derive(Drop)]
 pub struct Schedule {
-    pub plan: Plan,
+    pub plan: Arc<CheckedPlan>,
+    pub events: Events,
     pub rng: Rng,
     pub written: Written,
     /// The number of clients.
@@ -24,54 +45,45 @@ pub struct Schedule {
     /// The clients but the first that may be open, in the order in which they opened.
     pub open: Vec<u32>,
     /// The configuration of each group.
-    pub places: [u8; 2],
+    pub places: [u8; GROUPS],
     /// The number of groups that have joined.
     pub joined: u8,
     /// The number of groups in the last View that the newest client took.
     pub viewed: u8,
     /// Members in the order in which writes prefer them.
-    favourites: ShortList,
+    pub favourites: Numbers,
     /// Messages that weren't delivered in time.
     late: Vec<Delivery>,
     tasks: Vec<Task>,
     /// How many of 100 messages are lost.
-    loss: usize,
+    pub loss: usize,
     /// The number of messages of a copy or an install of the first group.
     pub pieces: u64,
 }
 
 impl Schedule {
     /// Returns the beginning of a script over this plan.
-    pub fn new(alloc: Global, plan: Plan, mut rng: Rng) -> Schedule {
-        let mut favourites = ShortList::of(&[0, 1, 2, 3, 4, 5, 6, 7]);
+    pub fn new(alloc: Global, plan: Arc<CheckedPlan>, mut rng: Rng, events: Events) -> Schedule {
+        let mut favourites = Numbers::of_set(MemberSet::empty().complement());
         rng.shuffle(favourites.as_mut_slice());
         let loss = rng.one_of(&[0, 0, 10, 40]).unwrap_or(0);
+        let born = plan.born();
         Schedule {
             plan,
+            events,
             rng,
             written: Written::new(alloc),
             clients: 1,
             open: Vec::new(alloc),
-            places: [0; 2],
-            joined: plan.born,
-            viewed: plan.born,
+            places: [0; GROUPS],
+            joined: born,
+            viewed: born,
             favourites,
             late: Vec::new(alloc),
             tasks: Vec::new(alloc),
             loss,
             pieces: 1,
         }
-    }
-
-    /// Returns the configuration of a group.
-    pub fn place(&self, group: u8) -> u8 {
-        let [first, second] = self.places;
-        if group == 0 { first } else { second }
-    }
-
-    /// Returns the members of a group.
-    pub fn members(&self, group: u8) -> &'static [u8] {
-        self.plan.family.members(self.place(group))
     }
 
     /// Returns the newest writer.
@@ -89,55 +101,6 @@ impl Schedule {
             Some(later) => self.open.get(later).copied().unwrap_or(1),
             None => 1,
         }
-    }
-
-    /// Returns members in a random order.
-    pub fn shuffled(&mut self, members: &[u8]) -> ShortList {
-        let mut list = ShortList::of(members);
-        self.rng.shuffle(list.as_mut_slice());
-        list
-    }
-
-    /// Returns some of these members, at least as many as needed.
-    fn some_of(&mut self, side: Side) -> ShortList {
-        let members = self.shuffled(side.members);
-        let more = side.members.len().saturating_sub(side.least);
-        let count = self.rng.from(side.least, more.saturating_add(1));
-        ShortList::of(members.first(count))
-    }
-
-    /// Returns the first of these members that writes prefer, as many as needed.
-    fn preferred(&self, side: Side) -> ShortList {
-        let mut members = ShortList::new();
-        for member in self.favourites.as_slice().iter() {
-            if members.as_slice().len() < side.least && side.members.contains(member) {
-                members.push(*member);
-            }
-        }
-        members
-    }
-
-    /// Returns the members of a group that a write reaches.
-    fn write_reach(&mut self, group: u8) -> ShortList {
-        let family = self.plan.family;
-        let place = self.place(group);
-        let side = family.write_side(place, &mut self.rng);
-        match self.rng.below(10) {
-            0..=4 => self.shuffled(family.members(place)),
-            5..=7 => self.preferred(side),
-            _ => self.some_of(side),
-        }
-    }
-
-    /// Returns the members of a group that a recovery reads.
-    fn read_reach(&mut self, group: u8) -> ShortList {
-        let family = self.plan.family;
-        let place = self.place(group);
-        let side = family.read_side(place, &mut self.rng);
-        if self.loss > 0 && self.rng.chance(50) {
-            return self.shuffled(family.members(place));
-        }
-        self.some_of(side)
     }
 
     /// Lets a task deliver a message.
@@ -242,7 +205,7 @@ impl Schedule {
     }
 
     /// Writes the next line of a task.
-    fn go_on(&mut self, task: &mut Task) {
+    fn go_on(&mut self, alloc: Global, task: &mut Task) {
         let chosen = self.rng.below(task.deliveries.len());
         if chosen < task.deliveries.len() {
             let delivery = task.deliveries.swap_remove(chosen);
@@ -255,7 +218,7 @@ impl Schedule {
             self.take(task.client, answer);
             return;
         }
-        self.next_stage(task);
+        self.next_stage(alloc, task);
     }
 
     /// Continues a task, or begins a new one.
@@ -263,7 +226,7 @@ impl Schedule {
         let chosen = self.rng.below(self.tasks.len());
         if chosen < self.tasks.len() {
             let mut task = self.tasks.swap_remove(chosen);
-            self.go_on(&mut task);
+            self.go_on(alloc, &mut task);
             self.keep(task);
             return;
         }
@@ -281,9 +244,9 @@ impl Schedule {
     fn begin(&mut self, alloc: Global) {
         match self.rng.below(20) {
             0..=3 if self.clients < MOST_CLIENTS => self.begin_recovery(alloc),
-            4..=5 => self.begin_step(alloc),
+            4..=5 if self.events.steps => self.begin_step(alloc),
             6..=7 => self.begin_late(alloc),
-            8..=9 if self.joined < self.plan.groups => self.begin_growth(alloc),
+            8..=9 if self.joined < self.plan.groups() => self.begin_growth(alloc),
             _ => self.begin_write(alloc),
         }
     }
@@ -321,13 +284,18 @@ impl Schedule {
         all.get(chosen).copied()
     }
 
-    /// Writes a script. Over a plan with a great LAL it begins with a long log; else one in three begins with a write
-    /// that arrives late, if the plan has a step. Then come its turns, of at most one line each; their number is the
-    /// greater of two draws between 30 and 400.
+    /// Returns whether the script may begin with a long log.
+    fn may_be_long(&self) -> bool {
+        self.plan.lal() >= LONG_LAL && self.members(0).len() <= LONG_MEMBERS
+    }
+
+    /// Writes a script. One in four begins with a long log, if the plan's LAL is great enough for it; else one in three
+    /// begins with a write that arrives late, if the plan has a step. Then come its turns, of at most one line each;
+    /// their number is the greater of two draws between 30 and 400.
     pub fn fill(&mut self, alloc: Global) {
-        if self.plan.is_long() {
+        if self.may_be_long() && self.rng.chance(25) {
             self.lengthen();
-        } else if self.rng.chance(33) {
+        } else if self.events.steps && self.rng.chance(33) {
             self.straggle(alloc);
         }
         let turns = self.rng.from(30, 371).max(self.rng.from(30, 371));

@@ -1,43 +1,56 @@
 //! A write that reaches its group late: after a step of the group, which its writer doesn't know yet.
 
+use crate::numbers::Numbers;
 use crate::schedule::Schedule;
-use crate::short_list::ShortList;
 use crate::tasks::{Stage, Task};
 use crate::written::{Delivery, Receiver};
+use quorum_expr::MemberSet;
 use std::alloc::Global;
 use std::ops::Range;
-
-/// The members that the first step of a plan keeps.
-const KEPT: &[u8] = &[0, 1, 2, 3, 4];
-
-/// The member that the step may remove, which takes no part in it.
-const LEAVING: u8 = 5;
 
 /// The members of a group that learn of a step, and those that don't.
 #[derive(Clone, Copy)]
 struct Parties {
     group: u8,
-    /// The member that the step adds.
-    fresh: u8,
-    /// The members that learn of the step; they are a read quorum with the fresh one or without it.
-    stepped: ShortList,
+    /// The configuration to which the step leads.
+    child: u8,
+    /// The members that the step adds.
+    fresh: Numbers,
+    /// The members that learn of the step: a read set of both configurations.
+    stepped: Numbers,
     /// The members that don't learn of it; the last of them does later.
-    behind: ShortList,
+    behind: Numbers,
 }
 
 impl Schedule {
+    /// Returns the members that both the first configuration and a child have, in a random order, and how many of them
+    /// are a read set of both.
+    fn stepping(&mut self, group: u8, child: u8) -> (Numbers, usize) {
+        let both = self
+            .set_of(group, 0)
+            .intersection(self.set_of(group, child));
+        let kept = self.shuffled(Numbers::of_set(both).as_slice());
+        let fresh = self.fresh(group, child);
+        let of_child = self.readers_in(group, child, fresh, kept.as_slice());
+        let of_root = self.readers_in(group, 0, MemberSet::empty(), kept.as_slice());
+        (kept, of_child.max(of_root))
+    }
+
     /// Returns the parties of a group's step from its first configuration, if there is one.
     fn parties(&mut self, group: u8) -> Option<Parties> {
-        let fresh = self.plan.family.fresh(1)?;
-        let kept = self.shuffled(KEPT);
-        let mut behind = ShortList::of(&[LEAVING]);
-        for member in kept.as_slice().iter().skip(3) {
+        let children = self.children(group);
+        let child = self.rng.one_of(children.as_slice())?;
+        let leaving = self.set_of(group, 0).difference(self.set_of(group, child));
+        let (kept, count) = self.stepping(group, child);
+        let mut behind = Numbers::of_set(leaving);
+        for member in kept.as_slice().iter().skip(count) {
             behind.push(*member);
         }
         Some(Parties {
             group,
-            fresh,
-            stepped: ShortList::of(kept.first(3)),
+            child,
+            fresh: Numbers::of_set(self.fresh(group, child)),
+            stepped: Numbers::of(kept.first(count)),
             behind,
         })
     }
@@ -80,47 +93,41 @@ impl Schedule {
         let line = self.issue_one(group);
         let members = self.members(group);
         let client = Receiver::Client(1);
-        let acks = self.deliver_to(line, group, members, client);
+        let acks = self.deliver_to(line, group, members.as_slice(), client);
         self.take_all(1, acks);
     }
 
-    /// Sends the fresh member's request to the members that learn of the step, and their copies to it.
-    fn copy_all(&mut self, parties: &Parties, ask: u64) {
-        let Parties {
-            group,
-            fresh,
-            stepped,
-            ..
-        } = parties;
-        let (group, fresh) = (*group, *fresh);
+    /// Sends the request of a fresh member to the members that learn of the step, and their copies to it.
+    fn copy_all(&mut self, parties: &Parties, fresh: u8, ask: u64) {
+        let group = parties.group;
         let nodes = Receiver::Nodes(group);
-        let copies = self.deliver_to(ask, group, stepped.as_slice(), nodes);
+        let copies = self.deliver_to(ask, group, parties.stepped.as_slice(), nodes);
         for copy in copies {
             self.deliver_to(copy, group, &[fresh], nodes);
         }
     }
 
-    /// Lets a group step, and the fresh member become whole from the members that learn of the step. Returns the step's
-    /// line.
-    fn step_with(&mut self, parties: &Parties) -> u64 {
-        let Parties {
-            group,
-            fresh,
-            stepped,
-            ..
-        } = parties;
-        let (group, fresh) = (*group, *fresh);
-        let nodes = Receiver::Nodes(group);
-        let line = self.written.of_node("advance", group, 1);
-        self.written.note(line, 1, nodes);
-        self.deliver_to(line, group, stepped.as_slice(), nodes);
-        let asked = self.deliver_to(line, group, &[fresh], nodes);
+    /// Lets a fresh member learn of a step and become whole from the members that learn of it.
+    fn hydrate_from(&mut self, parties: &Parties, step: u64, fresh: u8) {
+        let group = parties.group;
+        let asked = self.deliver_to(step, group, &[fresh], Receiver::Nodes(group));
         for ask in asked {
-            self.copy_all(parties, ask);
+            self.copy_all(parties, fresh, ask);
         }
         self.written.of_node("hydrate", group, fresh);
-        let [first, second] = self.places;
-        self.places = if group == 0 { [1, second] } else { [first, 1] };
+    }
+
+    /// Lets a group step, and the fresh members become whole. Returns the step's line.
+    fn step_with(&mut self, parties: &Parties) -> u64 {
+        let group = parties.group;
+        let nodes = Receiver::Nodes(group);
+        let line = self.written.of_node("advance", group, parties.child);
+        self.written.note(line, 1, nodes);
+        self.deliver_to(line, group, parties.stepped.as_slice(), nodes);
+        for fresh in parties.fresh.as_slice().iter() {
+            self.hydrate_from(parties, line, *fresh);
+        }
+        self.set_place(group, parties.child);
         line
     }
 
@@ -162,10 +169,10 @@ impl Schedule {
                 for member in parties.stepped.as_slice().iter().skip(1) {
                     self.send(task, (fences, place), group, &[*member]);
                 }
-                self.send(task, (fences, place), group, &[parties.fresh]);
+                self.send(task, (fences, place), group, parties.fresh.as_slice());
             } else {
                 let members = self.members(group);
-                self.send(task, (fences, place), group, members);
+                self.send(task, (fences, place), group, members.as_slice());
             }
         }
     }
@@ -184,7 +191,7 @@ impl Schedule {
 
     /// Begins a script with such a write, if the plan has a step.
     pub fn straggle(&mut self, alloc: Global) {
-        let group = u8::from(self.joined == 2 && self.rng.chance(50));
+        let group = self.joined_group();
         let Some(parties) = self.parties(group) else {
             return;
         };

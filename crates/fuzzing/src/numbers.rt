@@ -1,29 +1,42 @@
-//! Short lists of small numbers.
+//! Lists of members, and of other small numbers.
+
+use quorum_expr::{MEMBERS, MemberSet};
 
 /// The most numbers of a list.
-const MOST: usize = 8;
+const MOST: usize = 64;
 
-/// At most eight numbers. More of them are dropped.
+/// At most 64 numbers. More of them are dropped.
 #[derive(Clone, Copy)]
-pub struct ShortList {
+pub struct Numbers {
     numbers: [u8; MOST],
     length: usize,
 }
 
-impl ShortList {
+impl Numbers {
     /// Returns an empty list.
-    pub fn new() -> ShortList {
-        ShortList {
+    pub fn new() -> Numbers {
+        Numbers {
             numbers: [0; MOST],
             length: 0,
         }
     }
 
     /// Returns a list of these numbers.
-    pub fn of(numbers: &[u8]) -> ShortList {
-        let mut list = ShortList::new();
+    pub fn of(numbers: &[u8]) -> Numbers {
+        let mut list = Numbers::new();
         for number in numbers.iter() {
             list.push(*number);
+        }
+        list
+    }
+
+    /// Returns the members of a set, in growing order.
+    pub fn of_set(members: MemberSet) -> Numbers {
+        let mut list = Numbers::new();
+        for member in 0..MEMBERS {
+            if members.contains(member) {
+                list.push(member);
+            }
         }
         list
     }
@@ -34,6 +47,11 @@ impl ShortList {
             self.numbers[self.length] = number;
             self.length += 1;
         }
+    }
+
+    /// Returns how many numbers there are.
+    pub fn len(&self) -> usize {
+        self.length
     }
 
     /// Returns the first numbers, at most so many.

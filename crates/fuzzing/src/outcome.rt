@@ -1,7 +1,7 @@
 //! Reads back what a run or a fleet prints.
 
 use crate::broken::Broken;
-use fuzzing::CommandOutput;
+use crate::verdicts::CommandOutput;
 use std::alloc::{AllocError, Global};
 
 /// The answer to a line of the script.
@@ -152,18 +152,29 @@ impl Outcome {
         Ok(outcome)
     }
 
-    /// Returns the output of a job, unless the job was refused.
-    pub fn of(alloc: Global, output: &CommandOutput) -> Result<Outcome, Broken> {
-        if output.status > 1 || !output.stderr.is_empty() {
-            let numbers = [u64::from(output.status), 0, 0, 0];
-            return Err(Broken::new("a job reports an error (status)", numbers));
-        }
-        let outcome = Outcome::read(alloc, output.stdout.as_str())?;
+    /// Reads what a run or a fleet prints.
+    ///
+    /// # Errors
+    /// That a line has no known form, or that memory ran out.
+    pub fn of_text(alloc: Global, text: &str) -> Result<Outcome, Broken> {
+        let outcome = Outcome::read(alloc, text)?;
         if outcome.strange != 0 {
             let numbers = [outcome.strange, 0, 0, 0];
             return Err(Broken::new("lines of no known form (lines)", numbers));
         }
         Ok(outcome)
+    }
+
+    /// Reads the output of a job.
+    ///
+    /// # Errors
+    /// That the job was refused or a line has no known form, or that memory ran out.
+    pub fn of(alloc: Global, output: &CommandOutput) -> Result<Outcome, Broken> {
+        if output.status > 1 || !output.stderr.is_empty() {
+            let numbers = [u64::from(output.status), 0, 0, 0];
+            return Err(Broken::new("a job reports an error (status)", numbers));
+        }
+        Outcome::of_text(alloc, output.stdout.as_str())
     }
 
     /// Returns the number of lines that weren't refused.

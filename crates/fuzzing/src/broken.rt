@@ -2,6 +2,9 @@
 
 use std::alloc::AllocError;
 
+/// What is said where memory ran out.
+const MEMORY: &str = "memory ran out";
+
 /// A promise that a run has broken, or that memory ran out.
 #[derive(Clone, Copy)]
 pub struct Broken {
@@ -16,10 +19,15 @@ impl Broken {
     pub fn new(what: &'static str, numbers: [u64; 4]) -> Broken {
         Broken { what, numbers }
     }
+
+    /// Returns whether memory ran out.
+    pub fn is_memory(&self) -> bool {
+        self.what == MEMORY
+    }
 }
 
 impl From<AllocError> for Broken {
     fn from(_: AllocError) -> Broken {
-        Broken::new("memory ran out", [0; 4])
+        Broken::new(MEMORY, [0; 4])
     }
 }

@@ -12,9 +12,9 @@ pub enum Stage {
     Cut,
     /// A recovery opens.
     Open,
-    /// A new member requests copies.
+    /// The members that a step adds request copies.
     Ask,
-    /// The copies are sent to the new member.
+    /// The copies are sent to a new member.
     Send,
     /// The new member becomes whole.
     Hydrate,
@@ -46,6 +46,8 @@ pub struct Task {
     pub client: u32,
     /// The group of a membership step.
     pub group: u8,
+    /// The member that becomes whole, in the stages `Send` and `Hydrate`.
+    pub fresh: u8,
     /// The messages to deliver.
     pub deliveries: Vec<Delivery>,
     /// The answers to take.
@@ -59,6 +61,7 @@ impl Task {
             stage,
             client,
             group: 0,
+            fresh: 0,
             deliveries: Vec::new(alloc),
             answers: Vec::new(alloc),
         }

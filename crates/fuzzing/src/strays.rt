@@ -6,15 +6,6 @@ use crate::written::{Delivery, Receiver};
 use std::alloc::Global;
 
 impl Schedule {
-    fn any_group(&mut self) -> u8 {
-        u8::from(self.plan.groups == 2 && self.rng.chance(50))
-    }
-
-    fn any_member(&mut self, group: u8) -> u8 {
-        let members = self.members(group);
-        self.rng.one_of(members).unwrap_or(0)
-    }
-
     /// Returns a random LSN.
     fn any_record(&mut self) -> u64 {
         self.rng.from(1, 24) as u64
@@ -24,13 +15,14 @@ impl Schedule {
     pub fn stray(&mut self, alloc: Global) {
         match self.rng.below(20) {
             0..=9 => self.repeat(),
-            10..=11 => self.restart(),
+            10..=11 if self.events.restarts => self.restart(),
             12..=13 => self.offer(),
             14..=15 => self.resend(alloc),
             16 => self.read(),
             17 => self.tell(alloc),
             18 => self.written.wait(),
-            _ => self.mistake(),
+            19 => self.mistake(),
+            _ => self.repeat(),
         }
     }
 
@@ -82,7 +74,7 @@ impl Schedule {
         self.written.note(line, 1, Receiver::Nodes(group));
         let mut task = Task::new(alloc, Stage::Finished, client);
         let members = self.members(group);
-        self.send(&mut task, (line, 1), group, members);
+        self.send(&mut task, (line, 1), group, members.as_slice());
         self.keep(task);
     }
 
@@ -107,12 +99,12 @@ impl Schedule {
     fn mistake(&mut self) {
         let client = self.writer();
         let line: &str = match self.rng.below(8) {
-            0 => "issue 1 7:0:0:61",
+            0 => "issue 1 250:0:0:61",
             1 => "issue 1 0:0:511:6162",
-            2 => "advance 0 9",
-            3 => "advance 9 1",
-            4 => "restart 3 1",
-            5 => "hydrate 0 1",
+            2 => "advance 0 250",
+            3 => "advance 250 1",
+            4 => "restart 250 1",
+            5 => "hydrate 250 1",
             6 => "read 1 0 4294967295",
             _ => {
                 self.written.of_client("open", client);

@@ -43,7 +43,7 @@ impl Schedule {
     /// Appends lines in which the first writer commits the records of a transaction.
     fn commit_many(&mut self) {
         let line = self.issue_many();
-        for member in self.members(0).iter() {
+        for member in self.members(0).as_slice().iter() {
             let last = self.deliver_many(line, *member);
             self.written.take(1, last, 1);
         }
