@@ -1,8 +1,8 @@
 //! The script of a step: what an operator does, with comments.
 
 use crate::wording::{add_expr, add_members};
-use plan::{Configuration, Plan};
-use quorum_expr::{MEMBERS, MemberSet, holds};
+use plan::CheckedPlan;
+use quorum_expr::{Expr, MEMBERS, MemberSet, holds};
 use std::alloc::{AllocError, Global};
 
 /// The most steps from a root to a configuration.
@@ -38,13 +38,15 @@ struct Script {
 
 /// A step of a group.
 #[derive(Clone, Copy)]
-struct Step<'p> {
+struct Step {
     group: u8,
+    /// The number of the configuration to which it leads.
     number: u8,
     parent: u8,
-    child: &'p Configuration,
-    /// The members of the parent that are whole.
-    whole: MemberSet,
+    /// The members that both configurations have.
+    kept: MemberSet,
+    /// The members that the step adds.
+    fresh: MemberSet,
 }
 
 impl Script {
@@ -86,17 +88,17 @@ impl Script {
     }
 
     /// Lets a new member become whole by the copies of those that are.
-    fn hydrate(&mut self, step: Step<'_>, member: u8, advance: u64) -> Result<(), AllocError> {
-        let Step { group, whole, .. } = step;
+    fn hydrate(&mut self, step: &Step, member: u8, advance: u64) -> Result<(), AllocError> {
+        let (group, kept) = (step.group, step.kept);
         write!(
             self.text,
             "# Member {member} is told, and asks for copies: "
         )?;
-        self.add_comment("", whole, " send them, and it becomes whole.")?;
+        self.add_comment("", kept, " send them, and it becomes whole.")?;
         write!(self.text, "deliver {group} {member} {advance}.1")?;
         let asked = self.end()?;
         let first = self.lines.saturating_add(1);
-        self.deliver(group, whole, asked)?;
+        self.deliver(group, kept, asked)?;
         let behind = self.lines.saturating_add(1);
         for copy in first..behind {
             write!(self.text, "deliver {group} {member} {copy}.1")?;
@@ -108,13 +110,8 @@ impl Script {
     }
 
     /// Appends what is said of a step, and the line that advances the group.
-    fn advance(&mut self, step: Step<'_>) -> Result<u64, AllocError> {
-        let Step {
-            group,
-            number,
-            parent,
-            ..
-        } = step;
+    fn advance(&mut self, step: &Step, read: &Expr<Global>) -> Result<u64, AllocError> {
+        let (group, number, parent) = (step.group, step.number, step.parent);
         write!(
             self.text,
             "# Group {group} steps from configuration {parent} to {number}."
@@ -122,33 +119,32 @@ impl Script {
         self.end()?;
         self.text
             .push_str("# The members that are whole must be a read set of it: ")?;
-        add_expr(&mut self.text, &step.child.read)?;
+        add_expr(&mut self.text, read)?;
         self.end()?;
         write!(self.text, "advance {group} {number}")?;
         self.end()
     }
 
-    /// Appends the lines of a step.
-    fn add_step(&mut self, step: Step<'_>) -> Result<(), AllocError> {
-        let advance = self.advance(step)?;
-        let kept = step.child.members.intersection(step.whole);
-        self.add_comment("# The members ", kept, " are told.")?;
-        self.deliver(step.group, kept, advance)?;
-        let fresh = step.child.members.difference(step.whole);
-        let from_kept = Step {
-            whole: kept,
-            ..step
-        };
-        for member in 0..MEMBERS {
-            if fresh.contains(member) {
-                self.hydrate(from_kept, member, advance)?;
-            }
-        }
+    /// Lets the writer learn of a step.
+    fn refresh(&mut self) -> Result<(), AllocError> {
         self.add("# The writer learns of the step.")?;
         let view = self.add("refresh 1")?;
         write!(self.text, "take 1 {view}.1")?;
         self.end()?;
         Ok(())
+    }
+
+    /// Appends the lines of a step to a configuration with this read expression.
+    fn add_step(&mut self, step: &Step, read: &Expr<Global>) -> Result<(), AllocError> {
+        let advance = self.advance(step, read)?;
+        self.add_comment("# The members ", step.kept, " are told.")?;
+        self.deliver(step.group, step.kept, advance)?;
+        for member in 0..MEMBERS {
+            if step.fresh.contains(member) {
+                self.hydrate(step, member, advance)?;
+            }
+        }
+        self.refresh()
     }
 }
 
@@ -160,94 +156,107 @@ struct Path {
 }
 
 /// Returns the path to a configuration.
-fn path_to(configurations: &[Configuration], number: u8) -> Path {
+fn path_to(plan: &CheckedPlan, group: u8, number: u8) -> Path {
     let mut path = Path {
         numbers: [0; STEPS],
         first: STEPS,
     };
     let mut at = number;
     for _ in 0..STEPS {
-        let parent = match configurations.get(usize::from(at)) {
+        let parent = match plan.configuration(group, at) {
             Some(configuration) => configuration.parent,
             None => None,
         };
         let Some(parent) = parent else {
             return path;
         };
-        if path.first == 0 {
-            return path;
+        let place = path.first.saturating_sub(1);
+        if place < STEPS {
+            path.numbers[place] = at;
         }
-        path.first -= 1;
-        path.numbers[path.first] = at;
+        path.first = place;
         at = u8::try_from(parent).unwrap_or(0);
     }
     path
 }
 
 /// Lets the groups behind those at birth join, up to a given one.
-fn add_growth(script: &mut Script, plan: &Plan, group: u8) -> Result<(), AllocError> {
-    if group < plan.born {
+fn add_growth(script: &mut Script, plan: &CheckedPlan, group: u8) -> Result<(), AllocError> {
+    let born = plan.born();
+    if group < born {
         return Ok(());
     }
     write!(script.text, "# Group {group} joins the volume.")?;
     script.end()?;
-    for _ in plan.born..=group {
+    for _ in born..=group {
         script.add("grow")?;
     }
     Ok(())
 }
 
+/// Appends the lines of a step between two configurations of a group.
+fn add_step_between(
+    script: &mut Script,
+    plan: &CheckedPlan,
+    group: u8,
+    parent: u8,
+    number: u8,
+) -> Result<(), NoStep> {
+    let Some(before) = plan.configuration(group, parent) else {
+        return Err(NoStep::NotInPlan);
+    };
+    let Some(child) = plan.configuration(group, number) else {
+        return Err(NoStep::NotInPlan);
+    };
+    let kept = child.members.intersection(before.members);
+    if !holds(&child.read, kept) {
+        return Err(NoStep::CannotRead(number));
+    }
+    let step = Step {
+        group,
+        number,
+        parent,
+        kept,
+        fresh: child.members.difference(before.members),
+    };
+    script.add_step(&step, &child.read)?;
+    Ok(())
+}
+
+/// Appends the lines of the steps of a path.
+fn add_path(script: &mut Script, plan: &CheckedPlan, group: u8, path: Path) -> Result<(), NoStep> {
+    let mut parent = 0u8;
+    for number in path.numbers.iter().skip(path.first) {
+        add_step_between(script, plan, group, parent, *number)?;
+        parent = *number;
+    }
+    Ok(())
+}
+
 /// Returns the script of a step of a group to a configuration, over a volume that was just born: the steps that lead to
-/// the parent, and then the step itself. Comments say what happens. All its lines are taken by `run`.
+/// the parent, and then the step itself. Comments say what happens. `run` takes all of its lines.
 ///
 /// # Errors
 /// The first that applies of `NotInPlan`, `IsRoot`, and `CannotRead` for a step on the way; `NoMemory` if memory runs
 /// out.
 pub fn step_script(
     alloc: Global,
-    plan: &Plan,
+    plan: &CheckedPlan,
     group: u8,
     configuration: u8,
 ) -> Result<String, NoStep> {
-    let Some(configurations) = plan.groups.get(usize::from(group)) else {
-        return Err(NoStep::NotInPlan);
-    };
-    let configurations = configurations.configurations.as_slice();
-    if usize::from(configuration) >= configurations.len() {
+    if plan.configuration(group, configuration).is_none() {
         return Err(NoStep::NotInPlan);
     }
-    let path = path_to(configurations, configuration);
+    let path = path_to(plan, group, configuration);
+    if path.first >= STEPS {
+        return Err(NoStep::IsRoot);
+    }
     let mut script = Script {
         text: String::new(alloc),
         lines: 0,
     };
     add_growth(&mut script, plan, group)?;
-    let mut parent = 0u8;
-    let mut is_root = true;
-    for place in path.first..STEPS {
-        let number = path.numbers[place];
-        let (Some(before), Some(child)) = (
-            configurations.get(usize::from(parent)),
-            configurations.get(usize::from(number)),
-        ) else {
-            return Err(NoStep::NotInPlan);
-        };
-        if !holds(&child.read, child.members.intersection(before.members)) {
-            return Err(NoStep::CannotRead(number));
-        }
-        let whole = before.members;
-        script.add_step(Step {
-            group,
-            number,
-            parent,
-            child,
-            whole,
-        })?;
-        parent = number;
-        is_root = false;
-    }
-    if is_root {
-        return Err(NoStep::IsRoot);
-    }
+    add_path(&mut script, plan, group, path)?;
     Ok(script.text)
 }

@@ -1,0 +1,125 @@
+//! What is made of a checked plan: the script of a step, random runs.
+
+ghost use Rattle.std.specs.Prelude.{◌≡◌, ◌≤◌, ◌<◌, IfErr, IfOk, OnOk};
+ghost use Rattle.commands.specs.Answers.{AnswersOf, file_of};
+ghost use Rattle.commands.specs.Makes.{MakesTo};
+ghost use Rattle.commands.specs.Stops.{answer_of};
+ghost use Rattle.commands.specs.Streams.{FailsByRead};
+ghost use Rattle.commands.specs.declared.reply.Stop.TheVariants.{NoMemory};
+
+use crate::action::{Job, Making};
+use crate::fallible::FallibleRead;
+use crate::files::Source;
+use crate::inputs::checked;
+use crate::reply::{Reply, Stop};
+use crate::run_text::run_lines;
+use drivers::read_script;
+use explain::{NoStep, step_script};
+use fuzzing::{Broken, ScriptRunner, Simulation, simulate};
+use plan::CheckedPlan;
+use std::alloc::{AllocError, Global};
+use std::sync::Arc;
+use world::run_orders;
+
+/// Runs scripts over a plan as `run` does.
+#[derive(Drop)]
+struct PlanRunner<'a> {
+    plan: &'a Arc<CheckedPlan>,
+}
+
+impl ScriptRunner for PlanRunner<'_> {
+    fn printed(&self, alloc: Global, script: &str) -> Result<String, Broken> {
+        let Ok(script) = read_script(alloc, script.as_bytes()) else {
+            return Err(Broken::new("a script has a bad line", [0; 4]));
+        };
+        let Ok(outcome) = run_orders(alloc, self.plan, script.orders) else {
+            return Err(Broken::from(AllocError));
+        };
+        let reply = run_lines(alloc, script.steps.as_slice(), &outcome)?;
+        Ok(reply.text)
+    }
+}
+
+/// Returns the answer of random runs over a plan.
+fn simulated(
+    alloc: Global,
+    plan: CheckedPlan,
+    simulation: Simulation,
+) -> Result<Reply, Stop<'static>>
+    ensures status { IfOk result (λ reply. reply.status ≤ 1) }
+    ensures stop { IfErr result (λ stop. stop ≡ NoMemory) }
+{
+    let plan = Arc::new(alloc, plan)?;
+    let runner = PlanRunner { plan: &plan };
+    let verdict = simulate(alloc, &plan, simulation, &runner)?;
+    Ok(Reply {
+        status: verdict.status,
+        text: verdict.text,
+    })
+}
+
+/// Returns why a step has no script.
+fn no_step(alloc: Global, why: NoStep, group: u8, configuration: u8) -> Result<String, AllocError> {
+    let mut text = String::new(alloc);
+    match why {
+        NoStep::NotInPlan | NoStep::NoMemory => {
+            write!(text, "no: group {group} has no configuration {configuration}\n")?;
+        }
+        NoStep::IsRoot => write!(text, "no: no step leads to configuration {configuration}\n")?,
+        NoStep::CannotRead(number) => write!(
+            text,
+            "no: the members that configuration {number} of group {group} keeps can't be read there\n"
+        )?,
+    }
+    Ok(text)
+}
+
+/// Returns the answer to a step of a plan.
+fn stepped(
+    alloc: Global,
+    plan: &CheckedPlan,
+    group: u8,
+    configuration: u8,
+) -> Result<Reply, Stop<'static>>
+    ensures status { IfOk result (λ reply. reply.status ≤ 1) }
+    ensures stop { IfErr result (λ stop. stop ≡ NoMemory) }
+{
+    match step_script(alloc, plan, group, configuration) {
+        Ok(text) => Ok(Reply { status: 0, text }),
+        Err(NoStep::NoMemory) => Err(Stop::NoMemory),
+        Err(why) => {
+            let text = no_step(alloc, why, group, configuration)?;
+            Ok(Reply { status: 1, text })
+        }
+    }
+}
+
+/// Returns what is made of a checked plan.
+fn made(alloc: Global, plan: CheckedPlan, making: Making) -> Result<Reply, Stop<'static>>
+    ensures status { IfOk result (λ reply. reply.status ≤ 1) }
+    ensures stop { IfErr result (λ stop. stop ≡ NoMemory) }
+{
+    match making {
+        Making::Steps {
+            group,
+            configuration,
+        } => stepped(alloc, &plan, group, configuration),
+        Making::Simulate(simulation) => simulated(alloc, plan, simulation),
+    }
+}
+
+/// Returns the answer of `steps` or `simulate`: checks the plan, and makes what is asked for.
+pub fn make<'a, P: FallibleRead>(
+    alloc: Global,
+    job: &Job<'a>,
+    making: Making,
+    plan: &mut Source<P>,
+) -> Result<Reply, Stop<'a>>
+    ensures answers { AnswersOf (file_of P.remaining job.now.plan.now plan.old plan.new) MakesTo (answer_of result) }
+    ensures reason { FailsByRead P.answers plan.old plan.new }
+{
+    match checked(alloc, job.plan, plan) {
+        Ok(plan) => made(alloc, plan, making),
+        Err(stop) => Err(stop),
+    }
+}
