@@ -1,5 +1,5 @@
 -- Which answer is due, from one part of a job to the next.
-use Rattle.std.proofs.Common.{◌≡◌, ◌∙◌, ap, ap₂, inl, inr, sym, subst, refl, ℕ, List, Some, Result, Ok, Err, IfOk, IfErr, length, string_bytes, vec_len, arith}
+use Rattle.std.proofs.Common.{◌≡◌, ◌≤◌, ◌∙◌, ap, ap₂, inl, inr, sym, subst, refl, ℕ, List, Some, Result, Ok, Err, IfOk, IfErr, length, string_bytes, vec_len, arith}
 use Rattle.std.proofs.lemmas.List.{length-map}
 use Rattle.volume_model.specs.Plan as model
 use Rattle.plan.specs.CheckedModel.{checked_model}
@@ -16,6 +16,7 @@ use Rattle.commands.specs.Answer.{Answer, IsSaid, fault_answer, printed}
 use Rattle.commands.specs.Answers.{AnswersOf, BothAnswer, ChecksTo, File, IsBadScript, PlanAnswers, ScriptAnswers, PrintsFleetOf, PrintsOrders, PrintsScript}
 use Rattle.commands.specs.Answers.AnswersOf.{read, unread, unmade}
 use Rattle.commands.specs.Answers.PlanAnswers.{faulty, certified}
+use Rattle.commands.specs.Makes.{MakesTo}
 use Rattle.commands.specs.Read.{IsPlanOf, IsRead, IsScriptOf}
 use Rattle.commands.specs.Searched.{SearchesTo, PrintsSearch, claims_of, found_answer}
 use Rattle.commands.specs.Stops.{StopsAtLine, StopsBy, answer_of, script_stop, stop_answer}
@@ -76,6 +77,11 @@ pub plan_prints : (file : File) (plan : CheckedPlan) (r : Result Reply Stop) →
     → IfErr r (λ stop. stop ≡ stops.NoMemory) → AnswersOf file ChecksTo (answer_of r)
 plan_prints file plan (Ok reply) h zero line none = read h.text h.whole h.is_text (certified (whole_text h.text plan h.is_so) (ap₂ printed zero line))
 plan_prints file plan (Err stop) h zero line memory = memory_out ChecksTo file stop memory
+
+-- the result of what is made of a checked plan
+pub made_due : (file : File) (plan : CheckedPlan) (r : Result Reply Stop) → IsRead file (λ text. IsPlanOf text plan) → IfOk r (λ reply. reply.status ≤ 1) → IfErr r (λ stop. stop ≡ stops.NoMemory) → AnswersOf file MakesTo (answer_of r)
+made_due file plan (Ok reply) h small none = read h.text h.whole h.is_text (certified (whole_text h.text plan h.is_so) (small, refl))
+made_due file plan (Err stop) h small memory = memory_out MakesTo file stop memory
 
 -- ---- a script over a plan
 

@@ -85,7 +85,33 @@ places_leaf name = with_rule (with_rule (members_leaf name) group_rule) configur
 abbrev pub replace_leaf : Text → App
 replace_leaf name = with_rule (with_rule (places_leaf name) (flag_rule (codes "tail"))) (flag_rule (codes "direct"))
 
--- the program with its first two subcommands, with its third, its fourth, and its fifth
+-- the number of the configuration to which a step leads, which must be given
+abbrev pub target_rule : Rule
+target_rule = record configuration_rule { required = true }
+
+-- a subcommand of a plan's file, a group and a configuration
+abbrev pub steps_leaf : Text → App
+steps_leaf name = with_rule (with_rule (file_leaf name) group_rule) target_rule
+
+-- a number from one to another, with a default: --ID N
+abbrev pub count_rule : Text → ℕ → ℕ → Text → Rule
+count_rule id least most default = record (new_rule id) {
+  long = Some id;
+  value_names = 1;
+  defaults = default ∷ [];
+  parser = Some (parsers.Signed (pos least) (pos most));
+}
+
+-- a subcommand of a plan's file, the first seed and the number of runs
+abbrev pub runs_leaf : Text → App
+runs_leaf name = with_rule (with_rule (file_leaf name) (count_rule (codes "seed") 0 4294967295 (codes "1")))
+    (count_rule (codes "runs") 1 1000000 (codes "1000"))
+
+-- the same, and what happens in the runs
+abbrev pub simulate_leaf : Text → App
+simulate_leaf name = with_rule (with_rule (runs_leaf name) (flag_rule (codes "crash"))) (flag_rule (codes "replace"))
+
+-- the program with its first two subcommands, with its third, its fourth, and so on
 abbrev pub with_runs : App
 with_runs = with_subcommand (with_subcommand program (file_leaf (codes "check")).top) (script_leaf (codes "run")).top
 
@@ -98,7 +124,14 @@ with_search = with_subcommand with_fleet (workers_leaf (codes "search")).top
 abbrev pub with_explain : App
 with_explain = with_subcommand with_search (json_leaf (codes "explain")).top
 
+abbrev pub with_replace : App
+with_replace = with_subcommand with_explain (replace_leaf (codes "replace")).top
+
+abbrev pub with_steps : App
+with_steps = with_subcommand with_replace (steps_leaf (codes "steps")).top
+
 -- check FILE, run PLAN SCRIPT, fleet PLAN SCRIPT -w N, search FILE -w N, explain FILE SCRIPT --json, whose script may be
--- left out, replace FILE -w N --out N --in N -g N -c N --tail --direct
+-- left out, replace FILE -w N --out N --in N -g N -c N --tail --direct, steps FILE -g N -c N, simulate FILE --seed N
+-- --runs N --crash --replace
 abbrev pub tool : App
-tool = with_subcommand with_explain (replace_leaf (codes "replace")).top
+tool = with_subcommand with_steps (simulate_leaf (codes "simulate")).top

@@ -4,9 +4,16 @@ use Rattle.std.specs.Str.{bytes_eq}
 use Rattle.std.specs.Str.Parse.{IsNumeral, digits_value, without_leading_plus}
 use Rattle.clap.specs.Words.{Row, Text, first_of, one_of}
 use Rattle.commands.specs.declared.action.Action.{Action}
-use Rattle.commands.specs.declared.action.Action.TheVariants.{Check, Run, Fleet, Search, Explain, Replace}
+use Rattle.commands.specs.declared.action.Action.TheVariants.{Check, Run, Fleet, Search, Explain, Replace, Make}
 use Rattle.commands.specs.declared.action.Job.{Job}
+use Rattle.commands.specs.declared.action.Making.{Making}
+use Rattle.commands.specs.declared.action.Making.TheVariants.{Steps, Simulate}
 use Rattle.commands.specs.declared.action.ReplaceOptions.{ReplaceOptions}
+
+-- the subcommand that makes something of a checked plan
+abbrev pub making_name : Making → Text
+making_name (Steps group configuration) = codes "steps"
+making_name (Simulate simulation) = codes "simulate"
 
 -- the subcommand of an action
 abbrev pub name_of : Action → Text
@@ -16,6 +23,7 @@ name_of Fleet = codes "fleet"
 name_of Search = codes "search"
 name_of Explain = codes "explain"
 name_of (Replace options) = codes "replace"
+name_of (Make making) = making_name making
 
 -- the action prints a plan of its own
 abbrev pub prints_plan : Action → Bool
@@ -25,6 +33,7 @@ prints_plan Fleet = false
 prints_plan Search = true
 prints_plan Explain = false
 prints_plan (Replace options) = true
+prints_plan (Make making) = false
 
 -- the text is this number
 abbrev pub IsSpelled : Text → ℕ → Type 0
@@ -76,6 +85,7 @@ HasOptions rows Fleet = Unit {0}
 HasOptions rows Search = Unit {0}
 HasOptions rows Explain = Unit {0}
 HasOptions rows (Replace options) = AreOptions rows options
+HasOptions rows (Make making) = Unit {0}
 
 -- the subcommand that clap entered, and what it has for each id
 pub record IsJob (found : Option (Text × List Row)) (j : Job) : Type 0 where

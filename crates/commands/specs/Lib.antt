@@ -13,6 +13,7 @@ pub mod FleetText
 pub mod Answers
 pub mod Read
 pub mod Replaces
+pub mod Makes
 pub mod Unfound
 pub mod Searched
 pub mod UsageText

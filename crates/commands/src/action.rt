@@ -2,6 +2,8 @@
 
 ghost use Rattle.std.specs.Prelude.{◌<◌, ◌≤◌, ◌^◌, unwrap_or};
 
+use fuzzing::Simulation;
+
 /// How a member of a group is to be replaced.
 #[derive(Clone, Copy, Debug, PartialEq, Eq)]
 pub struct ReplaceOptions {
@@ -23,6 +25,20 @@ pub struct ReplaceOptions {
     ghost new_fits: { new < 2 ^ 8 },
 }
 
+/// What is made of a checked plan.
+#[derive(Clone, Copy, Debug, PartialEq, Eq)]
+pub enum Making {
+    /// The script of a step.
+    Steps {
+        /// The number of the group.
+        group: u8,
+        /// The configuration to which the step leads.
+        configuration: u8,
+    },
+    /// Random runs.
+    Simulate(Simulation),
+}
+
 /// An action of the program.
 #[derive(Clone, Copy, Debug, PartialEq, Eq)]
 pub enum Action {
@@ -38,6 +54,8 @@ pub enum Action {
     Explain,
     /// Replace a member of a plan.
     Replace(ReplaceOptions),
+    /// Make something of a checked plan.
+    Make(Making),
 }
 
 /// An action, the names of its files as given, and the number of workers.

@@ -93,3 +93,21 @@ text isn't a plan's (told on standard error). A fault of the plan that would be 
 is printed has the status 0 in `check`.
 
 Example: plan_tool replace examples/six_copies.json --out 5 --in 6 > replaced.json";
+
+/// The notes of `steps`.
+pub const STEPS: &str = "\
+The script has the steps that lead to the parent of the configuration and then the step itself, with comments: the
+authority advances the group, its members are told, each new member asks the whole ones for copies and becomes whole,
+and the writer learns of the step. `run FILE` takes each of its lines. The plan must have no fault.
+
+Example: plan_tool steps plan.json -c 1 > step.script && plan_tool run plan.json step.script";
+
+/// The notes of `simulate`.
+pub const SIMULATE: &str = "\
+Each run has a script of its own: transactions of several writers, losses, repetitions, messages that come late and out
+of order, recoveries side by side, and groups that join; with --crash nodes restart too, with --replace groups step
+along the plan. What a run prints is judged: whether each later recovery has all acknowledged commits, and whether no
+LSN is given twice. Status 0: no promise is broken. Status 1: a run breaks one; its seed and its script are printed,
+without the lines that don't matter. The plan must have no fault.
+
+Example: plan_tool simulate plan.json --seed 7 --runs 100 --crash --replace";

@@ -10,6 +10,7 @@ mod help;
 mod inputs;
 mod late_file;
 mod leaking;
+mod making;
 mod names;
 mod options;
 mod outputs;
@@ -29,7 +30,7 @@ mod usage;
 mod usage_text;
 mod words;
 
-pub use action::{Action, Job, ReplaceOptions};
+pub use action::{Action, Job, Making, ReplaceOptions};
 pub use fallible::{FallibleRead, FallibleWrite};
 pub use files::{ReadFault, Source, opened};
 pub use late_file::{LateFile, opened_late};

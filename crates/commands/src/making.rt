@@ -63,7 +63,10 @@ fn no_step(alloc: Global, why: NoStep, group: u8, configuration: u8) -> Result<S
     let mut text = String::new(alloc);
     match why {
         NoStep::NotInPlan | NoStep::NoMemory => {
-            write!(text, "no: group {group} has no configuration {configuration}\n")?;
+            write!(
+                text,
+                "no: group {group} has no configuration {configuration}\n"
+            )?;
         }
         NoStep::IsRoot => write!(text, "no: no step leads to configuration {configuration}\n")?,
         NoStep::CannotRead(number) => write!(

@@ -3,10 +3,12 @@
 ghost use Rattle.std.specs.Prelude.{◌≡◌, ◌≤◌, ◌<◌, ◌^◌, ℕ, IfErr, IfNone, IfOk, IfSome, codes, option_map};
 ghost use Rattle.clap.specs.Words.{first_of, found_of, one_of, rows_of};
 ghost use Rattle.commands.specs.Jobs.{AreOptions, IsGiven, IsNoNumber, IsNumberIn, IsNumberOf, IsNumberOr, is_asked};
+ghost use Rattle.commands.specs.Jobs.{making_name};
 ghost use Rattle.commands.specs.declared.action.ReplaceOptions.{ReplaceOptions as Options};
 
-use crate::action::ReplaceOptions;
+use crate::action::{Making, ReplaceOptions};
 use clap::ArgMatches;
+use fuzzing::{Events, Simulation};
 
 /// The text of an option isn't a number below 256.
 #[derive(Clone, Copy)]
@@ -96,5 +98,37 @@ pub fn options_of(matches: &ArgMatches<'_>) -> Option<ReplaceOptions>
         new,
         is_tail: is_given(matches, "tail"),
         is_direct: is_given(matches, "direct"),
+    })
+}
+
+/// Returns the step whose script is asked for.
+pub fn step_of(matches: &ArgMatches<'_>) -> Making
+    ensures { making_name result ≡ codes "steps" }
+{
+    Making::Steps {
+        group: number_or(matches, "group", 0).unwrap_or(0),
+        configuration: number_or(matches, "configuration", 0).unwrap_or(0),
+    }
+}
+
+/// Returns the number that an option gives.
+fn count_of(matches: &ArgMatches<'_>, id: &str) -> u32 {
+    match matches.try_get_one::<u32>(id) {
+        Ok(Some(number)) => number,
+        _ => 0,
+    }
+}
+
+/// Returns the random runs that are asked for.
+pub fn runs_of(matches: &ArgMatches<'_>) -> Making
+    ensures { making_name result ≡ codes "simulate" }
+{
+    Making::Simulate(Simulation {
+        seed: u64::from(count_of(matches, "seed")),
+        runs: count_of(matches, "runs"),
+        events: Events {
+            restarts: is_given(matches, "crash"),
+            steps: is_given(matches, "replace"),
+        },
     })
 }

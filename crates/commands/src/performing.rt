@@ -2,7 +2,8 @@
 
 ghost use Rattle.std.specs.Prelude.{◌≡◌, ◌≢◌, ◌≤◌, ◌<◌, IfErr, IfOk, IsSome, None, false, string_bytes};
 ghost use Rattle.plan.specs.CheckedModel.{checked_model};
-ghost use Rattle.commands.specs.declared.action.Action.TheVariants.{Check, Explain, Fleet, Replace, Run, Search};
+ghost use Rattle.commands.specs.declared.action.Action.TheVariants.{Check, Explain, Fleet, Make, Replace, Run, Search};
+ghost use Rattle.commands.specs.declared.action.Making.{Making as ToMake};
 ghost use Rattle.commands.specs.declared.action.ReplaceOptions.{ReplaceOptions as Options};
 ghost use Rattle.commands.specs.Answer.{IsSaid};
 ghost use Rattle.commands.specs.Answers.{AnswersOf, ChecksTo, FleetsTo, RunsTo, file_of, script_name};
@@ -10,6 +11,7 @@ ghost use Rattle.commands.specs.Explains.{ExplainsTo};
 ghost use Rattle.commands.specs.FaultQuery.{ExplainsJob, HasFile, IsFileName};
 ghost use Rattle.commands.specs.Held.{HoldsCertified, HoldsFault};
 ghost use Rattle.commands.specs.Jobs.{prints_plan};
+ghost use Rattle.commands.specs.Makes.{MakesTo};
 ghost use Rattle.commands.specs.Replaces.{ReplacesTo};
 ghost use Rattle.commands.specs.Reports.{ExplainsAs, ExplainsFault, ReportsTo};
 ghost use Rattle.commands.specs.Searched.{SearchesTo};
@@ -25,6 +27,7 @@ use crate::fault_query::{explain_number, number_in};
 use crate::files::Source;
 use crate::inputs::checked;
 use crate::leaking::leak;
+use crate::making::make;
 use crate::names::shown_name;
 use crate::outputs::{Output, deliver};
 use crate::replacing::replaced;
@@ -34,7 +37,7 @@ use crate::run_explaining::explain_script;
 use crate::run_text::checked_line;
 use crate::running::{fleet, run};
 use crate::search::search;
-use crate::{Action, Job, ReplaceOptions};
+use crate::{Action, Job, Making, ReplaceOptions};
 use plan::CheckedPlan;
 use std::alloc::Global;
 use std::sync::Wait;
@@ -235,6 +238,28 @@ fn perform_replace<H: Threads + Wait + Sync, P: FallibleRead, O: FallibleWrite, 
         Ok(Edited::Reason(line)) => deliver(1, line.as_bytes(), b"", out, err),
         Err(stop) => refuse(alloc, &stop, out, err),
     }
+}
+
+/// Makes something of a checked plan, as [`perform`] does.
+fn perform_make<P: FallibleRead, O: FallibleWrite, E: FallibleWrite>(
+    alloc: Global,
+    job: &Job<'_>,
+    making: Making,
+    plan: &mut Source<P>,
+    out: &mut Output<O>,
+    err: &mut Output<E>,
+) -> u8
+    ensures status { result ≤ 2 }
+    ensures yes { result ≡ 0 → HoldsCertified P.remaining plan.old }
+    ensures quiet { result < 2 → err.new ≡ err.old }
+    ensures ends { Ends O.contents E.contents (AnswersOf (file_of P.remaining job.now.plan.now plan.old plan.new)
+        MakesTo) result out.old out.new err.old err.new }
+    ensures plan_read { FailsByRead P.answers plan.old plan.new }
+    ensures out_written { FailsByWrite O.answers out.old out.new }
+    ensures err_written { FailsByWrite E.answers err.old err.new }
+{
+    let answer = make(alloc, job, making, plan);
+    finish(alloc, &answer, out, err)
 }
 
 /// Performs an explanation of a plan, whose file is printed with this name.
@@ -533,6 +558,11 @@ pub fn perform<
         (AnswersOf (file_of P.remaining job.now.plan.now plan.old plan.new) (ReplacesTo options)) result out.old out.new
         err.old err.new }
 
+    // A step's script and random runs are made only of a plan without a fault: else its first fault is printed.
+    ensures makes { (making : ToMake) → job.now.action ≡ Make making → Ends O.contents E.contents
+        (AnswersOf (file_of P.remaining job.now.plan.now plan.old plan.new) MakesTo) result out.old out.new err.old
+        err.new }
+
     // An explanation of a plan's text has the status and the last line of a check, on the same output; as JSON, the
     // status and what a check prints to standard error. One of a number prints the refusal with that number in words.
     ensures explains { job.now.action ≡ Explain → job.now.script ≡ None → Ends O.contents E.contents
@@ -562,5 +592,6 @@ pub fn perform<
             None => perform_explain(alloc, job, plan, out, err),
         },
         Action::Replace(options) => perform_replace(rt, alloc, job, options, plan, out, err),
+        Action::Make(making) => perform_make(alloc, job, making, plan, out, err),
     }
 }

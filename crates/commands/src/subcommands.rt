@@ -1,12 +1,13 @@
 //! The command line, by clap's builder.
 
-ghost use Rattle.std.specs.Prelude.{◌≡◌, IfOk, false};
+ghost use Rattle.std.specs.Prelude.{◌≡◌, ◌≤◌, IfOk, codes, false};
 ghost use Rattle.clap.specs.Words.{app_of, rule_of, with_subcommand};
 ghost use Rattle.clap.specs.declared.builder.command.Command.TheViews.{out-Command as fields_of};
 ghost use Rattle.commands.specs.CommandLine.{IsLeaf, file_rule, flag_rule, json_leaf, other_file_rule, tool, program};
 ghost use Rattle.commands.specs.CommandLine.{file_leaf, fleet_leaf, script_leaf, workers_leaf, workers_rule};
 ghost use Rattle.commands.specs.CommandLine.{configuration_rule, group_rule, member_rule, members_leaf};
 ghost use Rattle.commands.specs.CommandLine.{places_leaf, replace_leaf};
+ghost use Rattle.commands.specs.CommandLine.{count_rule, runs_leaf, simulate_leaf, steps_leaf, target_rule};
 
 use crate::help;
 use clap::{Arg, ArgAction, Command, value_parser};
@@ -167,6 +168,20 @@ fn group<'a>(alloc: Global) -> Arg<'a>
         .default_value("0")
 }
 
+/// Returns the option with the number of the configuration to which a step leads.
+fn target<'a>(alloc: Global) -> Arg<'a>
+    ensures rule { rule_of result ≡ target_rule }
+    ensures local { result.global ≡ false }
+{
+    Arg::new(alloc, "configuration")
+        .short('c')
+        .long("configuration")
+        .value_name("N")
+        .help("The configuration to which the step leads")
+        .value_parser(value_parser!(u8).range(0..=63))
+        .required(true)
+}
+
 /// Returns the option with a configuration's number.
 fn configuration<'a>(alloc: Global) -> Arg<'a>
     ensures rule { rule_of result ≡ configuration_rule }
@@ -233,6 +248,72 @@ fn of_replace<'a>(
     ))
 }
 
+/// Returns a subcommand of a plan's file, a group and a configuration.
+fn of_steps<'a>(
+    alloc: Global,
+    name: &'a str,
+    about: &'a str,
+    notes: &'a str,
+) -> Result<Command<'a>, AllocError>
+    ensures { IfOk result (IsLeaf (steps_leaf name.entry.now)) }
+{
+    let command = of_file(alloc, name, about, notes)?.arg(group(alloc))?;
+    command.arg(target(alloc))
+}
+
+/// Returns the option with the first seed.
+fn seed<'a>(alloc: Global) -> Arg<'a>
+    ensures rule { rule_of result ≡ count_rule (codes "seed") 0 4294967295 (codes "1") }
+    ensures local { result.global ≡ false }
+{
+    Arg::new(alloc, "seed")
+        .long("seed")
+        .value_name("N")
+        .help("The seed of the first run; each run has the next one")
+        .value_parser(value_parser!(u32).range(0..=4_294_967_295))
+        .default_value("1")
+}
+
+/// Returns the option with the number of runs.
+fn runs<'a>(alloc: Global) -> Arg<'a>
+    ensures rule { rule_of result ≡ count_rule (codes "runs") 1 1000000 (codes "1000") }
+    ensures local { result.global ≡ false }
+{
+    Arg::new(alloc, "runs")
+        .long("runs")
+        .value_name("N")
+        .help("How many runs, 1 to 1,000,000")
+        .value_parser(value_parser!(u32).range(1..=1_000_000))
+        .default_value("1000")
+}
+
+/// Returns a subcommand of a plan's file, the first seed and the number of runs.
+fn of_runs<'a>(
+    alloc: Global,
+    name: &'a str,
+    about: &'a str,
+    notes: &'a str,
+) -> Result<Command<'a>, AllocError>
+    ensures { IfOk result (IsLeaf (runs_leaf name.entry.now)) }
+{
+    let command = of_file(alloc, name, about, notes)?.arg(seed(alloc))?;
+    command.arg(runs(alloc))
+}
+
+/// Returns a subcommand of random runs.
+fn of_simulate<'a>(
+    alloc: Global,
+    name: &'a str,
+    about: &'a str,
+    notes: &'a str,
+) -> Result<Command<'a>, AllocError>
+    ensures { IfOk result (IsLeaf (simulate_leaf name.entry.now)) }
+{
+    let command = of_runs(alloc, name, about, notes)?;
+    let command = command.arg(flag(alloc, "crash", "Nodes restart"))?;
+    command.arg(flag(alloc, "replace", "Groups step along the plan"))
+}
+
 fn add<'a>(command: Command<'a>, leaf: Command<'a>) -> Result<Command<'a>, AllocError>
     requires { (fields_of leaf).has_globals ≡ false }
     ensures { IfOk result
@@ -282,5 +363,14 @@ pub fn command_line<'a>(alloc: Global) -> Result<Command<'a>, AllocError>
         "Writes a plan in which a member may be replaced",
         help::REPLACE,
     )?;
-    add(command, replace)
+    let command = add(command, replace)?;
+    let steps = of_steps(alloc, "steps", "Writes the script of a step", help::STEPS)?;
+    let command = add(command, steps)?;
+    let simulate = of_simulate(
+        alloc,
+        "simulate",
+        "Makes random runs of a plan, and judges what they print",
+        help::SIMULATE,
+    )?;
+    add(command, simulate)
 }

@@ -9,7 +9,7 @@ ghost use Rattle.commands.specs.declared.action.Action.{Action as ActionName};
 ghost use Rattle.commands.specs.declared.action.ReplaceOptions.{ReplaceOptions as OptionsName};
 
 use crate::action::{Action, Job};
-use crate::options::{is_given, options_of, text_of, workers_of};
+use crate::options::{is_given, options_of, runs_of, step_of, text_of, workers_of};
 use crate::subcommands::command_line;
 use crate::usage::Usage;
 use clap::ArgMatches;
@@ -71,6 +71,8 @@ fn action_of(name: &str, matches: &ArgMatches<'_>) -> Option<Action>
         "search" => Some(Action::Search),
         "explain" => Some(Action::Explain),
         "replace" => replace_of(matches),
+        "steps" => Some(Action::Make(step_of(matches))),
+        "simulate" => Some(Action::Make(runs_of(matches))),
         _ => None,
     }
 }

@@ -23,3 +23,6 @@ returns-in-Replace-clause-replaces g c = λ o is.
     let same : c.in-Replace.options ≡ o = cc in
     subst (λ (p : ReplaceOptions). Ends g.O.Write.contents g.E.Write.contents (AnswersOf (file_of g.P.Read.remaining c.args.job.now.plan.now c.args.plan.now c.perform_replace.new.plan) (ReplacesTo p)) c.perform_replace.result c.args.out.now c.perform_replace.new.out c.args.err.now c.perform_replace.new.err)
     same c.perform_replace.ensures.ends
+
+pub returns-in-Make-clause-makes : goal.returns-in-Make-clause-makes
+returns-in-Make-clause-makes g c = λ making is. c.perform_make.ensures.ends

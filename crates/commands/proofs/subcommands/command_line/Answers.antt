@@ -11,4 +11,6 @@ returns c =
     let three = c.in_ok-command-3.ensures ∙ ap₂ with_subcommand two (ap top c.in_ok-fleet.ensures.app) in
     let four = c.in_ok-command-4.ensures ∙ ap₂ with_subcommand three (ap top c.in_ok-search.ensures.app) in
     let five = c.in_ok-command-5.ensures ∙ ap₂ with_subcommand four (ap top c.in_ok-explain.ensures.app) in
-    IfOk-weaker c.add-6.result _ _ (λ r h. h ∙ ap₂ with_subcommand five (ap top c.in_ok-replace.ensures.app)) c.add-6.ensures
+    let six = c.in_ok-command-6.ensures ∙ ap₂ with_subcommand five (ap top c.in_ok-replace.ensures.app) in
+    let seven = c.in_ok-command-7.ensures ∙ ap₂ with_subcommand six (ap top c.in_ok-steps.ensures.app) in
+    IfOk-weaker c.add-8.result _ _ (λ r h. h ∙ ap₂ with_subcommand seven (ap top c.in_ok-simulate.ensures.app)) c.add-8.ensures
