@@ -7,3 +7,4 @@ pub mod Fielded
 pub mod Messages
 pub mod Again
 pub mod Back
+pub mod Filled

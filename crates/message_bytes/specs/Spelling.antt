@@ -1,5 +1,5 @@
 -- The canonical bytes of each message and of its parts.
-use Rattle.std.specs.Prelude.{◌≡◌, ◌<◌, ◌^◌, ℕ, List, [], ◌∷◌, ◌++◌, length, Ok}
+use Rattle.std.specs.Prelude.{◌≡◌, ◌<◌, ◌+◌, ◌^◌, ℕ, List, [], ◌∷◌, ◌++◌, length, Ok}
 use Rattle.std.specs.Int.{w16, w32, w64, to_be_bytes}
 use Rattle.volume_model.specs.Redo.{Redo}
 use Rattle.volume_model.specs.Lineage.{Entry, Lineage, Contents}
@@ -86,6 +86,21 @@ body_spelled (PageAsk group label block point) = labelled_spelled group label
     ++ (to_be_bytes w32 block ++ to_be_bytes w64 point)
 body_spelled (Page group label from block point image) = labelled_spelled group label ++ ((from ∷ to_be_bytes w32 block)
     ++ (to_be_bytes w64 point ++ image))
+
+-- the number of bytes of a message without lists; 0 for a message with lists
+abbrev pub fixed_size : Message → ℕ
+fixed_size (View volume places) = 0
+fixed_size (StepTo group place) = 8
+fixed_size (Fence group label) = 11
+fixed_size (Report group label from c) = 0
+fixed_size (Install group label piece c) = 0
+fixed_size (Write group label r) = 11 + length (spelled r)
+fixed_size (Gossip group label r) = 11 + length (spelled r)
+fixed_size (Ack group label from scl) = 20
+fixed_size (CopyAsk group epoch) = 7
+fixed_size (CopyReport group epoch from series piece c) = 0
+fixed_size (PageAsk group label block point) = 23
+fixed_size (Page group label from block point image) = 536
 
 -- a message's kind and its fields
 abbrev pub tagged_spelled : Message → List ℕ

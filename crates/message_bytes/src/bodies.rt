@@ -1,17 +1,14 @@
-//! Encodes the fields of each kind of message.
+//! Encodes the fields of the kinds of messages that have lists.
 
 ghost use Rattle.std.specs.Prelude.{◌≡◌, ◌<◌, ◌^◌, ◌++◌, length, map, OnOk};
 ghost use Rattle.wire.specs.Message.{label_of, place_of, message_of};
 ghost use Rattle.wire.specs.Contents.{piece_in};
 ghost use Rattle.message_bytes.specs.Spelling.{labelled_spelled, place_spelled, places_spelled, piece_spelled, body_spelled, ArePlaces, IsReadBack};
 
-use crate::writing::{count_of, put_contents, put_record, put_u16, put_u32, put_u64};
+use crate::writing::{count_of, put_contents, put_u16, put_u32, put_u64};
 use std::alloc::{AllocError, Global};
 use volume_model::Fault;
-use wire::{
-    Ack, CopyAsk, CopyReport, Fence, Gossip, Install, Label, Message, Page, PageAsk, Place, Report,
-    StepTo, View, Write,
-};
+use wire::{CopyReport, Install, Label, Message, Place, Report, View};
 
 fn put_labelled(out: &mut Vec<u8>, group: u8, label: Label) -> Result<(), AllocError>
     ensures text { OnOk result (out.new.items ≡ out.old.items ++ labelled_spelled group (label_of label)) }
@@ -54,14 +51,6 @@ fn put_piece(out: &mut Vec<u8>, piece: u16, of: u16) -> Result<(), AllocError>
     Ok(())
 }
 
-/// Appends the bytes of a page.
-fn put_image(out: &mut Vec<u8>, bytes: [u8; 512]) -> Result<(), AllocError>
-    ensures text { OnOk result (out.new.items ≡ out.old.items ++ bytes) }
-    ensures full { length bytes ≡ 512 }
-{
-    out.extend_from_slice(&bytes)
-}
-
 /// Appends the fields of a `View`.
 pub fn put_view(out: &mut Vec<u8>, view: &View) -> Result<(), Fault>
     ensures text { OnOk result (out.new.items ≡ out.old.items ++ body_spelled (message_of (Message.View view.now))) }
@@ -71,25 +60,6 @@ pub fn put_view(out: &mut Vec<u8>, view: &View) -> Result<(), Fault>
     put_u32(out, view.volume)?;
     put_u32(out, count)?;
     put_places(out, &view.places)?;
-    Ok(())
-}
-
-/// Appends the fields of a `StepTo`.
-pub fn put_step(out: &mut Vec<u8>, step: &StepTo) -> Result<(), AllocError>
-    ensures text { OnOk result (out.new.items ≡ out.old.items ++ body_spelled (message_of (Message.StepTo step.now))) }
-    ensures reads { OnOk result (IsReadBack (message_of (Message.StepTo step.now))) }
-{
-    out.push(step.group)?;
-    put_place(out, step.place)?;
-    Ok(())
-}
-
-/// Appends the fields of a `Fence`.
-pub fn put_fence(out: &mut Vec<u8>, fence: &Fence) -> Result<(), AllocError>
-    ensures text { OnOk result (out.new.items ≡ out.old.items ++ body_spelled (message_of (Message.Fence fence.now))) }
-    ensures reads { OnOk result (IsReadBack (message_of (Message.Fence fence.now))) }
-{
-    put_labelled(out, fence.group, fence.label)?;
     Ok(())
 }
 
@@ -117,48 +87,6 @@ pub fn put_install(alloc: Global, out: &mut Vec<u8>, install: &Install) -> Resul
     Ok(())
 }
 
-/// Appends the fields of a `Write`.
-pub fn put_write(out: &mut Vec<u8>, write: &Write) -> Result<(), AllocError>
-    ensures text { OnOk result (out.new.items ≡ out.old.items ++ body_spelled (message_of (Message.Write write.now))) }
-    ensures reads { OnOk result (IsReadBack (message_of (Message.Write write.now))) }
-{
-    put_labelled(out, write.group, write.label)?;
-    put_record(out, &write.packet)?;
-    Ok(())
-}
-
-/// Appends the fields of a `Gossip`.
-pub fn put_gossip(out: &mut Vec<u8>, gossip: &Gossip) -> Result<(), AllocError>
-    ensures text { OnOk result (out.new.items ≡ out.old.items ++ body_spelled
-        (message_of (Message.Gossip gossip.now))) }
-    ensures reads { OnOk result (IsReadBack (message_of (Message.Gossip gossip.now))) }
-{
-    put_labelled(out, gossip.group, gossip.label)?;
-    put_record(out, &gossip.packet)?;
-    Ok(())
-}
-
-/// Appends the fields of an `Ack`.
-pub fn put_ack(out: &mut Vec<u8>, ack: &Ack) -> Result<(), AllocError>
-    ensures text { OnOk result (out.new.items ≡ out.old.items ++ body_spelled (message_of (Message.Ack ack.now))) }
-    ensures reads { OnOk result (IsReadBack (message_of (Message.Ack ack.now))) }
-{
-    put_labelled(out, ack.group, ack.label)?;
-    out.push(ack.from)?;
-    put_u64(out, ack.scl)?;
-    Ok(())
-}
-
-/// Appends the fields of a `CopyAsk`.
-pub fn put_copy_ask(out: &mut Vec<u8>, ask: &CopyAsk) -> Result<(), AllocError>
-    ensures text { OnOk result (out.new.items ≡ out.old.items ++ body_spelled (message_of (Message.CopyAsk ask.now))) }
-    ensures reads { OnOk result (IsReadBack (message_of (Message.CopyAsk ask.now))) }
-{
-    out.push(ask.group)?;
-    put_u32(out, ask.epoch)?;
-    Ok(())
-}
-
 /// Appends the fields of a `CopyReport`.
 pub fn put_copy_report(alloc: Global, out: &mut Vec<u8>, report: &CopyReport) -> Result<(), Fault>
     ensures text { OnOk result (out.new.items ≡ out.old.items ++ body_spelled
@@ -171,29 +99,5 @@ pub fn put_copy_report(alloc: Global, out: &mut Vec<u8>, report: &CopyReport) ->
     put_u64(out, report.part.series)?;
     put_piece(out, report.piece, report.of)?;
     put_contents(alloc, out, &report.part.contents)?;
-    Ok(())
-}
-
-/// Appends the fields of a `PageAsk`.
-pub fn put_page_ask(out: &mut Vec<u8>, ask: &PageAsk) -> Result<(), AllocError>
-    ensures text { OnOk result (out.new.items ≡ out.old.items ++ body_spelled (message_of (Message.PageAsk ask.now))) }
-    ensures reads { OnOk result (IsReadBack (message_of (Message.PageAsk ask.now))) }
-{
-    put_labelled(out, ask.group, ask.label)?;
-    put_u32(out, ask.block)?;
-    put_u64(out, ask.point)?;
-    Ok(())
-}
-
-/// Appends the fields of a `Page`.
-pub fn put_page(out: &mut Vec<u8>, page: &Page) -> Result<(), AllocError>
-    ensures text { OnOk result (out.new.items ≡ out.old.items ++ body_spelled (message_of (Message.Page page.now))) }
-    ensures reads { OnOk result (IsReadBack (message_of (Message.Page page.now))) }
-{
-    put_labelled(out, page.group, page.label)?;
-    out.push(page.from)?;
-    put_u32(out, page.image.block)?;
-    put_u64(out, page.image.point)?;
-    put_image(out, page.image.bytes)?;
     Ok(())
 }

@@ -8,15 +8,17 @@ mod bodies;
 mod contents;
 mod decoding;
 mod encoding;
+mod fixed;
 mod numbers;
 mod places;
 mod reading;
+mod slices;
 mod writing;
 
 pub use bodies::put_place;
 pub use contents::read_contents;
 pub use decoding::decode;
-pub use encoding::{encode, encode_into};
+pub use encoding::{encode, encode_into, encode_to_slice};
 pub use numbers::{u8_at, u32_at, u64_at};
 pub use places::read_place;
 pub use writing::{put_at, put_contents_head, put_u32, put_u64, write_records};

@@ -92,7 +92,7 @@ fn read_back(packets: &[SharedRecord])
 }
 
 /// Appends the bytes of a record.
-pub fn put_record(out: &mut Vec<u8>, packet: &SharedRecord) -> Result<(), AllocError>
+fn put_record(out: &mut Vec<u8>, packet: &SharedRecord) -> Result<(), AllocError>
     ensures text { OnOk result (out.new.items ≡ out.old.items ++ spelled (shared_redo packet.now)) }
     ensures reads { OnOk result (decoded (spelled (shared_redo packet.now)) ≡ Ok (shared_redo packet.now)) }
 {

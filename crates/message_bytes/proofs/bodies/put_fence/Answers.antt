@@ -1,6 +1,0 @@
-use Rattle.wire.specs.Message.{label_of}
-use Rattle.message_bytes.proofs.Back.{fence_back}
-use Rattle.message_bytes.proofs.bodies.put_fence.Goals as goal
-
-pub returns-clause-reads : goal.returns-clause-reads
-returns-clause-reads c = fence_back c.args.fence.now.group (label_of c.args.fence.now.label) (record { volume = c.in_ok-put_labelled.ensures.volume; member = c.in_ok-put_labelled.ensures.member })

@@ -1,0 +1,7 @@
+use Rattle.wire.specs.Message.{place_of}
+use Rattle.message_bytes.proofs.Back.{step_back}
+use Rattle.message_bytes.proofs.fixed.write_step.Goals as goal
+
+pub returns-clause-reads : goal.returns-clause-reads
+returns-clause-reads c =
+    step_back c.args.step.now.group (place_of c.args.step.now.place) c.write_place.ensures.fits
