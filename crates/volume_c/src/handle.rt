@@ -104,9 +104,7 @@ impl Handle {
         requires { self.old.seal.held ≡ None }
         ensures { self.new.seal.held ≡ Some (box_value held) }
     {
-        *self = Handle {
-            seal: Seal::of_parts(Parts::of(held)),
-            live: true,
-        };
+        self.seal = Seal::of_parts(Parts::of(held));
+        self.live = true;
     }
 }

@@ -15,12 +15,7 @@ use std::alloc::Global;
 fn hand_out(alloc: Global, held: &mut Held, out: &mut [u8], needed: &mut usize) -> u8
     ensures { Hands result (Some held.old) (Some held.new) needed.new out.old out.new }
 {
-    let status = held.outbox.write_first(alloc, out, needed);
-    if status != 0 {
-        return status;
-    }
-    held.outbox.pass();
-    0
+    held.outbox.hand_out(alloc, out, needed)
 }
 
 /// Writes the next message that the actor made to `out`, and drops it. Each message is handed out once, in the order

@@ -1,22 +1,28 @@
 //! The messages that an actor made, until the engine takes them.
 
-use crate::buffer::copy_out;
-use crate::status::NO_MORE;
-use message_bytes::encode_into;
+use crate::status::{NO_MORE, TOO_SMALL};
+use message_bytes::encode_to_slice;
 use std::alloc::Global;
-use wire::Messages;
+use std::mem::replace;
+use wire::{Message, Messages};
 
 /// The messages of an actor's last step, of which the first `next` were taken.
 #[derive(Drop)]
 pub struct Outbox {
     messages: Messages,
     next: usize,
-    /// The bytes of the message that was encoded last. The next message is encoded into the same memory.
+    /// The bytes of the last message that has lists. The next one is encoded into the same memory.
     bytes: Vec<u8>,
 }
 
+/// Frees a list of messages. Out of line, so that a call that hands out a message saves fewer registers.
+#[inline(never)]
+fn free_list(list: Vec<Message>) {
+    let _ = list;
+}
+
 impl Outbox {
-    ghost use Rattle.std.specs.Prelude.{◌≡◌, ◌≢◌, ◌∷◌, [], true, drop, take};
+    ghost use Rattle.std.specs.Prelude.{◌≡◌, ◌≢◌, ◌<◌, [], true, drop, length, take};
     ghost use Rattle.wire.specs.Listed.{listed};
     ghost use Rattle.volume_c.specs.Outbox.{left_in, WritesFirst};
 
@@ -52,45 +58,60 @@ impl Outbox {
 
     /// Writes the bytes of the first message that wasn't taken to `out`. Returns a status, and sets `needed` to the
     /// number of bytes if there is such a message.
-    pub fn write_first(&mut self, alloc: Global, out: &mut [u8], needed: &mut usize) -> u8
+    fn write_first(&mut self, alloc: Global, out: &mut [u8], needed: &mut usize) -> u8
+        requires { self.old.next < length (listed self.old.messages) }
         ensures first { result ≡ 0 → WritesFirst (left_in self.old) (take needed.new out.new) }
-        ensures left { left_in self.new ≡ left_in self.old }
+        ensures same { (self.new.messages ≡ self.old.messages) × (self.new.next ≡ self.old.next) }
         ensures unchanged { result ≢ 0 → out.new ≡ out.old }
     {
-        if self.next >= self.messages.len() {
+        let message = self.messages.at(self.next);
+        let fits = match encode_to_slice(alloc, &mut self.bytes, out, needed, message) {
+            Ok(fits) => fits,
+            Err(fault) => return fault.number(),
+        };
+        if fits { 0 } else { TOO_SMALL }
+    }
+
+    /// Frees the messages, of which the last was taken.
+    fn free(&mut self)
+        ensures { left_in self.new ≡ [] }
+    {
+        self.next = 0;
+        if let Messages::Many(list) = replace(&mut self.messages, Messages::Empty) {
+            free_list(list);
+        }
+    }
+
+    /// Drops the first message that wasn't taken, of `count` messages. The memory of all is freed with the last one.
+    fn pass(&mut self, count: usize)
+        requires count { count ≡ length (listed self.old.messages) }
+        requires some { self.old.next < count }
+        ensures { left_in self.new ≡ drop 1 (left_in self.old) }
+    {
+        if count - self.next > 1 {
+            self.next += 1;
+            return;
+        }
+        self.free();
+    }
+
+    /// Hands out the first message that wasn't taken: writes its bytes to `out` and drops it. Returns a status, and sets
+    /// `needed` to the number of bytes if there is such a message.
+    pub fn hand_out(&mut self, alloc: Global, out: &mut [u8], needed: &mut usize) -> u8
+        ensures first { result ≡ 0 → WritesFirst (left_in self.old) (take needed.new out.new) }
+        ensures passed { result ≡ 0 → left_in self.new ≡ drop 1 (left_in self.old) }
+        ensures left { result ≢ 0 → left_in self.new ≡ left_in self.old }
+        ensures unchanged { result ≢ 0 → out.new ≡ out.old }
+    {
+        let count = self.messages.len();
+        if self.next >= count {
             return NO_MORE;
         }
-        let message = self.messages.at(self.next);
-        if let Err(fault) = encode_into(alloc, &mut self.bytes, message) {
-            return fault.number();
+        let status = self.write_first(alloc, out, needed);
+        if status != 0 {
+            return status;
         }
-        copy_out(&self.bytes, out, needed)
-    }
-
-    /// Drops the first message that wasn't taken.
-    fn advance(&mut self)
-        ensures { left_in self.new ≡ drop 1 (left_in self.old) }
-    {
-        if self.next < self.messages.len() {
-            self.next += 1;
-        }
-    }
-
-    /// Frees the messages if all were taken.
-    fn free(&mut self)
-        ensures { left_in self.new ≡ left_in self.old }
-    {
-        if self.is_empty() {
-            self.messages = Messages::Empty;
-            self.next = 0;
-        }
-    }
-
-    /// Drops the first message that wasn't taken. The memory of all is freed with the last one.
-    pub fn pass(&mut self)
-        ensures { left_in self.new ≡ drop 1 (left_in self.old) }
-    {
-        self.advance();
-        self.free();
+        self.pass(count);
+        0
     }
 }
