@@ -32,8 +32,16 @@ static void price(const char *name, double least) {
 static uint8_t made[BATCH][MOST_BYTES];
 static size_t lengths[BATCH];
 
+#ifdef CORE_IS_CALLED
+/* Decodes a message, and encodes it into a buffer that is there. */
+_Bool core_encode(const uint8_t *message, size_t length);
+#endif
+
 static void take_out(struct volume_handle *actor, size_t i) {
     DO(volume_next_message(actor, made[i], MOST_BYTES, &lengths[i]));
+#ifdef CORE_IS_CALLED
+    WANT(core_encode(made[i], lengths[i]));
+#endif
 }
 
 static void keep(struct bytes *kept) {

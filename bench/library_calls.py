@@ -9,8 +9,9 @@ and the kit's clang compiles at -O3. It needs `cc`. Each price is the least of s
 records of 64 bytes, in nanoseconds of a processor.
 
 If valgrind is there, such a build is also compared with the core. The instructions of a call that count as the core's are
-those of the calls into the crates below volume_c (`decode`, `Segment::deliver`, `encode_into` ..), which are kept out of line,
-and those that free their results, which each caller of the core needs.
+those of the calls into the crates below volume_c (`decode`, `Segment::deliver`, `encode_to_slice` ..), which are kept out of
+line, and those that free their results, which each caller of the core needs. `volume_next_message` is compared with
+`encode_into` of the same messages, into a buffer that is there.
 """
 import importlib.machinery
 import importlib.util
@@ -27,6 +28,7 @@ TOP = pathlib.Path(__file__).resolve().parent.parent
 RECORDS = "20000"
 CORE = [
     ("message_bytes", "decoding", None, "decode"),
+    ("message_bytes", "encoding", None, "encode_to_slice"),
     ("message_bytes", "encoding", None, "encode_into"),
     ("message_bytes", "contents", None, "read_contents"),
     ("message_bytes", "writing", None, "put_contents_head"),
@@ -39,11 +41,32 @@ CORE = [
     ("world", "client", "Client", "act"),
     ("writer_core", "change", "Change", "new"),
 ]
-FREES = "rattle_dealloc"
+FREES, NEXT = "rattle_dealloc", "volume_next_message"
+# functions of the test module, which encode a message into a buffer that is there
+AGAIN = ("volume_c", "called_exports", None, "encode_again")
+ENCODE = re.compile(r'^define internal (?:noundef |zeroext )*(\w+) (@"volume_c::called_exports::(core_encode)")\((.*?)\)', re.M)
+ENCODES = {
+    "let _ = core_encode(alloc, &[])": """
+use message_bytes::{decode, encode_into};
+use wire::Message;
+
+fn encode_again(alloc: Global, buffer: &mut Vec<u8>, message: &Message) -> bool {
+    encode_into(alloc, buffer, message).is_ok()
+}
+
+fn core_encode(alloc: Global, bytes: &[u8]) -> bool {
+    let mut buffer = Vec::new(alloc);
+    match decode(alloc, bytes) {
+        Ok(message) => encode_into(alloc, &mut buffer, &message).is_ok() && encode_again(alloc, &mut buffer, &message),
+        Err(_) => false,
+    }
+}
+"""
+}
 COMPARED = [
-    ["volume_segment_take", "volume_next_message"],
+    ["volume_segment_take", NEXT],
     ["volume_segment_take"],
-    ["volume_next_message"],
+    [NEXT],
     ["volume_client_take"],
     ["volume_writer_issue"],
     ["volume_segment_page"],
@@ -71,6 +94,12 @@ def without_checks(text, apart=()):
         found[crate, name] = [(module, owner, "noinline")] + found.get((crate, name), [])
     marked = (draft.marked(line, found, set()) if line.startswith("define") else line for line in text.split("\n"))
     return "\n".join(marked)
+
+
+def apart_from_core(text):
+    """The text of a module whose core is kept out of line, and which exports `core_encode`."""
+    text = without_checks(text, [*CORE, AGAIN])
+    return text + script("unproved_library").wrapper(*ENCODE.search(text).groups())
 
 
 def crate_of(function):
@@ -108,23 +137,31 @@ def calls_of(profile):
     return total, core
 
 
+def counted(program, room, names):
+    """The instructions of calls of these functions: all, and those of the core."""
+    profile, words = room / "callgrind", [program, TOP / "examples/long_log.json", "1024", "1"]
+    collected = [f"--toggle-collect={name}" for name in names]
+    how = ["valgrind", "-q", "--tool=callgrind", *collected, f"--callgrind-out-file={profile}"]
+    subprocess.run([*how, *words], stdout=subprocess.DEVNULL, stderr=subprocess.DEVNULL, check=True)
+    return calls_of(profile)
+
+
 def compared(program, room):
     """The instructions of each call, and how many of them are the core's."""
-    print("\n| Call | Instructions | of them the core's | Library to core |\n|---|---|---|---|")
-    profile, words = room / "callgrind", [program, TOP / "examples/long_log.json", "1024", "1"]
+    print("\n| Call | Instructions | The core's | Library to core |\n|---|---|---|---|")
     for names in COMPARED:
-        collected = [f"--toggle-collect={name}" for name in names]
-        how = ["valgrind", "-q", "--tool=callgrind", *collected, f"--callgrind-out-file={profile}"]
-        subprocess.run([*how, *words], stdout=subprocess.DEVNULL, stderr=subprocess.DEVNULL, check=True)
-        total, core = calls_of(profile)
+        total, core = counted(program, room, names)
+        if names == [NEXT]:
+            print(f"`{NEXT}` has {core:,} instructions of `encode_to_slice` and of freeing messages")
+            _, core = counted(program, room, ["::".join(part for part in AGAIN if part)])
         print(f"| {', '.join(f'`{name}`' for name in names)} | {total:,} | {core:,} | {total / max(core, 1):.2f} |")
 
 
-def linked(library, program):
+def linked(library, program, *flags):
     """Links the C program that makes the calls."""
     tests = TOP / "bindings/c_tests"
     sources = [TOP / "bench/library_calls.c", tests / "support.c", library / "libvolume_c.a"]
-    subprocess.run(["cc", "-std=c99", "-O2", f"-I{library}", f"-I{tests}", *sources, "-o", program], check=True)
+    subprocess.run(["cc", "-std=c99", "-O2", *flags, f"-I{library}", f"-I{tests}", *sources, "-o", program], check=True)
     return program
 
 
@@ -145,7 +182,7 @@ def main():
     with tempfile.TemporaryDirectory() as folder:
         room = pathlib.Path(folder)
         if len(sys.argv) < 2:
-            script("unproved_library").translated(room / "module.bc")
+            script("unproved_library").translated(room / "module.bc", ENCODES)
         library = pathlib.Path(sys.argv[1]).resolve() if len(sys.argv) == 2 else drafted(room, "library", change=without_checks)
         words = [linked(library, room / "library_calls"), TOP / "examples/long_log.json", RECORDS]
         lines = subprocess.run(words, text=True, stdout=subprocess.PIPE, check=True).stdout.splitlines()
@@ -153,8 +190,8 @@ def main():
         for name, price in (line.split("\t") for line in lines):
             print(f"| {name} | {int(price):,} ns |")
         if len(sys.argv) < 2 and shutil.which("valgrind"):
-            apart = drafted(room, "apart", change=lambda text: without_checks(text, CORE))
-            compared(linked(apart, room / "compared"), room)
+            apart = drafted(room, "apart", change=apart_from_core)
+            compared(linked(apart, room / "compared", "-DCORE_IS_CALLED"), room)
 
 
 if __name__ == "__main__":
