@@ -97,8 +97,8 @@ Example: plan_tool replace examples/six_copies.json --out 5 --in 6 > replaced.js
 /// The notes of `steps`.
 pub const STEPS: &str = "\
 The script has the steps that lead to the parent of the configuration and then the step itself, with comments: the
-authority advances the group, its members are told, each new member asks the whole ones for copies and becomes whole,
-and the writer learns of the step. `run FILE` takes each of its lines. The plan must have no fault.
+authority advances the group, its StepTo goes to the members, each new member asks the whole ones for copies and becomes
+whole, and the writer learns of the step. `run FILE` takes each of its lines. The plan must have no fault.
 
 Example: plan_tool steps plan.json -c 1 > step.script && plan_tool run plan.json step.script";
 

@@ -92,7 +92,7 @@ impl Script {
         let (group, kept) = (step.group, step.kept);
         write!(
             self.text,
-            "# Member {member} is told, and asks for copies: "
+            "# The StepTo goes to member {member}, which asks for copies: "
         )?;
         self.add_comment("", kept, " send them, and it becomes whole.")?;
         write!(self.text, "deliver {group} {member} {advance}.1")?;
@@ -137,7 +137,7 @@ impl Script {
     /// Appends the lines of a step to a configuration with this read expression.
     fn add_step(&mut self, step: &Step, read: &Expr<Global>) -> Result<(), AllocError> {
         let advance = self.advance(step, read)?;
-        self.add_comment("# The members ", step.kept, " are told.")?;
+        self.add_comment("# The StepTo goes to the members ", step.kept, ".")?;
         self.deliver(step.group, step.kept, advance)?;
         for member in 0..MEMBERS {
             if step.fresh.contains(member) {
