@@ -10,8 +10,6 @@ mod refusal;
 mod replacement;
 mod replacing;
 mod splicing;
-#[cfg(test)]
-mod tests;
 mod text;
 mod wording;
 
