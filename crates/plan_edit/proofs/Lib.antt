@@ -1,4 +1,3 @@
 pub mod RenamedLaws
 pub mod Sets
 pub mod Behind
-pub mod Rooted

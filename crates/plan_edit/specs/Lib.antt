@@ -2,4 +2,3 @@ pub mod Renamed
 pub mod Drafts
 pub mod Replaced
 pub mod Edited
-pub mod NewPlans
