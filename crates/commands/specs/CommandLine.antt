@@ -130,8 +130,8 @@ with_replace = with_subcommand with_explain (replace_leaf (codes "replace")).top
 abbrev pub with_steps : App
 with_steps = with_subcommand with_replace (steps_leaf (codes "steps")).top
 
--- check FILE, run PLAN SCRIPT, fleet PLAN SCRIPT -w N, search FILE -w N, explain FILE SCRIPT --json, whose script may be
--- left out, replace FILE -w N --out N --in N -g N -c N --tail --direct, steps FILE -g N -c N, simulate FILE --seed N
+-- check FILE, run PLAN SCRIPT, fleet PLAN SCRIPT -w N, search FILE -w N, explain FILE SCRIPT --json, whose script may
+-- be left out, replace FILE -w N --out N --in N -g N -c N --tail --direct, steps FILE -g N -c N, simulate FILE --seed N
 -- --runs N --crash --replace
 abbrev pub tool : App
 tool = with_subcommand with_steps (simulate_leaf (codes "simulate")).top

@@ -71,7 +71,7 @@ fn no_step(alloc: Global, why: NoStep, group: u8, configuration: u8) -> Result<S
         NoStep::IsRoot => write!(text, "no: no step leads to configuration {configuration}\n")?,
         NoStep::CannotRead(number) => write!(
             text,
-            "no: the members that configuration {number} of group {group} keeps can't be read there\n"
+            "no: the members that the step to configuration {number} of group {group} keeps aren't a read set of it\n"
         )?,
     }
     Ok(text)

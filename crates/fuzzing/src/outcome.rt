@@ -7,6 +7,7 @@ use std::alloc::{AllocError, Global};
 /// The answer to a line of the script.
 #[derive(Clone, Copy)]
 pub struct Answer {
+    /// The number of the line.
     pub line: u64,
     /// The number of messages that it made, unless it was refused.
     pub made: Option<u64>,
@@ -15,16 +16,22 @@ pub struct Answer {
 /// An open writer at the end.
 #[derive(Clone, Copy, PartialEq, Eq)]
 pub struct Writer {
+    /// Its volume epoch.
     pub client: u64,
+    /// The LSN up to which its log is acknowledged.
     pub durable: u64,
+    /// The LSN of its next record.
     pub next: u64,
 }
 
 /// A recovery that has cut.
 #[derive(Clone, Copy, PartialEq, Eq)]
 pub struct Find {
+    /// Its volume epoch.
     pub client: u64,
+    /// The LSN up to which it has found the log.
     pub cut: u64,
+    /// The LSN above which its own records are.
     pub start: u64,
 }
 
@@ -41,8 +48,11 @@ enum Printed {
 /// The whole output.
 #[derive(Drop)]
 pub struct Outcome {
+    /// The answers to the lines of the script, in order; none in the output of a fleet.
     pub answers: Vec<Answer>,
+    /// The open writers.
     pub writers: Vec<Writer>,
+    /// The recoveries that have cut.
     pub finds: Vec<Find>,
     /// The number of events that were made, in the output of a fleet.
     pub steps: Option<u64>,

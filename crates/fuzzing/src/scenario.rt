@@ -10,7 +10,7 @@ use plan::CheckedPlan;
 use std::alloc::{AllocError, Global};
 use std::sync::Arc;
 
-/// The script of a seed over a plan.
+/// A random script over a plan.
 #[derive(Drop)]
 pub struct Scenario {
     /// The script's text.
@@ -24,7 +24,8 @@ pub struct Scenario {
 }
 
 impl Scenario {
-    /// Returns the script of a seed over a plan. Each seed has one script, whatever ran before.
+    /// Returns a random script over a plan. It depends on the plan, on the numbers that the generator returns and on the
+    /// events that are asked for, and on nothing else.
     ///
     /// # Errors
     /// `AllocError` if memory runs out.

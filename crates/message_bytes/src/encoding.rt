@@ -78,8 +78,8 @@ pub fn encode_into(alloc: Global, out: &mut Vec<u8>, message: &Message) -> Resul
     Ok(())
 }
 
-/// Copies the bytes of a message with lists to the front of a slice if they fit, and sets `len` to their number. Returns
-/// whether they fit. Out of line, so that `encode_to_slice` saves no registers for the other messages.
+/// Copies the bytes of a message with lists to the front of a slice if they fit, and sets `len` to their number.
+/// Returns whether they fit. Out of line, so that `encode_to_slice` saves no registers for the other messages.
 #[inline(never)]
 fn copy_listed(
     alloc: Global,
@@ -103,8 +103,8 @@ fn copy_listed(
 }
 
 /// Writes the canonical bytes of a message to the front of a slice if they fit, and sets `len` to their number. Returns
-/// whether they fit: a slice that is too short stays as it is. The bytes of a message with lists are made in the buffer,
-/// which keeps its memory.
+/// whether they fit: a slice that is too short stays as it is. The bytes of a message with lists are made in the
+/// buffer, which keeps its memory.
 ///
 /// # Errors
 /// `Full` if a list is longer than a `u32` can count, `NoMemory` if memory runs out. The slice stays as it is.

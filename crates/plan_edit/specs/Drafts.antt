@@ -1,7 +1,9 @@
 -- The data of configurations without certificates.
 use Rattle.std.specs.Prelude.{Some, None}
 use Rattle.quorum_expr.specs.Expr.{formula_of}
+use Rattle.plan.specs.Plan.{configuration_data}
 use Rattle.plan.specs.PlanData.{ConfigurationData}
+use Rattle.plan.specs.declared.configurations.Configuration.{Configuration}
 use Rattle.plan_edit.specs.declared.drafts.Draft.{Draft}
 
 -- a configuration without its certificates
@@ -15,6 +17,10 @@ uncertified x = record {
   meets = None;
   step = None;
 }
+
+-- the data of a plan's configuration without its certificates
+abbrev pub bare : Configuration → ConfigurationData
+bare x = uncertified (configuration_data x)
 
 -- a configuration that isn't part of a plan yet
 abbrev pub draft_data : Draft → ConfigurationData

@@ -11,8 +11,8 @@ use Rattle.plan_edit.specs.Replaced.{added}
 abbrev pub extended : ℕ → List ConfigurationData → PlanData → ℕ → List ConfigurationData
 extended group more old g = map uncertified (group_at old g) ++ (if g == group then more else [])
 
--- The new plan begins with the old one: the same format, LAL and groups, and in each group the same configurations. Only
--- one group has more, namely these. Certificates may differ.
+-- The new plan begins with the old one: the same format, LAL and groups, and in each group the same configurations.
+-- Only one group has more, namely these. Certificates may differ.
 pub record Extends (group : ℕ) (more : List ConfigurationData) (old new : PlanData) : Type 0 where
   pub format : new.format ≡ old.format
   pub lal : new.lal ≡ old.lal

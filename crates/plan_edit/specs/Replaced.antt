@@ -2,7 +2,9 @@
 use Rattle.std.specs.Prelude.{ℕ, ◌<◌, if◌then◌else◌, List, [], ◌∷◌, length, Some, None}
 use Rattle.std.specs.Ordering.{nat_cmp}
 use Rattle.std.specs.FinSet.{FinSet, contains, insert, remove}
-use Rattle.plan.specs.PlanData.{ConfigurationData, configuration_at}
+use Rattle.plan.specs.Plan.{plan_data}
+use Rattle.plan.specs.PlanData.{ConfigurationData, configuration_at, group_at}
+use Rattle.plan.specs.declared.configurations.Plan.{Plan}
 use Rattle.plan_edit.specs.declared.replacement.Replacement.{Replacement}
 use Rattle.plan_edit.specs.Renamed.{renamed, two_of}
 
@@ -54,6 +56,10 @@ back parent x = record {
 -- the joint configuration with this number, and the steps from there: to the new membership, and back
 abbrev pub stepped : Replacement → ℕ → ConfigurationData → List ConfigurationData
 stepped r number x = joint r r.configuration x ∷ swapped r number x ∷ back number x ∷ []
+
+-- the group of a plan in which a member is replaced
+abbrev pub edited_group : Replacement → Plan → List ConfigurationData
+edited_group r plan = group_at (plan_data plan) r.group
 
 -- what a replacement adds behind the configurations of a group
 abbrev pub added : Replacement → List ConfigurationData → List ConfigurationData

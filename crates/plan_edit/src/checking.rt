@@ -2,9 +2,8 @@
 
 ghost use Rattle.std.specs.Prelude.{◌≡◌, ◌<◌, IfOk, OnOk, length, map};
 ghost use Rattle.plan.specs.Plan.{configuration_data, plan_data};
-ghost use Rattle.plan.specs.PlanData.{group_at};
 ghost use Rattle.plan_edit.specs.Drafts.{draft_data};
-ghost use Rattle.plan_edit.specs.Replaced.{HasNumbers};
+ghost use Rattle.plan_edit.specs.Replaced.{HasNumbers, edited_group};
 ghost use Rattle.plan_edit.specs.Edited.{IsExtension};
 
 use crate::comparing::extends;
@@ -49,7 +48,7 @@ pub fn configurations_for(
     plan: &Plan,
     replacement: Replacement,
 ) -> Result<&[Configuration], EditRefusal>
-    ensures group { IfOk result (λ v. map configuration_data v.now ≡ group_at (plan_data plan.now) replacement.group) }
+    ensures group { IfOk result (λ v. map configuration_data v.now ≡ edited_group replacement plan.now) }
     ensures base { IfOk result (λ v. replacement.configuration < length v.now) }
     ensures numbers { OnOk result (HasNumbers replacement) }
 {

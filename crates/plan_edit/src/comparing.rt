@@ -2,7 +2,7 @@
 
 ghost use Rattle.std.specs.Prelude.{◌≡◌, ◌++◌, [], if◌then◌else◌, map, true};
 ghost use Rattle.plan.specs.Plan.{configuration_data, plan_data};
-ghost use Rattle.plan_edit.specs.Drafts.{draft_data, uncertified};
+ghost use Rattle.plan_edit.specs.Drafts.{bare, draft_data, uncertified};
 ghost use Rattle.plan_edit.specs.Edited.{Extends};
 
 use crate::drafts::Draft;
@@ -19,7 +19,7 @@ fn is_same_set(left: MemberSet, right: MemberSet) -> bool
 
 /// Returns whether a configuration of a new plan is one of the old plan, certificates aside.
 fn is_kept(old: &Configuration, new: &Configuration) -> bool
-    ensures { result ≡ true → uncertified (configuration_data new.now) ≡ uncertified (configuration_data old.now) }
+    ensures { result ≡ true → bare new.now ≡ bare old.now }
 {
     if old.parent != new.parent {
         return false;
@@ -38,7 +38,7 @@ fn is_kept(old: &Configuration, new: &Configuration) -> bool
 
 /// Returns whether a configuration of a new plan is the draft.
 fn is_drafted(draft: &Draft, new: &Configuration) -> bool
-    ensures { result ≡ true → uncertified (configuration_data new.now) ≡ draft_data draft.now }
+    ensures { result ≡ true → bare new.now ≡ draft_data draft.now }
 {
     if new.parent != Some(draft.parent) {
         return false;

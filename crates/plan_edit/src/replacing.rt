@@ -1,10 +1,8 @@
 //! Replaces a member of a group.
 
 ghost use Rattle.std.specs.Prelude.{◌<◌, ◌≤◌, ◌≡◌, IfOk, map};
-ghost use Rattle.plan.specs.Plan.{plan_data};
-ghost use Rattle.plan.specs.PlanData.{group_at};
 ghost use Rattle.plan_edit.specs.Drafts.{draft_data};
-ghost use Rattle.plan_edit.specs.Replaced.{added};
+ghost use Rattle.plan_edit.specs.Replaced.{added, edited_group};
 ghost use Rattle.plan_edit.specs.Edited.{IsReplaced};
 
 use crate::certifying::certified;
@@ -25,8 +23,7 @@ fn drafts_in(
     plan: &Plan,
     replacement: Replacement,
 ) -> Result<Vec<Draft>, EditRefusal>
-    ensures { IfOk result (λ v. map draft_data v.items
-        ≡ added replacement (group_at (plan_data plan.now) replacement.group)) }
+    ensures { IfOk result (λ v. map draft_data v.items ≡ added replacement (edited_group replacement plan.now)) }
 {
     let configurations = configurations_for(plan, replacement)?;
     Ok(replacement_drafts(alloc, configurations, replacement)?)

@@ -95,8 +95,8 @@ impl Outbox {
         self.free();
     }
 
-    /// Hands out the first message that wasn't taken: writes its bytes to `out` and drops it. Returns a status, and sets
-    /// `needed` to the number of bytes if there is such a message.
+    /// Hands out the first message that wasn't taken: writes its bytes to `out` and drops it. Returns a status, and
+    /// sets `needed` to the number of bytes if there is such a message.
     pub fn hand_out(&mut self, alloc: Global, out: &mut [u8], needed: &mut usize) -> u8
         ensures first { result ≡ 0 → WritesFirst (left_in self.old) (take needed.new out.new) }
         ensures passed { result ≡ 0 → left_in self.new ≡ drop 1 (left_in self.old) }
