@@ -31,6 +31,9 @@ module _ (plan : Plan) (group x : ℕ) (node : Node) where
   abbrev StaysWhole : NodeStep → Type 0
   StaysWhole step = node.whole ≡ true → step.node.whole ≡ true
 
+  abbrev pub IsWholeAsBefore : NodeStep → Type 0
+  IsWholeAsBefore step = step.node.whole ≡ node.whole
+
   passed : (l : Label) (rest : NodeAnswer) (step : NodeStep) → label_checks node l rest ≡ Ok step → rest ≡ Ok step
   passed l rest step h =
       let (a, h1) = refuse_if-ok (nat_lt l.member node.place.epoch) StaleMember _ step h in
@@ -39,12 +42,12 @@ module _ (plan : Plan) (group x : ℕ) (node : Node) where
       let (d, h4) = refuse_if-ok (nat_lt l.volume node.volume) StaleVolume _ step h3 in
       h4
 
-  record_whole : (l : Label) (r : Redo) (step : NodeStep) → take_record group x node l r ≡ Ok step → StaysWhole step
+  record_whole : (l : Label) (r : Redo) (step : NodeStep) → take_record group x node l r ≡ Ok step → IsWholeAsBefore step
   record_whole l r step h =
       let h1 = passed l _ step h in
       let (a, h2) = refuse_if-ok (not (lineage_epoch node == l.volume)) NotInstalled _ step h1 in
       let (b, h3) = refuse_if-ok (not (holds_record r node.contents.records) && nat_le most_records (length node.contents.records)) Full _ step h2 in
-      subst StaysWhole (Ok-is _ step h3) (λ w. w)
+      subst IsWholeAsBefore (Ok-is _ step h3) refl
 
   installed_whole : (l : Label) (piece : Piece) (c : Contents) → (installed group x node l piece c).node.whole ≡ node.whole
   unfolding installed
@@ -57,47 +60,47 @@ module _ (plan : Plan) (group x : ℕ) (node : Node) where
         ]
       ]
 
-  reaction_whole : (m : Message) (step : NodeStep) → reaction plan group x node m ≡ Ok step → StaysWhole step
+  reaction_whole : (m : Message) (step : NodeStep) → reaction plan group x node m ≡ Ok step → IsWholeAsBefore step
   reaction_whole (Fence to l) step h =
       let (a, h1) = refuse_if-ok (not (to == group)) NotAddressed _ step h in
-      subst StaysWhole (Ok-is _ step (passed l _ step h1)) (λ w. w)
+      subst IsWholeAsBefore (Ok-is _ step (passed l _ step h1)) refl
   reaction_whole (Install to l piece c) step h =
       let (a, h1) = refuse_if-ok (not (to == group && in_group group c)) NotAddressed _ step h in
       let h2 = passed l _ step h1 in
       let (b, h3) = refuse_if-ok (nat_lt most_pieces piece.of) Full _ step h2 in
       let (d, h4) = refuse_if-ok (is_bad_piece node.install l.volume piece c) BadPiece _ step h3 in
-      subst StaysWhole (Ok-is _ step h4) (λ w. installed_whole l piece c ∙ w)
+      subst IsWholeAsBefore (Ok-is _ step h4) (installed_whole l piece c)
   reaction_whole (Write to l r) step h = record_whole l r step (refuse_if-ok (not (to == group && r.group == group)) NotAddressed _ step h).1
   reaction_whole (Gossip to l r) step h = record_whole l r step (refuse_if-ok (not (to == group && r.group == group)) NotAddressed _ step h).1
   reaction_whole (StepTo to place) step h =
       let (a, h1) = refuse_if-ok (not (to == group)) NotAddressed _ step h in
       let (b, h2) = refuse_if-ok (nat_le place.epoch node.place.epoch) StaleMember _ step h1 in
       let (c, h3) = refuse_if-ok (not (is_configuration plan group place.configuration place.epoch)) NotInPlan _ step h2 in
-      subst StaysWhole (Ok-is _ step h3) (λ w. w)
+      subst IsWholeAsBefore (Ok-is _ step h3) refl
   reaction_whole (CopyAsk to epoch) step h =
       let (a, h1) = refuse_if-ok (not (to == group)) NotAddressed _ step h in
       let (b, h2) = refuse_if-ok (nat_lt epoch node.place.epoch) StaleMember _ step h1 in
       let (c, h3) = refuse_if-ok (nat_lt node.place.epoch epoch) AheadMember _ step h2 in
       let (d, h4) = refuse_if-ok (not node.whole) NotWhole _ step h3 in
       let (f, h5) = refuse_if-ok (nat_le most_copies node.copied) SeriesSpent _ step h4 in
-      subst StaysWhole (Ok-is _ step h5) (λ w. w)
+      subst IsWholeAsBefore (Ok-is _ step h5) refl
   reaction_whole (CopyReport to epoch sender s piece c) step h =
       let (a, h1) = refuse_if-ok (not (to == group && in_group group c && nat_lt sender 64)) NotAddressed _ step h in
       let (w, h2) = refuse_if-ok node.whole AlreadyWhole _ step h1 in
       let (b, h3) = refuse_if-ok (nat_lt epoch node.place.epoch) StaleMember _ step h2 in
       let (d, h4) = refuse_if-ok (nat_lt node.place.epoch epoch) AheadMember _ step h3 in
       let (f, h5) = refuse_if-ok (is_bad_piece (pieces_from node.copies sender) s piece c) BadPiece _ step h4 in
-      subst StaysWhole (Ok-is _ step h5) (λ k. k)
+      subst IsWholeAsBefore (Ok-is _ step h5) refl
   reaction_whole (PageAsk to l block point) step h =
       let (a, h1) = refuse_if-ok (not (to == group)) NotAddressed _ step h in
       let (v, d, is) = page_answer-ok plan group x node l block point step (passed l _ step h1) in
-      subst StaysWhole (sym is) (λ w. w)
+      subst IsWholeAsBefore (sym is) refl
   reaction_whole (View v places) step h = cc
   reaction_whole (Report to l from c) step h = cc
   reaction_whole (Ack to l from s) step h = cc
   reaction_whole (Page to l from block point bytes) step h = cc
 
-  deliver_whole : (found : Option Message) (step : NodeStep) → deliver plan group x node found ≡ Ok step → StaysWhole step
+  pub deliver_whole : (found : Option Message) (step : NodeStep) → deliver plan group x node found ≡ Ok step → IsWholeAsBefore step
   deliver_whole None step h = cc
   deliver_whole (Some m) step h = reaction_whole m step h
 
@@ -106,18 +109,18 @@ module _ (plan : Plan) (group x : ℕ) (node : Node) where
       let (w, own, reads, is) = hydrated-ok plan group x node step h in
       subst StaysWhole (sym is) (λ k. refl)
 
-  restart_whole : (step : NodeStep) → ◌≡◌ {A = NodeAnswer} (Ok (record { made = []; node = restarted node })) (Ok step) → StaysWhole step
-  restart_whole step h = subst StaysWhole (Ok-is _ step h) (λ w. w)
+  pub restart_whole : (step : NodeStep) → ◌≡◌ {A = NodeAnswer} (Ok (record { made = []; node = restarted node })) (Ok step) → IsWholeAsBefore step
+  restart_whole step h = subst IsWholeAsBefore (Ok-is _ step h) refl
 
-  offer_whole : (lsn : ℕ) (step : NodeStep) → offered group node lsn ≡ Ok step → StaysWhole step
+  pub offer_whole : (lsn : ℕ) (step : NodeStep) → offered group node lsn ≡ Ok step → IsWholeAsBefore step
   offer_whole lsn step h =
       let (a, h1) = refuse_if-ok (not node.whole) NotWhole _ step h in
       let (b, h2) = refuse_if-ok (not (node.volume == lineage_epoch node)) NotInstalled _ step h1 in
       go (record_at node.contents.records lsn) h2
     where
-      go : (found : Option Redo) → gossip_of group node found ≡ Ok step → StaysWhole step
+      go : (found : Option Redo) → gossip_of group node found ≡ Ok step → IsWholeAsBefore step
       go None h = cc
-      go (Some r) h = subst StaysWhole (Ok-is _ step h) (λ w. w)
+      go (Some r) h = subst IsWholeAsBefore (Ok-is _ step h) refl
 
 -- ---- an authority's configurations
 
@@ -240,10 +243,10 @@ module _ (plan : Plan) (group : ℕ) (world : World) where
   event_keeps (Open v) before h waited = by_a_client v _ (h waited)
   event_keeps (Resend v lsn) before h waited = by_a_client v _ (h waited)
   event_keeps (Read v g block) before h waited = by_a_client v _ (h waited)
-  event_keeps (Deliver g x number) before h waited = by_a_node g x _ (deliver_whole plan g x (world.nodes g x) (numbered world.messages number)) (h waited)
+  event_keeps (Deliver g x number) before h waited = by_a_node g x _ (λ step e w. deliver_whole plan g x (world.nodes g x) (numbered world.messages number) step e ∙ w) (h waited)
   event_keeps (Hydrate g x) before h waited = by_a_node g x _ (hydrate_whole plan g x (world.nodes g x)) (h waited)
-  event_keeps (Restart g x) before h waited = by_a_node g x _ (restart_whole plan g x (world.nodes g x)) (h waited)
-  event_keeps (Offer g x lsn) before h waited = by_a_node g x _ (offer_whole plan g x (world.nodes g x) lsn) (h waited)
+  event_keeps (Restart g x) before h waited = by_a_node g x _ (λ step e w. restart_whole plan g x (world.nodes g x) step e ∙ w) (h waited)
+  event_keeps (Offer g x lsn) before h waited = by_a_node g x _ (λ step e w. offer_whole plan g x (world.nodes g x) lsn step e ∙ w) (h waited)
 
 -- ---- runs
 

@@ -4,6 +4,7 @@ ghost use Rattle.std.specs.Prelude.{◌≡◌, MatchResult, Err, Ok};
 ghost use Rattle.std.specs.FinSet as set;
 ghost use Rattle.epochs.specs.Authority.{authority_of, authority_plan};
 ghost use Rattle.epochs.specs.Waiting.{WaitingKeepsReaders};
+ghost use Rattle.epochs.specs.Lost.{EarlyStepsLose};
 
 use super::Authority;
 use quorum_expr::{MemberSet, holds};
@@ -56,4 +57,11 @@ impl Authority {
 /// configuration's read expression, if the root's members satisfy the root's.
 pub fn waiting_keeps_readers()
     ensures { WaitingKeepsReaders }
+{}
+
+/// Proves that a volume is lost if a group takes a step too early: if the group's whole members don't satisfy its
+/// configuration's read expression, and each of its nodes has taken the step to that configuration, no recovery whose
+/// volume epoch is assigned later ever cuts, whatever happens.
+pub fn early_steps_lose()
+    ensures { EarlyStepsLose }
 {}
