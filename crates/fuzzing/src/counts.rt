@@ -15,6 +15,8 @@ pub struct Counts {
     pub recoveries: u64,
     /// The number of pairs of a writer and a later recovery that were compared.
     pub finds: u64,
+    /// The number of runs in which the last advance of each group waited.
+    pub waited: u64,
 }
 
 impl Counts {
@@ -26,6 +28,7 @@ impl Counts {
             acknowledged: 0,
             recoveries: 0,
             finds: 0,
+            waited: 0,
         }
     }
 

@@ -22,6 +22,8 @@ pub struct Shown {
     pub recoveries: u64,
     /// Pairs of a writer and a later recovery that were compared.
     pub finds: u64,
+    /// Whether the newest writer has committed a transaction of its own.
+    pub continued: bool,
 }
 
 /// Checks that each line of a script has its answer, in order.
@@ -226,6 +228,14 @@ pub fn check_promises(outcome: &Outcome) -> Result<u64, Broken> {
     Ok(compared)
 }
 
+/// Returns the client of the last transaction that a script issues, 0 if there is none.
+fn newest_of(issues: &[Issue]) -> u64 {
+    match issues.last() {
+        Some(issue) => u64::from(issue.client),
+        None => 0,
+    }
+}
+
 /// Checks what a run prints for a script: the answer to each line, and the points of all clients.
 pub fn check_run(
     alloc: Global,
@@ -234,12 +244,16 @@ pub fn check_run(
     issues: &[Issue],
 ) -> Result<Shown, Broken> {
     check_answers(outcome, lines)?;
+    let newest = newest_of(issues);
     let finds = check_promises(outcome)?;
     let ends = ends_of(alloc, outcome, issues)?;
     let mut acknowledged = 0u64;
+    let mut continued = false;
     for writer in outcome.writers.iter() {
         check_log(outcome, ends.as_slice(), *writer)?;
-        acknowledged = acknowledged.saturating_add(acknowledged_by(ends.as_slice(), *writer));
+        let own = acknowledged_by(ends.as_slice(), *writer);
+        acknowledged = acknowledged.saturating_add(own);
+        continued = own > 0 && writer.client == newest;
     }
     for find in outcome.finds.iter() {
         check_cut(ends.as_slice(), *find)?;
@@ -248,5 +262,6 @@ pub fn check_run(
         acknowledged,
         recoveries: outcome.finds.len() as u64,
         finds,
+        continued,
     })
 }

@@ -3,6 +3,7 @@
 
 mod broken;
 mod counts;
+mod finish;
 mod judge;
 mod long_log;
 mod numbers;
@@ -29,6 +30,6 @@ pub use rng::Rng;
 pub use scenario::Scenario;
 pub use schedule::Events;
 pub use shortening::{ScriptTest, shortened};
-pub use simulation::{ScriptRunner, Simulation, Verdict, simulate};
+pub use simulation::{ScriptRun, ScriptRunner, Simulation, Verdict, simulate};
 pub use text::Text;
 pub use verdicts::CommandOutput;

@@ -31,11 +31,20 @@ impl Schedule {
         }
     }
 
-    /// Notes the configuration of a group.
-    pub fn set_place(&mut self, group: u8, configuration: u8) {
+    /// Notes the configuration of a group, and the line of its advance.
+    pub fn set_place(&mut self, group: u8, configuration: u8, line: u64) {
         let group = usize::from(group);
-        if group < self.places.len() {
+        if group < self.places.len() && group < self.advances.len() {
             self.places[group] = configuration;
+            self.advances[group] = line;
+        }
+    }
+
+    /// Returns the line of a group's last advance, 0 if there is none.
+    pub fn last_advance(&self, group: u8) -> u64 {
+        match self.advances.get(usize::from(group)) {
+            Some(line) => *line,
+            None => 0,
         }
     }
 

@@ -24,8 +24,8 @@ pub struct Scenario {
 }
 
 impl Scenario {
-    /// Returns a random script over a plan. It depends on the plan, on the numbers that the generator returns and on the
-    /// events that are asked for, and on nothing else.
+    /// Returns a random script over a plan. It depends on the plan, on the numbers that the generator returns and on
+    /// the events that are asked for, and on nothing else.
     ///
     /// # Errors
     /// `AllocError` if memory runs out.

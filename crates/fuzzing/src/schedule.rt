@@ -46,6 +46,8 @@ pub struct Schedule {
     pub open: Vec<u32>,
     /// The configuration of each group.
     pub places: [u8; GROUPS],
+    /// The line of each group's last advance, 0 if there is none.
+    pub advances: [u64; GROUPS],
     /// The number of groups that have joined.
     pub joined: u8,
     /// The number of groups in the last View that the newest client took.
@@ -76,6 +78,7 @@ impl Schedule {
             clients: 1,
             open: Vec::new(alloc),
             places: [0; GROUPS],
+            advances: [0; GROUPS],
             joined: born,
             viewed: born,
             favourites,
@@ -167,12 +170,21 @@ impl Schedule {
         }
     }
 
+    /// Loses a message of a task. Three in four lost messages are sent again, the others may arrive late.
+    fn lose(&mut self, task: &mut Task, delivery: Delivery) {
+        if self.rng.chance(75) {
+            self.add_delivery(task, delivery);
+            return;
+        }
+        let is_kept = self.late.push(delivery).is_ok();
+        self.written.text.note(is_kept);
+    }
+
     /// Delivers a message of a task, unless it is lost.
     fn deliver(&mut self, task: &mut Task, delivery: Delivery) {
         let loss = self.loss;
         if self.rng.chance(loss) {
-            let is_kept = self.late.push(delivery).is_ok();
-            self.written.text.note(is_kept);
+            self.lose(task, delivery);
             return;
         }
         let Delivery { group, member, .. } = delivery;
@@ -243,10 +255,10 @@ impl Schedule {
 
     fn begin(&mut self, alloc: Global) {
         match self.rng.below(20) {
-            0..=3 if self.clients < MOST_CLIENTS => self.begin_recovery(alloc),
-            4..=5 if self.events.steps => self.begin_step(alloc),
-            6..=7 => self.begin_late(alloc),
-            8..=9 if self.joined < self.plan.groups() => self.begin_growth(alloc),
+            0 if self.clients < MOST_CLIENTS => self.begin_recovery(alloc),
+            1 if self.events.steps => self.begin_step(alloc),
+            2..=3 => self.begin_late(alloc),
+            4 if self.joined < self.plan.groups() => self.begin_growth(alloc),
             _ => self.begin_write(alloc),
         }
     }
@@ -291,16 +303,17 @@ impl Schedule {
 
     /// Writes a script. One in four begins with a long log, if the plan's LAL is great enough for it; else one in three
     /// begins with a write that arrives late, if the plan has a step. Then come its turns, of at most one line each;
-    /// their number is the greater of two draws between 30 and 400.
+    /// their number is the greater of two draws between 60 and 700.
     pub fn fill(&mut self, alloc: Global) {
         if self.may_be_long() && self.rng.chance(25) {
             self.lengthen();
         } else if self.events.steps && self.rng.chance(33) {
             self.straggle(alloc);
         }
-        let turns = self.rng.from(30, 371).max(self.rng.from(30, 371));
+        let turns = self.rng.from(60, 641).max(self.rng.from(60, 641));
         for _ in 0..turns {
             self.turn(alloc);
         }
+        self.finish();
     }
 }

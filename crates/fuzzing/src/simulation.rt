@@ -25,13 +25,23 @@ pub struct Simulation {
     pub events: Events,
 }
 
+/// A run of a script.
+#[derive(Drop)]
+pub struct ScriptRun {
+    /// What it prints.
+    pub text: String,
+    /// Whether the last advance of each group waited: whether the group's whole members were a read set of the
+    /// configuration to which it leads.
+    pub waited: bool,
+}
+
 /// Runs scripts over a plan.
 pub trait ScriptRunner {
-    /// Returns what a run of the script prints.
+    /// Runs a script.
     ///
     /// # Errors
     /// That the script can't be run, or that memory ran out.
-    fn printed(&self, alloc: Global, script: &str) -> Result<String, Broken>;
+    fn run(&self, alloc: Global, script: &str) -> Result<ScriptRun, Broken>;
 }
 
 /// What the runs showed: an exit status, 1 if a promise is broken, and a text.
@@ -51,17 +61,20 @@ struct Tested<'a, R> {
     runner: &'a R,
 }
 
-/// Returns what a run of a script prints.
-fn outcome<R: ScriptRunner>(alloc: Global, runner: &R, script: &str) -> Result<Outcome, Broken> {
-    let text = runner.printed(alloc, script)?;
-    Outcome::of_text(alloc, text.as_str())
+impl<R: ScriptRunner> Tested<'_, R> {
+    /// Checks the promises in a run of a script. Returns the number of pairs of a writer and a later recovery.
+    fn promises(&self, script: &str) -> Result<u64, Broken> {
+        let run = self.runner.run(self.alloc, script)?;
+        let outcome = Outcome::of_text(self.alloc, run.text.as_str())?;
+        check_promises(&outcome)
+    }
 }
 
 impl<R: ScriptRunner> ScriptTest for Tested<'_, R> {
     fn is_broken(&self, script: &str) -> bool {
-        match outcome(self.alloc, self.runner, script) {
-            Ok(outcome) => check_promises(&outcome).is_err(),
-            Err(_) => false,
+        match self.promises(script) {
+            Ok(_) => false,
+            Err(broken) => !broken.is_memory(),
         }
     }
 }
@@ -73,8 +86,16 @@ fn try_run<R: ScriptRunner>(
     scenario: &Scenario,
     counts: &mut Counts,
 ) -> Result<(), Broken> {
-    let outcome = outcome(alloc, runner, scenario.script.as_str())?;
+    let run = runner.run(alloc, scenario.script.as_str())?;
+    let outcome = Outcome::of_text(alloc, run.text.as_str())?;
     let shown = scenario.check(alloc, &outcome)?;
+    if run.waited {
+        counts.waited = counts.waited.saturating_add(1);
+        if !shown.continued {
+            let what = "each last advance waited, but the last recovery commits nothing (events)";
+            return Err(Broken::new(what, [outcome.happened(), 0, 0, 0]));
+        }
+    }
     counts.add(outcome.happened(), shown);
     Ok(())
 }
@@ -92,7 +113,7 @@ fn add_grouped(text: &mut String, number: u64) -> Result<(), AllocError> {
     write!(text, "{ones}")
 }
 
-/// Returns the line of runs that all keep the promises.
+/// Returns the lines of runs that all keep the promises.
 fn kept_line(alloc: Global, counts: Counts) -> Result<String, AllocError> {
     let mut text = String::new(alloc);
     add_grouped(&mut text, counts.runs)?;
@@ -103,6 +124,8 @@ fn kept_line(alloc: Global, counts: Counts) -> Result<String, AllocError> {
     text.push_str(" commits acknowledged, ")?;
     add_grouped(&mut text, counts.recoveries)?;
     text.push_str(" recoveries, 0 promises broken\n")?;
+    add_grouped(&mut text, counts.waited)?;
+    text.push_str(" runs whose last advances waited, all led on to a commit\n")?;
     Ok(text)
 }
 

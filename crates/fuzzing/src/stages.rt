@@ -74,7 +74,7 @@ impl Schedule {
         };
         let line = self.written.of_node("advance", group, child);
         self.written.note(line, 1, Receiver::Nodes(group));
-        self.set_place(group, child);
+        self.set_place(group, child, line);
         let mut task = Task::new(alloc, Stage::Ask, self.clients);
         task.group = group;
         let members = self.members(group);

@@ -66,13 +66,20 @@ impl Schedule {
         line
     }
 
-    /// Delivers a line's first message to members of a group. Returns the lines.
-    fn deliver_to(&mut self, line: u64, group: u8, members: &[u8], answer: Receiver) -> Range<u64> {
+    /// Delivers a message, given by its line and place, to members of a group. Returns the lines.
+    pub fn deliver_each(
+        &mut self,
+        message: (u64, u64),
+        group: u8,
+        members: &[u8],
+        answer: Receiver,
+    ) -> Range<u64> {
+        let (line, place) = message;
         let first = self.written.lines.saturating_add(1);
         for member in members.iter() {
             let delivery = Delivery {
                 line,
-                place: 1,
+                place,
                 group,
                 member: *member,
             };
@@ -81,8 +88,13 @@ impl Schedule {
         first..self.written.lines.saturating_add(1)
     }
 
+    /// Delivers a line's first message to members of a group. Returns the lines.
+    fn deliver_to(&mut self, line: u64, group: u8, members: &[u8], answer: Receiver) -> Range<u64> {
+        self.deliver_each((line, 1), group, members, answer)
+    }
+
     /// Lets a client take the first message of each of these lines.
-    fn take_all(&mut self, client: u32, lines: Range<u64>) {
+    pub fn take_all(&mut self, client: u32, lines: Range<u64>) {
         for line in lines {
             self.written.take(client, line, 1);
         }
@@ -127,7 +139,7 @@ impl Schedule {
         for fresh in parties.fresh.as_slice().iter() {
             self.hydrate_from(parties, line, *fresh);
         }
-        self.set_place(group, parties.child);
+        self.set_place(group, parties.child, line);
         line
     }
 

@@ -22,12 +22,19 @@ pub struct Message {
 }
 
 /// A message to deliver to a node.
-#[derive(Clone, Copy)]
+#[derive(Clone, Copy, PartialEq, Eq)]
 pub struct Delivery {
     pub line: u64,
     pub place: u64,
     pub group: u8,
     pub member: u8,
+}
+
+/// A line that delivered a message to a node.
+#[derive(Clone, Copy)]
+pub struct Delivered {
+    pub line: u64,
+    pub delivery: Delivery,
 }
 
 /// A line that issues a transaction.
@@ -48,6 +55,7 @@ pub struct Written {
     pub waits: u64,
     pub issues: Vec<Issue>,
     pub messages: Vec<Message>,
+    pub deliveries: Vec<Delivered>,
 }
 
 impl Written {
@@ -59,6 +67,7 @@ impl Written {
             waits: 0,
             issues: Vec::new(alloc),
             messages: Vec::new(alloc),
+            deliveries: Vec::new(alloc),
         }
     }
 
@@ -131,7 +140,21 @@ impl Written {
         self.begin("deliver", &[u64::from(group), u64::from(member)]);
         let number = self.end_with(line, place);
         self.note(number, 1, answer);
+        let is_kept = self
+            .deliveries
+            .push(Delivered {
+                line: number,
+                delivery,
+            })
+            .is_ok();
+        self.text.note(is_kept);
         number
+    }
+
+    /// Returns the line that first delivered a message to a node.
+    pub fn first_delivery(&self, delivery: Delivery) -> Option<u64> {
+        let found = self.deliveries.iter().find(|d| d.delivery == delivery)?;
+        Some(found.line)
     }
 
     /// Lets a client take a message.

@@ -1,0 +1,111 @@
+//! The end of a script: a last recovery, which is led on until its writer commits.
+
+use crate::numbers::Numbers;
+use crate::schedule::Schedule;
+use crate::written::{Delivery, Receiver};
+
+impl Schedule {
+    /// Delivers the StepTo of a group's last advance to all its members.
+    fn step_all(&mut self, group: u8) {
+        let line = self.last_advance(group);
+        if line > 0 {
+            let members = self.members(group);
+            let nodes = Receiver::Nodes(group);
+            self.deliver_each((line, 1), group, members.as_slice(), nodes);
+        }
+    }
+
+    /// Delivers a message to members of a group, and lets a client take the answers.
+    fn exchange(&mut self, client: u32, message: (u64, u64), group: u8, members: &[u8]) {
+        let answers = self.deliver_each(message, group, members, Receiver::Client(client));
+        self.take_all(client, answers);
+    }
+
+    /// Sends the pieces of an install to members of a group, whose first piece has this place.
+    fn install(&mut self, client: u32, cut: u64, first: u64, group: u8, members: &[u8]) {
+        for piece in 0..self.pieces_of(group) {
+            let place = first.saturating_add(piece);
+            self.exchange(client, (cut, place), group, members);
+        }
+    }
+
+    /// Returns the members of a group that its first configuration hasn't.
+    fn later_members(&self, group: u8) -> Numbers {
+        let own = self.set_of(group, self.place(group));
+        Numbers::of_set(own.difference(self.set_of(group, 0)))
+    }
+
+    /// Lets a member become whole from copies of all members, if it isn't.
+    fn make_whole(&mut self, group: u8, member: u8) {
+        let stepped = self.written.first_delivery(Delivery {
+            line: self.last_advance(group),
+            place: 1,
+            group,
+            member,
+        });
+        let Some(ask) = stepped else {
+            return;
+        };
+        let nodes = Receiver::Nodes(group);
+        let members = self.members(group);
+        let copies = self.deliver_each((ask, 1), group, members.as_slice(), nodes);
+        self.written.of_node("restart", group, member);
+        for copy in copies {
+            for piece in 0..self.pieces_of(group) {
+                let place = piece.saturating_add(1);
+                self.deliver_each((copy, place), group, &[member], nodes);
+            }
+        }
+        self.written.of_node("hydrate", group, member);
+    }
+
+    /// Installs a cut in all members of a group, whose first piece has this place.
+    fn install_all(&mut self, client: u32, cut: u64, first: u64, group: u8) {
+        let members = self.members(group);
+        self.install(client, cut, first, group, members.as_slice());
+        let later = self.later_members(group);
+        for member in later.as_slice().iter() {
+            self.make_whole(group, *member);
+            self.install(client, cut, first, group, &[*member]);
+        }
+    }
+
+    /// Lets a recovery take its View, take the steps to all members, and take a report of each.
+    fn read_all(&mut self, client: u32, view: u64) {
+        let fences = self.written.take(client, view, 1);
+        for group in 0..self.joined {
+            self.step_all(group);
+            let place = u64::from(group).saturating_add(1);
+            let members = self.members(group);
+            self.exchange(client, (fences, place), group, members.as_slice());
+        }
+    }
+
+    /// Lets a client commit a record of the first group.
+    fn commit_last(&mut self, client: u32) {
+        self.written.begin("issue", &[u64::from(client), 0]);
+        self.written.text.add(":0:0:");
+        self.add_random_byte();
+        let line = self.written.end();
+        self.written.note_issue(line, client, 1);
+        let members = self.members(0);
+        self.exchange(client, (line, 1), 0, members.as_slice());
+    }
+
+    /// Ends a script: a last recovery reads all members of each group, installs its log in all, lets the members that
+    /// steps have added become whole, opens and commits.
+    pub fn finish(&mut self) {
+        let view = self.written.put("assign", &[]);
+        self.clients = self.clients.saturating_add(1);
+        let client = self.clients;
+        self.read_all(client, view);
+        let cut = self.written.of_client("cut", client);
+        let mut first = 1u64;
+        for group in 0..self.joined {
+            self.install_all(client, cut, first, group);
+            first = first.saturating_add(self.pieces_of(group));
+        }
+        self.written.of_client("open", client);
+        self.commit_last(client);
+    }
+}
