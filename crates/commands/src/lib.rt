@@ -21,6 +21,7 @@ mod reporting;
 mod run_explaining;
 mod run_json;
 mod run_state;
+mod run_steps;
 mod run_tables;
 mod run_text;
 mod running;

@@ -12,14 +12,19 @@ use crate::fallible::FallibleRead;
 use crate::files::Source;
 use crate::inputs::checked;
 use crate::reply::{Reply, Stop};
+use crate::run_steps::{step_events, steps_facts};
 use crate::run_text::run_lines;
-use drivers::read_script;
+use drivers::{Script, read_script};
 use explain::{NoStep, step_script};
-use fuzzing::{Broken, ScriptRunner, Simulation, simulate};
+use fuzzing::{Broken, ScriptRun, ScriptRunner, Simulation, simulate};
 use plan::CheckedPlan;
 use std::alloc::{AllocError, Global};
 use std::sync::Arc;
 use world::run_orders;
+
+/// The greatest LAL with which no simulated run comes near the greatest LSN, 2^62: each of a script's recoveries may
+/// skip a LAL of LSNs, and it has at most 25.
+const MOST_LAL: u64 = 1 << 57;
 
 /// Runs scripts over a plan as `run` does.
 #[derive(Drop)]
@@ -28,15 +33,22 @@ struct PlanRunner<'a> {
 }
 
 impl ScriptRunner for PlanRunner<'_> {
-    fn printed(&self, alloc: Global, script: &str) -> Result<String, Broken> {
+    fn run(&self, alloc: Global, script: &str) -> Result<ScriptRun, Broken> {
         let Ok(script) = read_script(alloc, script.as_bytes()) else {
             return Err(Broken::new("a script has a bad line", [0; 4]));
         };
-        let Ok(outcome) = run_orders(alloc, self.plan, script.orders) else {
+        let Script { steps, orders } = script;
+        let steps = steps.as_slice();
+        let events = step_events(alloc, orders.as_slice())?;
+        let Ok(outcome) = run_orders(alloc, self.plan, orders) else {
             return Err(Broken::from(AllocError));
         };
-        let reply = run_lines(alloc, script.steps.as_slice(), &outcome)?;
-        Ok(reply.text)
+        let membership = steps_facts(alloc, self.plan, steps, events, outcome.results.as_slice())?;
+        let reply = run_lines(alloc, steps, &outcome)?;
+        Ok(ScriptRun {
+            text: reply.text,
+            waited: self.plan.lal() <= MOST_LAL && membership.waited(),
+        })
     }
 }
 

@@ -16,6 +16,7 @@ use crate::reply::{Report, Stop};
 use crate::reporting::{report_of, status_of};
 use crate::run_json::{refusal_report, run_report};
 use crate::run_state::run_facts;
+use crate::run_steps::{step_events, steps_facts};
 use crate::run_tables::run_words;
 use crate::run_text::end_lines;
 use drivers::{Script, ScriptFault, read_script};
@@ -35,16 +36,19 @@ fn explained_run(
     ensures quiet { IfOk result IsQuiet }
 {
     let Script { steps, orders } = script;
+    let events = step_events(alloc, orders.as_slice())?;
     let Ok(outcome) = run_orders(alloc, &plan, orders) else {
         return Err(Stop::NoMemory);
     };
+    let (lines, results) = (steps.as_slice(), outcome.results.as_slice());
+    let membership = steps_facts(alloc, &plan, lines, events, results)?;
     leak(plan);
     let ends = end_lines(alloc, &outcome)?;
     let facts = run_facts(alloc, steps.as_slice(), outcome)?;
     let value = if json {
-        run_report(alloc, facts, ends.status)?
+        run_report(alloc, facts, membership, ends.status)?
     } else {
-        let mut words = run_words(alloc, &facts)?;
+        let mut words = run_words(alloc, &facts, &membership)?;
         words.push_str(ends.text.as_str())?;
         words
     };

@@ -1,6 +1,7 @@
 //! What is known of a script's run, as JSON.
 
 use crate::run_state::{ClientFacts, RefusalFacts, RunFacts};
+use crate::run_steps::{AdvanceFacts, LostGroup, StepsFacts};
 use serde::Serialize;
 use std::alloc::{AllocError, Global};
 use world::NodeState;
@@ -41,6 +42,10 @@ struct RunReport<'a> {
     nodes: Vec<NodeRow>,
     /// The clients at the end.
     clients: Vec<ClientFacts>,
+    /// The advances.
+    advances: Vec<AdvanceFacts>,
+    /// The groups that no later recovery can read.
+    lost: Vec<LostGroup>,
 }
 
 /// Returns the rows of refused lines.
@@ -92,7 +97,12 @@ fn line_of(alloc: Global, report: &RunReport<'_>) -> Result<String, AllocError> 
 ///
 /// # Errors
 /// Memory ran out.
-pub fn run_report(alloc: Global, facts: RunFacts, status: u8) -> Result<String, AllocError> {
+pub fn run_report(
+    alloc: Global,
+    facts: RunFacts,
+    membership: StepsFacts,
+    status: u8,
+) -> Result<String, AllocError> {
     let report = RunReport {
         status,
         verdict: "",
@@ -100,6 +110,8 @@ pub fn run_report(alloc: Global, facts: RunFacts, status: u8) -> Result<String, 
         refused: refusal_rows(alloc, facts.refused.as_slice())?,
         nodes: node_rows(alloc, facts.nodes.as_slice())?,
         clients: facts.clients,
+        advances: membership.advances,
+        lost: membership.lost,
     };
     line_of(alloc, &report)
 }
@@ -122,6 +134,8 @@ pub fn refusal_report(
         refused: Vec::new(alloc),
         nodes: Vec::new(alloc),
         clients: Vec::new(alloc),
+        advances: Vec::new(alloc),
+        lost: Vec::new(alloc),
     };
     line_of(alloc, &report)
 }

@@ -1,6 +1,7 @@
 //! A script's run in words.
 
 use crate::run_state::{ClientFacts, ClientStage, RefusalFacts, RunFacts};
+use crate::run_steps::{AdvanceFacts, StepsFacts};
 use explain::{FAULTS, Page, add_meaning, fault_words};
 use std::alloc::{AllocError, Global};
 use volume_model::Fault;
@@ -16,6 +17,9 @@ const NODES: &str = "nodes\n  group  member  volume epoch  membership epoch  who
 /// The heading of the table of clients.
 const CLIENTS: &str = "clients\n  volume epoch  state         durable point         next LSN\
     \u{20}             cut            start\n";
+
+/// The heading of the table of advances.
+const ADVANCES: &str = "advances\n    line  group  configuration  waited\n";
 
 /// Appends a refused line, and what the refusal means.
 fn add_refusal(alloc: Global, page: &mut Page, refusal: &RefusalFacts) -> Result<(), AllocError> {
@@ -86,12 +90,50 @@ fn add_client(text: &mut String, client: &ClientFacts) -> Result<(), AllocError>
     text.push_str("\n")
 }
 
+/// Appends an advance's row.
+fn add_advance(text: &mut String, advance: &AdvanceFacts) -> Result<(), AllocError> {
+    let AdvanceFacts {
+        line,
+        group,
+        configuration,
+        waited,
+    } = *advance;
+    write!(text, "  {line:>6}  {group:>5}  {configuration:>13}")?;
+    text.push_str(if waited { "     yes\n" } else { "      no\n" })
+}
+
+/// Appends the advances and what they have led to, if there are any.
+fn add_steps(text: &mut String, membership: &StepsFacts) -> Result<(), AllocError> {
+    if membership.advances.is_empty() {
+        return Ok(());
+    }
+    text.push_str(ADVANCES)?;
+    for advance in &membership.advances {
+        add_advance(text, advance)?;
+    }
+    if membership.lost.is_empty() {
+        return text.push_str("a later recovery can read each group\n");
+    }
+    for lost in &membership.lost {
+        let (group, line) = (lost.group, lost.line);
+        write!(
+            text,
+            "since line {line} no later recovery can read group {group}\n"
+        )?;
+    }
+    Ok(())
+}
+
 /// Returns a run in words: its refused lines, of the first 100 also why, how many more were refused for each reason,
-/// and a table of its nodes and of its clients.
+/// a table of its nodes and of its clients, and its advances.
 ///
 /// # Errors
 /// Memory ran out.
-pub fn run_words(alloc: Global, facts: &RunFacts) -> Result<String, AllocError> {
+pub fn run_words(
+    alloc: Global,
+    facts: &RunFacts,
+    membership: &StepsFacts,
+) -> Result<String, AllocError> {
     let mut page = Page::new(alloc);
     let refused = facts.refused.as_slice();
     let (shown, others) = refused.split_at(refused.len().min(SHOWN));
@@ -108,5 +150,6 @@ pub fn run_words(alloc: Global, facts: &RunFacts) -> Result<String, AllocError> 
     for client in &facts.clients {
         add_client(&mut text, client)?;
     }
+    add_steps(&mut text, membership)?;
     Ok(text)
 }
