@@ -1,2 +1,4 @@
 pub mod Waiting
 pub mod Lost
+pub mod Volumes
+pub mod Readable

@@ -34,10 +34,10 @@ use Rattle.epochs.specs.Lost.{EarlyStepsLose, HaveTakenStep, IsLost}
 use Rattle.epochs.specs.Waiting.{whole_in}
 use Rattle.epochs.proofs.Waiting.{deliver_whole, offer_whole, restart_whole}
 
-Ok-is : (a b : AuthorityStep) → ◌≡◌ {A = Result AuthorityStep Fault} (Ok a) (Ok b) → a ≡ b
+pub Ok-is : (a b : AuthorityStep) → ◌≡◌ {A = Result AuthorityStep Fault} (Ok a) (Ok b) → a ≡ b
 Ok-is a b h = cc
 
-Ok-node : (a b : NodeStep) → ◌≡◌ {A = NodeAnswer} (Ok a) (Ok b) → a ≡ b
+pub Ok-node : (a b : NodeStep) → ◌≡◌ {A = NodeAnswer} (Ok a) (Ok b) → a ≡ b
 Ok-node a b h = cc
 
 -- ---- what a step may say: a View of the places, or what a whole node says of itself
@@ -61,7 +61,7 @@ abbrev AreSaid : Plan → World → World → Type 0
 AreSaid plan world later = (m : Message) → IsMade later m → IsMade world m ⊎ MaySay plan world later m
 
 module _ (plan : Plan) (certified : IsCertified plan) (world : World) (known : IsKeptWorld plan world) where
-  ready : IsKept plan (renewed known.held world) world
+  pub ready : IsKept plan (renewed known.held world) world
   ready = renewed_kept plan world known.kept
 
   by_client : (later : World) (v : ℕ) (client : Client) (m : Message) → ClientSays v client m → MaySay plan world later m
@@ -78,7 +78,7 @@ module _ (plan : Plan) (certified : IsCertified plan) (world : World) (known : I
   by_client later v client (PageAsk to l block point) h = tt
   by_client later v client (Page to l x block point bytes) h = tt
 
-  client_said : (v : ℕ) (answer : ClientAnswer) → ((step : ClientStep) → answer ≡ Ok step → IsGoodMove plan world v step) → AreSaid plan world (after_step world (of_client world v answer))
+  pub client_said : (v : ℕ) (answer : ClientAnswer) → ((step : ClientStep) → answer ≡ Ok step → IsGoodMove plan world v step) → AreSaid plan world (after_step world (of_client world v answer))
   client_said v (Err fault) good m i = inl i
   client_said v (Ok step) good m i =
       elim (IsIn-added step.made world.messages m i) [
@@ -102,13 +102,13 @@ module _ (plan : Plan) (certified : IsCertified plan) (world : World) (known : I
   by_node held group x step (PageAsk to l block point) h = tt
   by_node held group x step (Page to l from block point bytes) h = tt
 
-  there_of : (joined group x : ℕ) → (nat_lt group joined && is_named plan group x) ≡ true → group < plan.groups
+  pub there_of : (joined group x : ℕ) → (nat_lt group joined && is_named plan group x) ≡ true → group < plan.groups
   there_of joined group x e = ltb-true group plan.groups (and_parts (nat_lt group plan.groups) _ (and_parts (nat_lt group joined) (is_named plan group x) e).1).0
 
-  abbrev IsGood : ℕ → ℕ → NodeStep → Type 0
+  abbrev pub IsGood : ℕ → ℕ → NodeStep → Type 0
   IsGood group x step = IsGoodStep plan (renewed known.held world) world group x step
 
-  node_said : (joined group x : ℕ) (answer : NodeAnswer) → (group < plan.groups → (step : NodeStep) → answer ≡ Ok step → IsGood group x step) → AreSaid plan world (after_step world (of_node world group x (if_there plan joined group x answer)))
+  pub node_said : (joined group x : ℕ) (answer : NodeAnswer) → (group < plan.groups → (step : NodeStep) → answer ≡ Ok step → IsGood group x step) → AreSaid plan world (after_step world (of_node world group x (if_there plan joined group x answer)))
   node_said joined group x answer good = go (nat_lt group joined && is_named plan group x) refl answer good
     where
       go : (is : Bool) → (nat_lt group joined && is_named plan group x) ≡ is → (answer : NodeAnswer) → (group < plan.groups → (step : NodeStep) → answer ≡ Ok step → IsGood group x step) → AreSaid plan world (after_step world (of_node world group x (refuse_if (not is) NoActor answer)))
@@ -140,7 +140,7 @@ module _ (plan : Plan) (certified : IsCertified plan) (world : World) (known : I
   one_step group c m (inr none) = absurd none
 
   -- the messages after an event
-  event_said : (event : Event) → AreSaid plan world (after plan world event)
+  pub event_said : (event : Event) → AreSaid plan world (after plan world event)
   event_said Assign = authority_said (assigned plan world.authority) (λ s h.
       subst SaysPlaces (Ok-is _ s (refuse_if-ok (nat_le 4294967295 world.authority.last_volume) EpochsSpent _ s h).1)
       (one_view (suc world.authority.last_volume) (record world.authority { last_volume = suc world.authority.last_volume })))
@@ -165,7 +165,7 @@ module _ (plan : Plan) (certified : IsCertified plan) (world : World) (known : I
 
   -- ---- what a step does to the nodes
 
-  node_on : (Keeps : ℕ → ℕ → Node → Type 0) → ((g y : ℕ) → Keeps g y (world.nodes g y)) → (joined group x : ℕ) (answer : NodeAnswer)
+  pub node_on : (Keeps : ℕ → ℕ → Node → Type 0) → ((g y : ℕ) → Keeps g y (world.nodes g y)) → (joined group x : ℕ) (answer : NodeAnswer)
       → (group < plan.groups → is_named plan group x ≡ true → (step : NodeStep) → answer ≡ Ok step → Keeps group x step.node)
       → (g y : ℕ) → Keeps g y ((after_step world (of_node world group x (if_there plan joined group x answer))).nodes g y)
   node_on Keeps old joined group x answer new = go (nat_lt group joined && is_named plan group x) refl answer new
@@ -178,17 +178,17 @@ module _ (plan : Plan) (certified : IsCertified plan) (world : World) (known : I
       go true e (Ok step) new =
           put_at-all Keeps world.nodes group x step.node (new (there_of joined group x e) (and_parts (nat_lt group joined) (is_named plan group x) e).1 step refl) old
 
-  client_on : (Keeps : ℕ → ℕ → Node → Type 0) → ((g y : ℕ) → Keeps g y (world.nodes g y)) → (v : ℕ) (answer : ClientAnswer) → (g y : ℕ) → Keeps g y ((after_step world (of_client world v answer)).nodes g y)
+  pub client_on : (Keeps : ℕ → ℕ → Node → Type 0) → ((g y : ℕ) → Keeps g y (world.nodes g y)) → (v : ℕ) (answer : ClientAnswer) → (g y : ℕ) → Keeps g y ((after_step world (of_client world v answer)).nodes g y)
   client_on Keeps old v (Err fault) = old
   client_on Keeps old v (Ok step) = old
 
-  authority_on : (Keeps : ℕ → ℕ → Node → Type 0) → ((g y : ℕ) → Keeps g y (world.nodes g y)) → (answer : Result AuthorityStep Fault) → (g y : ℕ) → Keeps g y ((after_step world (of_authority world answer)).nodes g y)
+  pub authority_on : (Keeps : ℕ → ℕ → Node → Type 0) → ((g y : ℕ) → Keeps g y (world.nodes g y)) → (answer : Result AuthorityStep Fault) → (g y : ℕ) → Keeps g y ((after_step world (of_authority world answer)).nodes g y)
   authority_on Keeps old (Err fault) = old
   authority_on Keeps old (Ok step) = old
 
   -- What is so of each node is so after the event, if a node that hydrates has it, and one that does something else and so is whole as before at no earlier
   -- membership epoch.
-  nodes_on : (Keeps : ℕ → ℕ → Node → Type 0) → ((g y : ℕ) → Keeps g y (world.nodes g y))
+  pub nodes_on : (Keeps : ℕ → ℕ → Node → Type 0) → ((g y : ℕ) → Keeps g y (world.nodes g y))
       → ((g y : ℕ) (node : Node) → Keeps g y (world.nodes g y) → node.whole ≡ (world.nodes g y).whole → (world.nodes g y).place.epoch ≤ node.place.epoch → Keeps g y node)
       → ((g y : ℕ) → g < plan.groups → is_named plan g y ≡ true → (step : NodeStep) → hydrated plan g y (world.nodes g y) ≡ Ok step → Keeps g y step.node)
       → (event : Event) → (g y : ℕ) → Keeps g y ((after plan world event).nodes g y)
@@ -388,11 +388,11 @@ module _ (plan : Plan) (certified : IsCertified plan) (g : ℕ) (there : g < pla
         let node : NodeKept plan lost.in_run.held later g x (later.nodes g x) = lost.in_run.kept.nodes g x there in
         let taken : epoch ≤ (later.nodes g x).place.epoch = (lost.nodes g x).taken refl named in
         let whole : (y : ℕ) → copied_by (later.nodes g x).copies y ≡ true → whole_in world g y ≡ true = λ y c. (
-            let (copy, i, test) = any_passes (λ copy. copy.sender == y && is_complete copy.pieces) (later.nodes g x).copies c in
-            let both : ((copy.sender == y) ≡ true) × (is_complete copy.pieces ≡ true) = and_parts (copy.sender == y) (is_complete copy.pieces) test in
-            let (piece, j) = complete_some _ copy.pieces (node.copies copy i) both.1 in
-            let said : whole_in world g copy.sender ≡ true = lost.said _ ((node.copies copy i).each piece j) refl in
-            subst (λ z. whole_in world g z ≡ true) (eqb-true copy.sender y both.0) said) in
+        let (copy, i, test) = any_passes (λ copy. copy.sender == y && is_complete copy.pieces) (later.nodes g x).copies c in
+        let both : ((copy.sender == y) ≡ true) × (is_complete copy.pieces ≡ true) = and_parts (copy.sender == y) (is_complete copy.pieces) test in
+        let (piece, j) = complete_some _ copy.pieces (node.copies copy i) both.1 in
+        let said : whole_in world g copy.sender ≡ true = lost.said _ ((node.copies copy i).each piece j) refl in
+        subst (λ z. whole_in world g z ≡ true) (eqb-true copy.sender y both.0) said) in
         elim node.place [
           | inl zero' ↦ absurd (let one : 1 ≤ epoch = epoch_there in omega arith)
           | inr place ↦ not_read (copied_by (later.nodes g x).copies) whole (later.nodes g x).place.epoch taken place.there
@@ -410,9 +410,9 @@ module _ (plan : Plan) (certified : IsCertified plan) (g : ℕ) (there : g < pla
               let named : IsInViews later v g = λ q made. (let s : (g < length q) × (epoch ≤ (place_in q g).epoch) = lost.said (View v q) made late in let a : epoch ≤ (place_in q g).epoch = s.1 in let b : 1 ≤ epoch = epoch_there in omega arith) in
               let read : HasRead plan later v (later.clients v) heir.parent g = heir.reads g there named in
               let whole : (y : ℕ) → senders (reports_of (later.clients v).groups g) y ≡ true → whole_in world g y ≡ true = λ y s. (
-                  let (from, i, test) = any_passes (λ report. report.sender == y) (reports_of (later.clients v).groups g) s in
-                  let said : whole_in world g from.sender ≡ true = lost.said _ (read.kept from i).0 refl in
-                  subst (λ z. whole_in world g z ≡ true) (eqb-true from.sender y test) said) in
+              let (from, i, test) = any_passes (λ report. report.sender == y) (reports_of (later.clients v).groups g) s in
+              let said : whole_in world g from.sender ≡ true = lost.said _ (read.kept from i).0 refl in
+              subst (λ z. whole_in world g z ≡ true) (eqb-true from.sender y test) said) in
               let after' : epoch ≤ read.at = elim read.was [
                 | inl birth ↦ (let one : v ≡ 1 = birth.0 in absurd (omega arith))
                 | inr view ↦ (

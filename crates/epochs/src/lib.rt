@@ -4,5 +4,7 @@
 mod authority;
 mod snapshot;
 
-pub use authority::{Authority, Readiness, early_steps_lose, waiting_keeps_readers};
+pub use authority::{
+    Authority, Readiness, early_steps_lose, readable_volumes_recover, waiting_keeps_readers,
+};
 pub use snapshot::AuthoritySnapshot;

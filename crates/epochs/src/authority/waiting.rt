@@ -5,6 +5,7 @@ ghost use Rattle.std.specs.FinSet as set;
 ghost use Rattle.epochs.specs.Authority.{authority_of, authority_plan};
 ghost use Rattle.epochs.specs.Waiting.{WaitingKeepsReaders};
 ghost use Rattle.epochs.specs.Lost.{EarlyStepsLose};
+ghost use Rattle.epochs.specs.Readable.{ReadableVolumesRecover};
 
 use super::Authority;
 use quorum_expr::{MemberSet, holds};
@@ -64,4 +65,10 @@ pub fn waiting_keeps_readers()
 /// volume epoch is assigned later ever cuts, whatever happens.
 pub fn early_steps_lose()
     ensures { EarlyStepsLose }
+{}
+
+/// Proves that a volume whose groups can be read can be recovered, if all claims of its plan hold: some events lead the
+/// recovery of the next volume epoch to its cut, unless volume epochs or LSNs are spent.
+pub fn readable_volumes_recover()
+    ensures { ReadableVolumesRecover }
 {}
