@@ -42,18 +42,6 @@ impl<'v> Node for &'v Value {
         Value::get(*self, key)
     }
 
-    fn fields(
-        &self,
-        most: usize,
-        names: &[&str],
-        slots: &mut [Option<&'v Value>],
-    ) -> Option<usize> {
-        for place in 0..names.len() {
-            slots[place] = Value::get(*self, names[place]);
-        }
-        self.keys(most)
-    }
-
     fn items(&self) -> Option<&'v [Value]> {
         match Value::as_array(*self) {
             Some(list) => Some(list.as_slice()),

@@ -1,17 +1,15 @@
 //! Reads plans from JSON nodes.
 
-ghost use Rattle.std.specs.Prelude.{◌≡◌, ◌≤◌, ◌<◌, ◌+◌, true, None, Ok, IfOk, length, map, option_map, codes};
+ghost use Rattle.std.specs.Prelude.{◌≡◌, ◌≤◌, ◌<◌, ◌+◌, true, None, Ok, IfOk, length, map, option_map};
 ghost use Rattle.std.specs.FinSet as set;
 ghost use Rattle.std.specs.FinSet.{is_subset};
 ghost use Rattle.serde_json.specs.Events.{items_len};
-ghost use Rattle.serde_json.specs.Find.{get};
 ghost use Rattle.volume_model.specs.Answer.{Gives};
 ghost use Rattle.quorum_expr.specs.Expr.{formula_of};
 ghost use Rattle.quorum_expr.specs.Valid.{expression_fault};
 ghost use Rattle.quorum_expr.specs.Reading.{expression_in};
 ghost use Rattle.json_node.specs.Nodes.{items_in};
 ghost use Rattle.refutation.specs.Certificate.{certificate_rule};
-ghost use Rattle.refutation.specs.Reading.{has_keys};
 ghost use Rattle.plan.specs.PlanData.{names_only};
 ghost use Rattle.plan.specs.Plan.{configuration_data, group_data, plan_data};
 ghost use Rattle.plan.specs.TextForms.{fields_data, top_fields_data, header_data};
@@ -25,7 +23,7 @@ use crate::fault::{PlanFault, Quorum};
 use crate::fields::{Fields, Header, TopFields};
 use crate::formats::Format;
 use json_node::{Node, count_items};
-use quorum_expr::{Expr, Lists, MemberSet, present, read_expr_at, value_at, whole};
+use quorum_expr::{Expr, Lists, MemberSet, read_expr_at, value_at, whole};
 use refutation::{Certificate, array, has_keys, listed, number_to, read_certificate_at};
 use std::alloc::Global;
 use volume_model::Fault;
@@ -33,51 +31,19 @@ use volume_model::Fault;
 /// The most that LSNs may run ahead of the durable point.
 const MAX_LAL: u64 = 10_000_000;
 
-type Slots<N> = (
-    Option<N>,
-    Option<N>,
-    Option<N>,
-    Option<N>,
-    Option<N>,
-    Option<N>,
-    Option<N>,
-);
-
-/// Returns what an object of seven keys has at those of a configuration. `Malformed` for any other node.
-fn field_slots<N: Node>(value: &N) -> Result<Slots<N>, Fault>
-    ensures keys { Gives (λ r. tt) result (has_keys 7 (N.means value.now)) }
-    ensures parent { IfOk result (λ r. option_map N.means r.0 ≡ get (codes "parent") (N.means value.now)) }
-    ensures members { IfOk result (λ r. option_map N.means r.1 ≡ get (codes "members") (N.means value.now)) }
-    ensures full { IfOk result (λ r. option_map N.means r.2 ≡ get (codes "full") (N.means value.now)) }
-    ensures read { IfOk result (λ r. option_map N.means r.3 ≡ get (codes "read") (N.means value.now)) }
-    ensures write { IfOk result (λ r. option_map N.means r.4 ≡ get (codes "write") (N.means value.now)) }
-    ensures meets { IfOk result (λ r. option_map N.means r.5 ≡ get (codes "meets") (N.means value.now)) }
-    ensures step { IfOk result (λ r. option_map N.means r.6 ≡ get (codes "step") (N.means value.now)) }
-{
-    let names = [
-        "parent", "members", "full", "read", "write", "meets", "step",
-    ];
-    let mut slots = [None, None, None, None, None, None, None];
-    let Some(7) = value.fields(8, &names, &mut slots) else {
-        return Err(Fault::Malformed);
-    };
-    let [parent, members, full, read, write, meets, step] = slots;
-    Ok((parent, members, full, read, write, meets, step))
-}
-
 /// Returns the nodes of a configuration. `Malformed` for any other node.
 #[tactic(auto, unfolding(crate::specs::PlanText::fields_of))]
 pub fn fields_at<N: Node>(value: &N) -> Result<Fields<N>, Fault>
     ensures { Gives (fields_data N.means) result (fields_of (N.means value.now)) }
 {
-    let (parent, members, full, read, write, meets, step) = field_slots(value)?;
-    let parent = present(parent)?;
-    let members = present(members)?;
-    let full = present(full)?;
-    let read = present(read)?;
-    let write = present(write)?;
-    let meets = present(meets)?;
-    let step = present(step)?;
+    has_keys(value, 7)?;
+    let parent = value_at(value, "parent")?;
+    let members = value_at(value, "members")?;
+    let full = value_at(value, "full")?;
+    let read = value_at(value, "read")?;
+    let write = value_at(value, "write")?;
+    let meets = value_at(value, "meets")?;
+    let step = value_at(value, "step")?;
     Ok(Fields {
         parent,
         members,

@@ -1,6 +1,6 @@
 //! Reads certificates from JSON nodes.
 
-ghost use Rattle.std.specs.Prelude.{◌≡◌, ◌≢◌, IfErr, option_map};
+ghost use Rattle.std.specs.Prelude.{◌≡◌, ◌≢◌, IfErr};
 ghost use Rattle.serde_json.specs.View.{view};
 ghost use Rattle.volume_model.specs.Answer.{Gives};
 ghost use Rattle.json_node.specs.Nodes.{items_in};
@@ -8,16 +8,15 @@ ghost use Rattle.refutation.specs.Refutation.{rule_of};
 ghost use Rattle.refutation.specs.Certificate.{certificate_rule};
 ghost use Rattle.refutation.specs.Forms.{form_data, rules_of};
 ghost use Rattle.refutation.specs.Reading.{side_of, numbers_of, pair_of, pairs_of, rule_name_of};
-ghost use Rattle.refutation.specs.Reading.{form_of};
-ghost use Rattle.refutation.specs.Slots.{dead_from, clash_from, open_from, pick_from, match_from, split_from};
+ghost use Rattle.refutation.specs.Reading.{dead_in, clash_in, open_in, pick_in, match_in, split_in, fields_of, form_of};
 ghost use Rattle.refutation.specs.Reading.{each_rule, rule_from, rule_level, rule_at, certificate_in};
 
 use crate::certificate::{Certificate, MAX_DEPTH};
 use crate::form::{Form, RuleName};
-use crate::json::{array, listed, number_in, number_to, two};
+use crate::json::{array, has_keys, listed, number_at, number_to, two};
 use crate::{Refutation, Side};
 use json_node::Node;
-use quorum_expr::present;
+use quorum_expr::value_at;
 use serde_json::Value;
 use std::alloc::Global;
 use volume_model::Fault;
@@ -88,85 +87,86 @@ fn pairs<N: Node>(alloc: Global, rest: &mut N::Rest) -> Result<Vec<(u8, u8)>, Fa
     Ok(list)
 }
 
-#[tactic(auto, unfolding(crate::specs::Slots::dead_from))]
-fn dead<N: Node>(side_slot: Option<N>, item: Option<N>) -> Result<Form<N>, Fault>
-    ensures { Gives (form_data N.means) result (dead_from (option_map N.means side_slot) (option_map N.means item)) }
+#[tactic(auto, unfolding(crate::specs::Reading::dead_in))]
+fn dead<N: Node>(value: &N) -> Result<Form<N>, Fault>
+    ensures { Gives (form_data N.means) result (dead_in (N.means value.now)) }
 {
-    let name = present(side_slot)?;
+    let name = value_at(value, "side")?;
     let side = side(&name)?;
-    let item = number_in(item, 65_535)?;
+    let item = number_at(value, "item", 65_535)?;
     Ok(Form::Dead(side, item as u16))
 }
 
-#[tactic(auto, unfolding(crate::specs::Slots::clash_from))]
-fn clash<N: Node>(left: Option<N>, right: Option<N>) -> Result<Form<N>, Fault>
-    ensures { Gives (form_data N.means) result (clash_from (option_map N.means left) (option_map N.means right)) }
+#[tactic(auto, unfolding(crate::specs::Reading::clash_in))]
+fn clash<N: Node>(value: &N) -> Result<Form<N>, Fault>
+    ensures { Gives (form_data N.means) result (clash_in (N.means value.now)) }
 {
-    let left = number_in(left, 65_535)?;
-    let right = number_in(right, 65_535)?;
+    let left = number_at(value, "left", 65_535)?;
+    let right = number_at(value, "right", 65_535)?;
     Ok(Form::Clash(left as u16, right as u16))
 }
 
-#[tactic(auto, unfolding(crate::specs::Slots::open_from))]
-fn open<N: Node>(side_slot: Option<N>, item: Option<N>, then: Option<N>) -> Result<Form<N>, Fault>
-    ensures { Gives (form_data N.means) result (open_from (option_map N.means side_slot) (option_map N.means item) (option_map N.means then)) }
+#[tactic(auto, unfolding(crate::specs::Reading::open_in))]
+fn open<N: Node>(value: &N) -> Result<Form<N>, Fault>
+    ensures { Gives (form_data N.means) result (open_in (N.means value.now)) }
 {
-    let name = present(side_slot)?;
+    let name = value_at(value, "side")?;
     let side = side(&name)?;
-    let item = number_in(item, 65_535)?;
-    let then = present(then)?;
+    let item = number_at(value, "item", 65_535)?;
+    let then = value_at(value, "then")?;
     Ok(Form::Open(side, item as u16, then))
 }
 
-#[tactic(auto, unfolding(crate::specs::Slots::pick_from))]
-fn pick<N: Node>(
-    alloc: Global,
-    side_slot: Option<N>,
-    item: Option<N>,
-    children_slot: Option<N>,
-    then: Option<N>,
-) -> Result<Form<N>, Fault>
-    ensures { Gives (form_data N.means) result (pick_from (option_map N.means side_slot) (option_map N.means item) (option_map N.means children_slot) (option_map N.means then)) }
+#[tactic(auto, unfolding(crate::specs::Reading::pick_in))]
+fn pick<N: Node>(alloc: Global, value: &N) -> Result<Form<N>, Fault>
+    ensures { Gives (form_data N.means) result (pick_in (N.means value.now)) }
 {
-    let name = present(side_slot)?;
+    let name = value_at(value, "side")?;
     let side = side(&name)?;
-    let item = number_in(item, 65_535)?;
-    let found = present(children_slot)?;
+    let item = number_at(value, "item", 65_535)?;
+    let found = value_at(value, "children")?;
     let mut rest = array(&found)?;
     let children = numbers::<N>(alloc, &mut rest)?;
-    let branches = present(then)?;
+    let branches = value_at(value, "then")?;
     let then = listed(branches)?;
     Ok(Form::Pick(side, item as u16, children, then))
 }
 
-#[tactic(auto, unfolding(crate::specs::Slots::match_from))]
-fn match_up<N: Node>(
-    alloc: Global,
-    left: Option<N>,
-    right: Option<N>,
-    pairs_slot: Option<N>,
-    then: Option<N>,
-) -> Result<Form<N>, Fault>
-    ensures { Gives (form_data N.means) result (match_from (option_map N.means left) (option_map N.means right) (option_map N.means pairs_slot) (option_map N.means then)) }
+#[tactic(auto, unfolding(crate::specs::Reading::match_in))]
+fn match_up<N: Node>(alloc: Global, value: &N) -> Result<Form<N>, Fault>
+    ensures { Gives (form_data N.means) result (match_in (N.means value.now)) }
 {
-    let left = number_in(left, 65_535)?;
-    let right = number_in(right, 65_535)?;
-    let found = present(pairs_slot)?;
+    let left = number_at(value, "left", 65_535)?;
+    let right = number_at(value, "right", 65_535)?;
+    let found = value_at(value, "pairs")?;
     let mut rest = array(&found)?;
     let pairs = pairs::<N>(alloc, &mut rest)?;
-    let branches = present(then)?;
+    let branches = value_at(value, "then")?;
     let then = listed(branches)?;
     Ok(Form::Match(left as u16, right as u16, pairs, then))
 }
 
-#[tactic(auto, unfolding(crate::specs::Slots::split_from))]
-fn split<N: Node>(member: Option<N>, left: Option<N>, right: Option<N>) -> Result<Form<N>, Fault>
-    ensures { Gives (form_data N.means) result (split_from (option_map N.means member) (option_map N.means left) (option_map N.means right)) }
+#[tactic(auto, unfolding(crate::specs::Reading::split_in))]
+fn split<N: Node>(value: &N) -> Result<Form<N>, Fault>
+    ensures { Gives (form_data N.means) result (split_in (N.means value.now)) }
 {
-    let member = number_in(member, 63)?;
-    let left = present(left)?;
-    let right = present(right)?;
+    let member = number_at(value, "member", 63)?;
+    let left = value_at(value, "left")?;
+    let right = value_at(value, "right")?;
     Ok(Form::Split(member as u8, left, right))
+}
+
+fn fields<N: Node>(alloc: Global, name: RuleName, value: &N) -> Result<Form<N>, Fault>
+    ensures { Gives (form_data N.means) result (fields_of name (N.means value.now)) }
+{
+    match name {
+        RuleName::Dead => dead(value),
+        RuleName::Clash => clash(value),
+        RuleName::Open => open(value),
+        RuleName::Pick => pick(alloc, value),
+        RuleName::Match => match_up(alloc, value),
+        RuleName::Split => split(value),
+    }
 }
 
 /// Reads one level of a node.
@@ -174,28 +174,10 @@ fn split<N: Node>(member: Option<N>, left: Option<N>, right: Option<N>) -> Resul
 fn form_at<N: Node>(alloc: Global, value: &N) -> Result<Form<N>, Fault>
     ensures { Gives (form_data N.means) result (form_of (N.means value.now)) }
 {
-    // In the order of docs/PLANS.md: the walk tries the name after the last one first.
-    let names = [
-        "rule", "left", "right", "pairs", "side", "item", "children", "member", "then",
-    ];
-    let mut slots = [None, None, None, None, None, None, None, None, None];
-    let Some(count) = value.fields(6, &names, &mut slots) else {
-        return Err(Fault::Malformed);
-    };
-    let [rule, left, right, pairs, side, item, children, member, then] = slots;
-    let found = present(rule)?;
+    let found = value_at(value, "rule")?;
     let name = rule_name(&found)?;
-    if count != name.key_count() {
-        return Err(Fault::Malformed);
-    }
-    match name {
-        RuleName::Dead => dead(side, item),
-        RuleName::Clash => clash(left, right),
-        RuleName::Open => open(side, item, then),
-        RuleName::Pick => pick(alloc, side, item, children, then),
-        RuleName::Match => match_up(alloc, left, right, pairs, then),
-        RuleName::Split => split(member, left, right),
-    }
+    has_keys(value, name.key_count())?;
+    fields(alloc, name, value)
 }
 
 /// Reads a refutation of at most `left` levels.
