@@ -23,11 +23,27 @@ import tempfile
 TOP = pathlib.Path(__file__).resolve().parent.parent
 
 
-def configuration(parent, members, read):
-    """A configuration of which any `read` read and any so many write that each read set meets each write set."""
-    write = len(members) + 1 - read
+def configuration(parent, members, read, write=None):
+    """A configuration of which any `read` read and any `write` write, by default so many that each read set meets each write set."""
+    write = write or len(members) + 1 - read
     return {"parent": parent, "members": sorted(members), "full": sorted(members), "read": {"k": read, "of": "all"},
             "write": {"k": write, "of": "all"}, "meets": None, "step": None}
+
+
+# Three members, of which each step replaces one.
+ROLLING = [configuration(None, [0, 1, 2], 2), configuration(0, [0, 1, 3], 2), configuration(1, [0, 3, 4], 2), configuration(2, [3, 4, 5], 2)]
+
+# What is worked out by hand: configurations, a script, for each advance whether it waited, and the line since which the group is lost.
+CASES = [
+    ("all members are new", [configuration(None, range(6), 3), configuration(0, range(6, 12), 3)], "advance 0 1", [False], 1),
+    ("copies of the first step can still be sent", ROLLING, "advance 0 1; advance 0 2", [True, False], None),
+    ("a delivery takes them away", ROLLING, "advance 0 1; advance 0 2; deliver 0 0 2.1", [True, False], 3),
+    ("the write quorum alone is whole", [configuration(None, [0, 1, 2], 2), configuration(0, [0, 1, 3, 4], 3, 2)], "advance 0 1", [False], 1),
+    ("the read quorum alone is whole", [configuration(None, range(6), 3), configuration(0, [0, 1, 2, 6, 7, 8], 3)], "advance 0 1", [True], None),
+    ("a recovery that has cut opens all the same", ROLLING,
+     "assign; take 2 1.1; deliver 0 0 2.1; deliver 0 1 2.1; take 2 3.1; take 2 4.1; cut 2; deliver 0 0 7.1; deliver 0 1 7.1; advance 0 1; advance 0 2;"
+     " deliver 0 0 11.1; deliver 0 1 11.1; deliver 0 2 11.1; take 2 8.1; take 2 9.1; open 2", [True, False], 12),
+]
 
 
 def random_plan(rng):
@@ -39,7 +55,12 @@ def random_plan(rng):
         for _ in range(rng.choice([1, 1, 2])):
             members[rng.randrange(len(members))] = next(fresh)
         all_of.append(configuration(number, members, rng.choice([2, 2, 3])))
-    return {"format": 1, "lal": 10, "groups": [{"configurations": all_of}]}
+    return plan_of(all_of)
+
+
+def plan_of(configurations):
+    """A plan of one group."""
+    return {"format": 1, "lal": 10, "groups": [{"configurations": configurations}]}
 
 
 class Group:
@@ -162,6 +183,27 @@ def told(tool, folder, plan, lines):
     return facts["advances"], facts["lost"]
 
 
+def certified(tool, file, value):
+    """Writes a plan with its certificates into the file. Returns whether all were found."""
+    file.write_text(json.dumps(value))
+    found = subprocess.run([tool, "search", file], capture_output=True, text=True)
+    file.write_text(found.stdout)
+    return found.returncode == 0
+
+
+def by_hand(tool, folder):
+    """The number of cases, and of those that `explain` answers otherwise."""
+    wrong = 0
+    for name, configurations, script, waited, line in CASES:
+        certified(tool, folder / "p.json", plan_of(configurations))
+        advances, lost = told(tool, folder, folder / "p.json", script.split("; "))
+        answer = [advance["waited"] for advance in advances], [group["line"] for group in lost]
+        if answer != (waited, [] if line is None else [line]):
+            wrong += 1
+            print(f"{name}: says {answer}, due is {waited}, {line}")
+    return len(CASES), wrong
+
+
 def main():
     parser = argparse.ArgumentParser()
     parser.add_argument("--runs", type=int, default=300)
@@ -169,17 +211,15 @@ def main():
     parser.add_argument("tool", nargs="?", default=TOP / "crates/plan_tool/out/plan_tool")
     given = parser.parse_args()
     tool, rng = pathlib.Path(given.tool).resolve(), random.Random(given.seed)
-    ran = advances = lost = wrong = 0
+    ran = advances = lost = 0
     with tempfile.TemporaryDirectory() as folder:
         folder = pathlib.Path(folder)
         plan = folder / "p.json"
+        cases, wrong = by_hand(tool, folder)
         while ran < given.runs:
             value = random_plan(rng)
-            plan.write_text(json.dumps(value))
-            found = subprocess.run([tool, "search", plan], capture_output=True, text=True)
-            if found.returncode:
+            if not certified(tool, plan, value):
                 continue
-            plan.write_text(found.stdout)
             for _ in range(5):
                 run = Run(rng, value)
                 due = (run.advances, [] if run.lost is None or not run.advances else [{"group": 0, "line": run.lost}])
@@ -188,7 +228,7 @@ def main():
                 if answer != due:
                     wrong += 1
                     print(json.dumps(value), *run.lines, f"says {answer}, due is {due}", sep="\n")
-    print(f"dead ends: {ran} runs, {advances} advances, {lost} groups lost, {wrong} wrong")
+    print(f"dead ends: {cases} cases by hand, {ran} runs, {advances} advances, {lost} groups lost, {wrong} wrong")
     sys.exit(1 if wrong else 0)
 
 
