@@ -1,3 +1,4 @@
 pub mod RenamedLaws
 pub mod Sets
 pub mod Behind
+pub mod Rooted

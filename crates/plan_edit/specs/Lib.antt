@@ -2,3 +2,4 @@ pub mod Renamed
 pub mod Drafts
 pub mod Replaced
 pub mod Edited
+pub mod NewPlans

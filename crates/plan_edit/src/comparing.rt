@@ -11,7 +11,7 @@ use plan::{Configuration, Plan};
 use quorum_expr::MemberSet;
 
 /// Returns whether two sets have the same members.
-fn is_same_set(left: MemberSet, right: MemberSet) -> bool
+pub fn is_same_set(left: MemberSet, right: MemberSet) -> bool
     ensures { result ≡ true → left ≡ right }
 {
     left.is_subset(right) && right.is_subset(left)

@@ -5,7 +5,7 @@ use quorum_expr::{Expr, MEMBERS, MemberSet};
 use std::alloc::{AllocError, Global};
 
 /// Appends a comma, except before the first item.
-fn add_comma(text: &mut String, is_first: bool) -> Result<(), AllocError> {
+pub fn add_comma(text: &mut String, is_first: bool) -> Result<(), AllocError> {
     if is_first {
         return Ok(());
     }
@@ -13,7 +13,7 @@ fn add_comma(text: &mut String, is_first: bool) -> Result<(), AllocError> {
 }
 
 /// Appends members as an array.
-fn add_members(text: &mut String, members: MemberSet) -> Result<(), AllocError> {
+pub fn add_members(text: &mut String, members: MemberSet) -> Result<(), AllocError> {
     let mut is_first = true;
     text.push_str("[")?;
     for member in 0..MEMBERS {
