@@ -1,0 +1,222 @@
+//! What is drawn of each line of a run.
+
+use crate::act::{Act, Named, Sent, order_act};
+use crate::actor::Actor;
+use std::alloc::{AllocError, Global};
+use volume_model::Fault;
+use world::{Order, Outcome, RecoveryOutcome};
+
+/// What is drawn of a line.
+#[derive(Clone, Copy)]
+pub(crate) struct Row {
+    /// The line's number, from 1.
+    pub line: u32,
+    /// Its actor.
+    pub actor: Actor,
+    /// What it does.
+    pub act: Act,
+    /// Why it was refused, if it was.
+    pub refused: Option<Fault>,
+    /// Whether a writer's durable point may have grown.
+    pub may_commit: bool,
+    /// The writer's new durable point, if it has grown.
+    pub durable: Option<u64>,
+}
+
+/// What is known of a client while the lines are read.
+#[derive(Clone, Copy)]
+struct ClientState {
+    volume: u32,
+    /// Whether it has cut, or is the first writer.
+    has_cut: bool,
+    /// Whether it is a writer.
+    is_open: bool,
+    /// The LSN of its next record.
+    next_lsn: u64,
+}
+
+/// What is known of a run while its lines are read.
+#[derive(Drop)]
+struct Story {
+    /// The messages that were made.
+    sent: Vec<Sent>,
+    /// For each event the number of messages that were made before it, and how many it made.
+    made: Vec<(usize, u32)>,
+    clients: Vec<ClientState>,
+}
+
+impl Story {
+    /// Returns the place of a client, which is added if it is new.
+    fn client(&mut self, volume: u32) -> Result<usize, AllocError> {
+        let mut place = 0usize;
+        for client in &self.clients {
+            if client.volume == volume {
+                return Ok(place);
+            }
+            place = place.saturating_add(1);
+        }
+        self.clients.push(ClientState {
+            volume,
+            has_cut: volume == 1,
+            is_open: volume == 1,
+            next_lsn: 1,
+        })?;
+        Ok(place)
+    }
+
+    /// Returns the message that a line names, if it was made.
+    fn message(&self, named: Named) -> Option<Sent> {
+        let index = match named {
+            Named::Nothing => return None,
+            Named::Number(number) => number.checked_sub(1)?,
+            Named::From(event, place) => {
+                let (first, made) = *self.made.get(event as usize)?;
+                if place == 0 || place > u64::from(made) {
+                    return None;
+                }
+                (first as u64).saturating_add(place).saturating_sub(1)
+            }
+        };
+        self.sent.get(index as usize).copied()
+    }
+
+    /// Adds the messages that an act has made.
+    fn add_made(
+        &mut self,
+        from: Actor,
+        act: Act,
+        has_cut: bool,
+        made: u32,
+    ) -> Result<(), AllocError> {
+        let (kind, first) = act.makes(has_cut);
+        self.made.push((self.sent.len(), made))?;
+        for number in 0..made {
+            let before = u64::from(number);
+            self.sent.push(Sent {
+                from,
+                kind,
+                lsn: if first > 0 {
+                    first.saturating_add(before)
+                } else {
+                    0
+                },
+                place: before + 1,
+                made: u64::from(made),
+            })?;
+        }
+        Ok(())
+    }
+}
+
+/// Returns the cut and the start of a client's recovery.
+fn cut_of(finds: &[RecoveryOutcome], volume: u32) -> Option<(u64, u64)> {
+    for find in finds {
+        if find.volume == volume {
+            return Some((find.found.cut, find.found.lineage.last_start()));
+        }
+    }
+    None
+}
+
+/// Returns an act that wasn't refused with what depends on the client, and advances the client.
+fn advanced(client: &mut ClientState, act: Act, finds: &[RecoveryOutcome]) -> Act {
+    match act {
+        Act::Issue(_, count) => {
+            let first = client.next_lsn;
+            client.next_lsn = first.saturating_add(count as u64);
+            Act::Issue(first, count)
+        }
+        Act::Cut(_) => {
+            let found = cut_of(finds, client.volume);
+            if let Some((_, start)) = found {
+                client.next_lsn = start.saturating_add(1);
+            }
+            client.has_cut = true;
+            Act::Cut(found)
+        }
+        Act::Open => {
+            client.is_open = true;
+            act
+        }
+        _ => act,
+    }
+}
+
+/// Adds what is drawn of a line, and the messages that it made.
+fn add_row(
+    rows: &mut Vec<Row>,
+    story: &mut Story,
+    line: u32,
+    order: &Order,
+    answer: Result<u32, Fault>,
+    finds: &[RecoveryOutcome],
+) -> Result<(), AllocError> {
+    let (actor, plain, named) = order_act(order);
+    let mut act = match plain {
+        Act::Takes(_) => Act::Takes(story.message(named)),
+        _ => plain,
+    };
+    let (mut has_cut, mut is_open) = (false, false);
+    if let Actor::Client(volume) = actor
+        && answer.is_ok()
+    {
+        let place = story.client(volume)?;
+        if let Some(client) = story.clients.get_mut(place) {
+            act = advanced(client, act, finds);
+            has_cut = client.has_cut;
+            is_open = client.is_open;
+        }
+    }
+    let (made, refused) = match answer {
+        Ok(made) => (made, None),
+        Err(fault) => (0, Some(fault)),
+    };
+    story.add_made(actor, act, has_cut, made)?;
+    let may_commit = is_open && matches!(act, Act::Takes(_) | Act::Open);
+    rows.push(Row {
+        line,
+        actor,
+        act,
+        refused,
+        may_commit,
+        durable: None,
+    })?;
+    Ok(())
+}
+
+/// Adds what is drawn of each line with an event.
+fn add_rows(
+    rows: &mut Vec<Row>,
+    story: &mut Story,
+    lines: &[u32],
+    orders: &[Order],
+    outcome: &Outcome,
+) -> Result<(), AllocError> {
+    let finds = outcome.finds.as_slice();
+    let mut at = 0usize;
+    for order in orders {
+        let line = lines.get(at).copied().unwrap_or(0);
+        if let Some(answer) = outcome.results.get(at) {
+            add_row(rows, story, line, order, *answer, finds)?;
+        }
+        at = at.saturating_add(1);
+    }
+    Ok(())
+}
+
+/// Returns what is drawn of each line with an event. `lines` has their numbers.
+pub(crate) fn rows_of(
+    alloc: Global,
+    lines: &[u32],
+    orders: &[Order],
+    outcome: &Outcome,
+) -> Result<Vec<Row>, AllocError> {
+    let mut story = Story {
+        sent: Vec::new(alloc),
+        made: Vec::new(alloc),
+        clients: Vec::new(alloc),
+    };
+    let mut rows = Vec::new(alloc);
+    add_rows(&mut rows, &mut story, lines, orders, outcome)?;
+    Ok(rows)
+}
