@@ -2,10 +2,12 @@
 #![tactic(auto)]
 
 mod action;
+mod explain_performing;
 mod explaining;
 mod fallible;
 mod fault_query;
 mod files;
+mod finishing;
 mod help;
 mod inputs;
 mod late_file;

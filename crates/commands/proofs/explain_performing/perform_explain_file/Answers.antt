@@ -8,7 +8,7 @@ use Rattle.commands.specs.Streams.{Ends}
 use Rattle.commands.specs.declared.reply.Stop.TheVariants as stops
 use Rattle.commands.proofs.FaultQueries.{never_read}
 use Rattle.commands.proofs.Given.{ends_by}
-use Rattle.commands.proofs.performing.perform_explain_file.Goals as goal
+use Rattle.commands.proofs.explain_performing.perform_explain_file.Goals as goal
 
 pub returns-in-Ok-clause-ends : goal.returns-in-Ok-clause-ends
 returns-in-Ok-clause-ends g c =

@@ -7,7 +7,7 @@ use Rattle.commands.proofs.Due.{said_due}
 use Rattle.commands.proofs.Given.{ends_as, ends_by}
 use Rattle.commands.proofs.Reported.{report_as_checked}
 use Rattle.commands.proofs.Says.{ends_below, quiet_due, yes_due}
-use Rattle.commands.proofs.performing.perform_report.Goals as goal
+use Rattle.commands.proofs.explain_performing.perform_report.Goals as goal
 
 pub returns-in-Ok-clause-ends : goal.returns-in-Ok-clause-ends
 returns-in-Ok-clause-ends g c =

@@ -2,7 +2,7 @@ use Rattle.std.proofs.Common.{subst, sym}
 use Rattle.commands.specs.Answers.{AnswersOf, file_of}
 use Rattle.commands.specs.Reports.{ExplainsAs}
 use Rattle.commands.specs.Streams.{Ends}
-use Rattle.commands.proofs.performing.perform_explain_as.Goals as goal
+use Rattle.commands.proofs.explain_performing.perform_explain_as.Goals as goal
 
 pub returns-then-json-clause-ends : goal.returns-then-json-clause-ends
 returns-then-json-clause-ends g c =

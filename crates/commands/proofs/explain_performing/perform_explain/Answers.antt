@@ -8,7 +8,7 @@ use Rattle.commands.specs.ShownName.{shown_name}
 use Rattle.commands.specs.Stops.{answer_of}
 use Rattle.commands.proofs.FaultQueries.{number_said}
 use Rattle.commands.proofs.Given.{ends_by}
-use Rattle.commands.proofs.performing.perform_explain.Goals as goal
+use Rattle.commands.proofs.explain_performing.perform_explain.Goals as goal
 
 pub returns-in-Some-clause-ends : goal.returns-in-Some-clause-ends
 returns-in-Some-clause-ends g c =

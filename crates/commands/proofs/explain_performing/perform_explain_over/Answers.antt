@@ -5,7 +5,7 @@ use Rattle.commands.specs.Stops.{stop_answer}
 use Rattle.commands.specs.declared.reply.Stop.TheVariants as stops
 use Rattle.commands.proofs.ExplainedScripts.{never_explained}
 use Rattle.commands.proofs.Given.{ends_by}
-use Rattle.commands.proofs.performing.perform_explain_over.Goals as goal
+use Rattle.commands.proofs.explain_performing.perform_explain_over.Goals as goal
 
 pub returns-in-Err-clause-ends : goal.returns-in-Err-clause-ends
 returns-in-Err-clause-ends g c =

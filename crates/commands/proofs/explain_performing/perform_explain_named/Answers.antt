@@ -6,7 +6,7 @@ use Rattle.commands.specs.Stops.{stop_answer}
 use Rattle.commands.proofs.ExplainedScripts.{said_explained, yes_explained}
 use Rattle.commands.proofs.Given.{ends_as, ends_by}
 use Rattle.commands.proofs.Says.{ends_below, quiet_said}
-use Rattle.commands.proofs.performing.perform_explain_named.Goals as goal
+use Rattle.commands.proofs.explain_performing.perform_explain_named.Goals as goal
 
 -- an answer with a status below 2 says nothing to standard error
 abbrev IsQuietAnswer : Answer → Type 0

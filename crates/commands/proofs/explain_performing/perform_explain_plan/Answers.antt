@@ -7,7 +7,7 @@ use Rattle.commands.proofs.Due.{said_due}
 use Rattle.commands.proofs.ExplainedPlans.{as_checked}
 use Rattle.commands.proofs.Given.{ends_by}
 use Rattle.commands.proofs.Says.{ends_below, quiet_due, yes_due}
-use Rattle.commands.proofs.performing.perform_explain_plan.Goals as goal
+use Rattle.commands.proofs.explain_performing.perform_explain_plan.Goals as goal
 
 pub returns-clause-ends : goal.returns-clause-ends
 returns-clause-ends g c =
