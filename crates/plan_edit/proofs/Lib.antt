@@ -2,3 +2,4 @@ pub mod RenamedLaws
 pub mod Sets
 pub mod Behind
 pub mod Rooted
+pub mod Spans

@@ -1,5 +1,5 @@
 -- A group with one configuration.
-use Rattle.std.proofs.Common.{◌≡◌, ℕ, Bool, true, List, [], ◌∷◌, Result, Ok, Err, length, map, get_or, refl, subst, arith}
+use Rattle.std.proofs.Common.{◌≡◌, Bool, true, List, [], ◌∷◌, Result, Ok, Err, length, map, get_or, refl, subst, arith}
 use Rattle.std.specs.Prelude.{IfOk}
 use Rattle.volume_model.specs.declared.fault.Fault.{Fault}
 use Rattle.plan.specs.declared.configurations.Configuration.{Configuration}

@@ -3,3 +3,5 @@ pub mod Drafts
 pub mod Replaced
 pub mod Edited
 pub mod NewPlans
+pub mod Requests
+pub mod Words

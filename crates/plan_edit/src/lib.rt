@@ -9,26 +9,26 @@ mod expressions;
 mod making;
 mod new_checking;
 mod new_refusal;
-#[cfg(test)]
-mod new_tests;
 mod new_text;
 mod picking;
 mod plan_words;
 mod refusal;
 mod replacement;
 mod replacing;
+mod requests;
 mod splicing;
 mod text;
-mod wording;
 mod word_reading;
+mod wording;
 
 pub use making::new_plan;
-pub use new_refusal::NewRefusal;
+pub use new_refusal::{NewRefusal, refusal_lines};
 pub use plan_words::{PlanWords, Quorums};
 pub use refusal::EditRefusal;
 pub use replacement::Replacement;
 pub use replacing::replace;
-pub use wording::reason;
+pub use requests::{PlanRequest, requested_plan};
 pub use word_reading::{
-    SurvivalWord, WordFault, read_members, read_survival, read_weights, read_zones,
+    SurvivalWord, Weights, WordFault, read_members, read_survival, read_weights, read_zones,
 };
+pub use wording::reason;

@@ -1,6 +1,7 @@
 //! Reads the words that describe a new plan.
 
 ghost use Rattle.std.specs.Prelude.{◌<◌, IfOk};
+ghost use Rattle.plan_edit.specs.Words.{AddsNamed, AddsText, AreNamed, IsSpan, IsSpelled};
 
 use quorum_expr::{MEMBERS, MemberSet};
 use std::alloc::{AllocFailed, Global};
@@ -59,7 +60,8 @@ pub enum SurvivalWord {
 
 /// Reads a member's number.
 fn member(word: &str) -> Result<u8, WordFault>
-    ensures { IfOk result (λ m. m < 64) }
+    ensures below { IfOk result (λ m. m < 64) }
+    ensures spelled { IfOk result (IsSpelled word.now) }
 {
     match word.parse::<u8>() {
         Ok(member) if member < MEMBERS => Ok(member),
@@ -68,7 +70,10 @@ fn member(word: &str) -> Result<u8, WordFault>
 }
 
 /// Reads a member's number, or the first and the last number of a range.
-fn range(word: &str) -> Result<(u8, u8), WordFault> {
+fn range(word: &str) -> Result<(u8, u8), WordFault>
+    ensures span { IfOk result (λ span. IsSpan word.now span.0 span.1) }
+    ensures below { IfOk result (λ span. span.1 < 64) }
+{
     match word.split_once('-') {
         None => {
             let only = member(word)?;
@@ -77,10 +82,41 @@ fn range(word: &str) -> Result<(u8, u8), WordFault> {
         Some((first, last)) => {
             let first = member(first)?;
             let last = member(last)?;
-            if last < first {
-                return Err(WordFault::Members);
-            }
             Ok((first, last))
+        }
+    }
+}
+
+/// Adds the members of a number or of a range.
+fn with_range(members: MemberSet, word: &str) -> Result<MemberSet, WordFault>
+    ensures { IfOk result (AddsNamed word.now members) }
+{
+    let (first, last) = range(word)?;
+    if last < first {
+        return Err(WordFault::Members);
+    }
+    let mut all = members;
+    for number in first..MEMBERS {
+        if number <= last {
+            if all.contains(number) {
+                return Err(WordFault::Repeated);
+            }
+            all = all.with(number);
+        }
+    }
+    Ok(all)
+}
+
+/// Adds the members of numbers and ranges with commas between them. Each word adds one at least, so that there are at
+/// most 65 calls.
+fn with_words(members: MemberSet, text: &str) -> Result<MemberSet, WordFault>
+    ensures { IfOk result (AddsText text.now members) }
+{
+    match text.split_once(',') {
+        None => with_range(members, text),
+        Some((word, rest)) => {
+            let more = with_range(members, word)?;
+            with_words(more, rest)
         }
     }
 }
@@ -89,20 +125,10 @@ fn range(word: &str) -> Result<(u8, u8), WordFault> {
 ///
 /// # Errors
 /// `Members` or `Repeated`, whichever comes first from left to right.
-pub fn read_members(text: &str) -> Result<MemberSet, WordFault> {
-    let mut members = MemberSet::empty();
-    for word in text.split(',') {
-        let (first, last) = range(word)?;
-        for number in first..MEMBERS {
-            if number <= last {
-                if members.contains(number) {
-                    return Err(WordFault::Repeated);
-                }
-                members = members.with(number);
-            }
-        }
-    }
-    Ok(members)
+pub fn read_members(text: &str) -> Result<MemberSet, WordFault>
+    ensures { IfOk result (AreNamed text.now) }
+{
+    with_words(MemberSet::empty(), text)
 }
 
 /// Reads zones: sets of members with slashes between them, each member once.
@@ -152,11 +178,20 @@ fn weight(word: &str) -> Result<(u8, u8), WordFault>
     }
 }
 
+/// The weights of members.
+#[derive(Clone, Copy, Debug)]
+pub struct Weights {
+    /// The members that have a weight.
+    pub members: MemberSet,
+    /// The weight of each member by its number; 1 for a member that has none.
+    pub of: [u8; 64],
+}
+
 /// Reads weights: pairs of a member and its weight with commas between them, each member once. The others weigh 1.
 ///
 /// # Errors
 /// `Weights`, `Members` or `Repeated`, whichever comes first from left to right.
-pub fn read_weights(text: &str) -> Result<[u8; 64], WordFault> {
+pub fn read_weights(text: &str) -> Result<Weights, WordFault> {
     let mut weights = [1; 64];
     let mut members = MemberSet::empty();
     for word in text.split(',') {
@@ -167,5 +202,8 @@ pub fn read_weights(text: &str) -> Result<[u8; 64], WordFault> {
         members = members.with(of);
         weights[usize::from(of)] = weight;
     }
-    Ok(weights)
+    Ok(Weights {
+        members,
+        of: weights,
+    })
 }
