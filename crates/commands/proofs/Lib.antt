@@ -15,3 +15,4 @@ pub mod Says
 pub mod Searching
 pub mod Printing
 pub mod Edits
+pub mod Drawn

@@ -111,6 +111,39 @@ runs_leaf name = with_rule (with_rule (file_leaf name) (count_rule (codes "seed"
 abbrev pub simulate_leaf : Text → App
 simulate_leaf name = with_rule (with_rule (runs_leaf name) (flag_rule (codes "crash"))) (flag_rule (codes "replace"))
 
+-- a text: --ID TEXT
+abbrev pub text_rule : Text → Rule
+text_rule id = record (new_rule id) { long = Some id; value_names = 1; action = Some Set }
+
+-- a number from one to another: --ID N
+abbrev pub bounded_rule : Text → ℕ → ℕ → Rule
+bounded_rule id least most = record (new_rule id) {
+  long = Some id;
+  value_names = 1;
+  parser = Some (parsers.Signed (pos least) (pos most));
+}
+
+-- the words of a new plan that are texts: its members, and what they survive
+abbrev pub words_leaf : Text → App
+words_leaf name = with_rule (with_rule (with_rule (with_rule (with_rule (new_app name)
+    (text_rule (codes "members"))) (text_rule (codes "zones"))) (text_rule (codes "tail")))
+    (text_rule (codes "weights"))) (text_rule (codes "survive"))
+
+-- the same, and what read sets and write sets need
+abbrev pub quorums_leaf : Text → App
+quorums_leaf name = with_rule (with_rule (words_leaf name) (bounded_rule (codes "read") 1 16320))
+    (bounded_rule (codes "write") 1 16320)
+
+-- all options of a new plan
+abbrev pub new_leaf : Text → App
+new_leaf name = with_rule (with_rule (with_rule (with_rule (quorums_leaf name)
+    (count_rule (codes "groups") 1 16 (codes "1"))) (bounded_rule (codes "born") 1 16))
+    (count_rule (codes "lal") 1 10000000 (codes "10000000"))) workers_rule
+
+-- a subcommand of a plan's file, and of a script's if it is named
+abbrev pub draw_leaf : Text → App
+draw_leaf name = with_rule (file_leaf name) (other_file_rule (codes "script"))
+
 -- the program with its first two subcommands, with its third, its fourth, and so on
 abbrev pub with_runs : App
 with_runs = with_subcommand (with_subcommand program (file_leaf (codes "check")).top) (script_leaf (codes "run")).top
@@ -130,8 +163,15 @@ with_replace = with_subcommand with_explain (replace_leaf (codes "replace")).top
 abbrev pub with_steps : App
 with_steps = with_subcommand with_replace (steps_leaf (codes "steps")).top
 
+abbrev pub with_simulate : App
+with_simulate = with_subcommand with_steps (simulate_leaf (codes "simulate")).top
+
+abbrev pub with_new : App
+with_new = with_subcommand with_simulate (new_leaf (codes "new")).top
+
 -- check FILE, run PLAN SCRIPT, fleet PLAN SCRIPT -w N, search FILE -w N, explain FILE SCRIPT --json, whose script may
 -- be left out, replace FILE -w N --out N --in N -g N -c N --tail --direct, steps FILE -g N -c N, simulate FILE --seed N
--- --runs N --crash --replace
+-- --runs N --crash --replace, new --members TEXT --zones TEXT --tail TEXT --weights TEXT --survive TEXT --read N
+-- --write N --groups N --born N --lal N -w N, draw FILE SCRIPT, whose script may be left out
 abbrev pub tool : App
-tool = with_subcommand with_steps (simulate_leaf (codes "simulate")).top
+tool = with_subcommand with_new (draw_leaf (codes "draw")).top

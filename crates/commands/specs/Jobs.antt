@@ -1,10 +1,11 @@
 -- A job, and the words of the command line that name it.
-use Rattle.std.specs.Prelude.{◌≡◌, ◌<◌, ◌^◌, ℕ, List, Bool, true, false, Option, Some, None, codes, option_map}
+use Rattle.std.specs.Prelude.{◌≡◌, ◌<◌, ◌^◌, ℕ, List, [], Bool, true, false, Option, Some, None, codes, option_map}
 use Rattle.std.specs.Str.{bytes_eq}
 use Rattle.std.specs.Str.Parse.{IsNumeral, digits_value, without_leading_plus}
 use Rattle.clap.specs.Words.{Row, Text, first_of, one_of}
+use Rattle.plan_edit.specs.declared.requests.PlanRequest.{PlanRequest}
 use Rattle.commands.specs.declared.action.Action.{Action}
-use Rattle.commands.specs.declared.action.Action.TheVariants.{Check, Run, Fleet, Search, Explain, Replace, Make}
+use Rattle.commands.specs.declared.action.Action.TheVariants.{Check, Run, Fleet, Search, Explain, Replace, Make, New, Draw}
 use Rattle.commands.specs.declared.action.Job.{Job}
 use Rattle.commands.specs.declared.action.Making.{Making}
 use Rattle.commands.specs.declared.action.Making.TheVariants.{Steps, Simulate}
@@ -24,8 +25,10 @@ name_of Search = codes "search"
 name_of Explain = codes "explain"
 name_of (Replace options) = codes "replace"
 name_of (Make making) = making_name making
+name_of New = codes "new"
+name_of Draw = codes "draw"
 
--- the action prints a plan of its own
+-- the action prints a plan of its own, or a picture: its status 0 doesn't say that the plan of its file has no fault
 abbrev pub prints_plan : Action → Bool
 prints_plan Check = false
 prints_plan Run = false
@@ -34,6 +37,8 @@ prints_plan Search = true
 prints_plan Explain = false
 prints_plan (Replace options) = true
 prints_plan (Make making) = false
+prints_plan New = true
+prints_plan Draw = true
 
 -- the text is this number
 abbrev pub IsSpelled : Text → ℕ → Type 0
@@ -77,6 +82,14 @@ pub record AreOptions (rows : List Row) (o : ReplaceOptions) : Type 0 where
   pub tail : o.is_tail ≡ is_asked (first_of (codes "tail") rows)
   pub direct : o.is_direct ≡ is_asked (first_of (codes "direct") rows)
 
+-- what the rows have for the words of a new plan
+pub record AreWords (rows : List Row) (r : PlanRequest) : Type 0 where
+  pub members : option_map (λ w. w.now) r.members ≡ first_of (codes "members") rows
+  pub zones : option_map (λ w. w.now) r.zones ≡ first_of (codes "zones") rows
+  pub tail : option_map (λ w. w.now) r.tail ≡ first_of (codes "tail") rows
+  pub weights : option_map (λ w. w.now) r.weights ≡ first_of (codes "weights") rows
+  pub survive : option_map (λ w. w.now) r.survive ≡ first_of (codes "survive") rows
+
 -- the rows have the options of the action
 abbrev pub HasOptions : List Row → Action → Type 0
 HasOptions rows Check = Unit {0}
@@ -86,13 +99,25 @@ HasOptions rows Search = Unit {0}
 HasOptions rows Explain = Unit {0}
 HasOptions rows (Replace options) = AreOptions rows options
 HasOptions rows (Make making) = Unit {0}
+HasOptions rows New = Unit {0}
+HasOptions rows Draw = Unit {0}
+
+-- the name of a plan's file is the one that the rows have; none is there for a subcommand that takes none
+abbrev pub IsPlanName : Bool → Option Text → Text → Type 0
+IsPlanName true given name = name ≡ []
+IsPlanName false given name = given ≡ Some name
+
+-- the name of the plan's file of a subcommand; `new` takes no such file
+abbrev pub NamesPlan : Text → List Row → Text → Type 0
+NamesPlan subcommand rows name = IsPlanName (bytes_eq subcommand (codes "new")) (first_of (codes "plan") rows) name
 
 -- the subcommand that clap entered, and what it has for each id
 pub record IsJob (found : Option (Text × List Row)) (j : Job) : Type 0 where
   pub rows : List Row
   pub entered : found ≡ Some (name_of j.action, rows)
-  pub plan : first_of (codes "plan") rows ≡ Some j.plan.now
+  pub plan : NamesPlan (name_of j.action) rows j.plan.now
   pub script : option_map (λ w. w.now) j.script ≡ first_of (codes "script") rows
   pub workers : IsNumberOf (one_of (codes "workers") rows) j.workers
   pub json : j.json ≡ is_asked (first_of (codes "json") rows)
   pub options : HasOptions rows j.action
+  pub request : AreWords rows j.request

@@ -14,6 +14,8 @@ pub mod Answers
 pub mod Read
 pub mod Replaces
 pub mod Makes
+pub mod Begins
+pub mod Draws
 pub mod Unfound
 pub mod Searched
 pub mod UsageText

@@ -3,6 +3,7 @@
 ghost use Rattle.std.specs.Prelude.{◌<◌, ◌≤◌, ◌^◌, unwrap_or};
 
 use fuzzing::Simulation;
+use plan_edit::PlanRequest;
 
 /// How a member of a group is to be replaced.
 #[derive(Clone, Copy, Debug, PartialEq, Eq)]
@@ -56,6 +57,10 @@ pub enum Action {
     Replace(ReplaceOptions),
     /// Make something of a checked plan.
     Make(Making),
+    /// Make a plan from words.
+    New,
+    /// Draw a plan, or a script's run over it.
+    Draw,
 }
 
 /// An action, the names of its files as given, and the number of workers.
@@ -63,7 +68,7 @@ pub enum Action {
 pub struct Job<'a> {
     /// What to do with the files.
     pub action: Action,
-    /// The plan's file.
+    /// The plan's file; empty if the action takes none.
     pub plan: &'a str,
     /// The script's file, where the action takes one.
     pub script: Option<&'a str>,
@@ -71,11 +76,21 @@ pub struct Job<'a> {
     pub workers: u8,
     /// Whether a plan is explained as JSON.
     pub json: bool,
+    /// What a new plan is to be; nothing but numbers if the action isn't `New`.
+    pub request: PlanRequest<'a>,
     ghost some: { 1 ≤ workers },
     ghost few: { workers ≤ 16 },
 }
 
-impl Job<'_> {
+impl<'a> Job<'a> {
+    /// Returns the name of the plan's file, if the action takes one.
+    pub fn plan_file(&self) -> Option<&'a str> {
+        match self.action {
+            Action::New => None,
+            _ => Some(self.plan),
+        }
+    }
+
     /// Returns whether the plan is read from standard input: that of `explain -`.
     pub fn reads_stdin(&self) -> bool {
         self.action == Action::Explain && self.plan == "-"

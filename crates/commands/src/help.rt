@@ -111,3 +111,46 @@ LSN is given twice. Status 0: no promise is broken. Status 1: a run breaks one; 
 without the lines that don't matter. The plan must have no fault.
 
 Example: plan_tool simulate plan.json --seed 7 --runs 100 --crash --replace";
+
+/// The notes of `new`.
+pub const NEW: &str = "\
+Prints a plan as one line, with a certificate for each claim: it has the status 0 in `check`. Each group has one
+configuration with the members of --members or --zones, one of the two: numbers from 0 to 63 and ranges of them with
+commas between them; in --zones a slash ends a zone. N members have N votes, or with --weights the sum of their weights.
+
+A write set has --write votes, by default half of all, rounded down, + 1. A read set has --read votes, by default all
++ 1 less those of a write set, which is the least that meets each write set: of six members 3 read and 4 write.
+
+With --tail the members of the list keep the log alone; the others are full: they keep pages too. A read set has --read
+members, one of them full; a write set has --write members, or all full members: with `--members 0-5 --tail 3-5` 3 of
+all and 1 full member read, 4 of all or the 3 full members write.
+
+--survive picks the quorums in place of --read, --write, --weights and --tail. With a number N, a read set and a write
+set are left whichever N members are lost: N + 1 of M members read, M - N write. With `zone` they are left whichever
+zone is lost, with `zone+1` a read set is left after the loss of one more member: N + 1 read and M - N write for the
+size N of the largest zone, if these survive that; else a part of all zones but one writes, and a part of two zones reads. A
+part of a zone of Z members is Z / 2 + 1 of them for writes, and as many as meet those for reads; with `zone+1` and
+three zones it is the whole zone for writes and one member for reads.
+
+Exit status: 0 where the plan is printed; 1 where it isn't and a line says why, with two disjoint sets where a read set
+needn't meet a write set; 2 for words that can't be used (told on standard error).
+
+Examples: plan_tool new --members 0-5 > plan.json
+          plan_tool new --zones 0,1/2,3/4,5 --survive zone+1 --groups 3 --born 2 > plan.json";
+
+/// The notes of `draw`.
+pub const DRAW: &str = "\
+Prints an SVG picture, which a browser shows: of a plan each group's tree of configurations, each with its members, what
+its expressions ask for and survive, and its claims, in red where they aren't certified. With a script, of its run over
+the plan: a lane for each authority, client and node, a row for each line, messages as arrows with their LSNs, durable
+points in green where they grow, refusals in red. docs/DRAWING.md explains the marks.
+
+A plan needs no certificates to be drawn, but a run's plan must have no fault. A script of more than 2,000 events isn't
+drawn.
+
+Exit status: 0 where the picture is printed; 1 where it isn't and a line says why, as for a plan with a wrong parent, or
+for a fault of a run's plan; 2 where a file can't be read or its text isn't a plan's or a script's (told on standard
+error).
+
+Example: plan_tool draw examples/six_copies.json > plan.svg
+         plan_tool draw examples/six_copies.json examples/recovery.script > run.svg";

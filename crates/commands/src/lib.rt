@@ -2,6 +2,7 @@
 #![tactic(auto)]
 
 mod action;
+mod beginning;
 mod explain_performing;
 mod explaining;
 mod fallible;
@@ -17,6 +18,7 @@ mod names;
 mod options;
 mod outputs;
 mod performing;
+mod pictures;
 mod replacing;
 mod reply;
 mod reporting;

@@ -3,12 +3,13 @@
 ghost use Rattle.std.specs.Prelude.{◌≡◌, ◌≤◌, ◌<◌, ◌^◌, ℕ, IfErr, IfNone, IfOk, IfSome, codes, option_map};
 ghost use Rattle.clap.specs.Words.{first_of, found_of, one_of, rows_of};
 ghost use Rattle.commands.specs.Jobs.{AreOptions, IsGiven, IsNoNumber, IsNumberIn, IsNumberOf, IsNumberOr, is_asked};
-ghost use Rattle.commands.specs.Jobs.{making_name};
+ghost use Rattle.commands.specs.Jobs.{AreWords, making_name};
 ghost use Rattle.commands.specs.declared.action.ReplaceOptions.{ReplaceOptions as Options};
 
 use crate::action::{Making, ReplaceOptions};
 use clap::ArgMatches;
 use fuzzing::{Events, Simulation};
+use plan_edit::PlanRequest;
 
 /// The text of an option isn't a number below 256.
 #[derive(Clone, Copy)]
@@ -131,4 +132,30 @@ pub fn runs_of(matches: &ArgMatches<'_>) -> Making
             steps: is_given(matches, "replace"),
         },
     })
+}
+
+/// Returns the number that an option gives, if it is given.
+fn given_number(matches: &ArgMatches<'_>, id: &str) -> Option<u16> {
+    match matches.try_get_one::<u16>(id) {
+        Ok(number) => number,
+        Err(_) => None,
+    }
+}
+
+/// Returns the words of the new plan that is asked for.
+pub fn request_of<'a>(matches: &ArgMatches<'a>) -> PlanRequest<'a>
+    ensures { AreWords (rows_of (found_of matches.now)) result }
+{
+    PlanRequest {
+        members: text_of(matches, "members"),
+        zones: text_of(matches, "zones"),
+        tail: text_of(matches, "tail"),
+        weights: text_of(matches, "weights"),
+        survive: text_of(matches, "survive"),
+        read: given_number(matches, "read"),
+        write: given_number(matches, "write"),
+        groups: number_or(matches, "groups", 1).unwrap_or(1),
+        born: number_of(matches, "born").unwrap_or(None),
+        lal: count_of(matches, "lal"),
+    }
 }

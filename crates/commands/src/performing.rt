@@ -2,10 +2,12 @@
 
 ghost use Rattle.std.specs.Prelude.{◌≡◌, ◌≢◌, ◌≤◌, ◌<◌, IfErr, IfOk, IsSome, None, false, string_bytes};
 ghost use Rattle.plan.specs.CheckedModel.{checked_model};
-ghost use Rattle.commands.specs.declared.action.Action.TheVariants.{Check, Explain, Fleet, Make, Replace, Run, Search};
+ghost use Rattle.commands.specs.declared.action.Action.TheVariants.{Check, Draw, Explain, Fleet, Make, New, Replace, Run, Search};
 ghost use Rattle.commands.specs.declared.action.Making.{Making as ToMake};
 ghost use Rattle.commands.specs.declared.action.ReplaceOptions.{ReplaceOptions as Options};
 ghost use Rattle.commands.specs.Answers.{AnswersOf, ChecksTo, FleetsTo, RunsTo, file_of, script_name};
+ghost use Rattle.commands.specs.Begins.{BeginsTo};
+ghost use Rattle.commands.specs.Draws.{DrawsRunTo, DrawsTo};
 ghost use Rattle.commands.specs.FaultQuery.{ExplainsJob, HasFile};
 ghost use Rattle.commands.specs.Held.{HoldsCertified, HoldsFault};
 ghost use Rattle.commands.specs.Jobs.{prints_plan};
@@ -19,6 +21,7 @@ ghost use Rattle.commands.specs.Streams.{Ends, FailsByRead, FailsByWrite};
 ghost use Rattle.commands.specs.RunText.{plan_line};
 ghost use Rattle.commands.specs.declared.reply.Stop.TheVariants.{NoMemory};
 
+use crate::beginning::begun;
 use crate::explain_performing::{perform_explain, perform_explain_script};
 use crate::fallible::{FallibleRead, FallibleWrite};
 use crate::files::Source;
@@ -27,13 +30,15 @@ use crate::inputs::checked;
 use crate::leaking::leak;
 use crate::making::make;
 use crate::outputs::{Output, deliver};
+use crate::pictures::{drawn, drawn_script};
 use crate::replacing::replaced;
-use crate::reply::{Edited, Reply, Stop};
+use crate::reply::{Begun, Edited, Reply, Stop};
 use crate::run_text::checked_line;
 use crate::running::{fleet, run};
 use crate::search::search;
 use crate::{Action, Job, Making, ReplaceOptions};
 use plan::CheckedPlan;
+use plan_edit::PlanRequest;
 use std::alloc::Global;
 use std::sync::Wait;
 use std::thread::Threads;
@@ -220,10 +225,106 @@ fn perform_make<P: FallibleRead, O: FallibleWrite, E: FallibleWrite>(
     finish(alloc, &answer, out, err)
 }
 
+/// Makes a plan from words, as [`perform`] does.
+fn perform_new<H: Threads + Wait + Sync, O: FallibleWrite, E: FallibleWrite>(
+    rt: &H,
+    alloc: Global,
+    request: &PlanRequest<'_>,
+    workers: u8,
+    out: &mut Output<O>,
+    err: &mut Output<E>,
+) -> u8
+    requires { (0 < workers) × (workers ≤ 16) }
+    ensures status { result ≤ 2 }
+    ensures quiet { result < 2 → err.new ≡ err.old }
+    ensures ends { Ends O.contents E.contents (BeginsTo request.now) result out.old out.new err.old err.new }
+    ensures out_written { FailsByWrite O.answers out.old out.new }
+    ensures err_written { FailsByWrite E.answers err.old err.new }
+{
+    match begun(rt, alloc, request, workers) {
+        Ok(Begun::Plan(line)) => deliver(0, line.as_slice(), b"", out, err),
+        Ok(Begun::Reason(line)) => deliver(1, line.as_bytes(), b"", out, err),
+        Ok(Begun::Usage(lines)) => deliver(2, b"", lines.as_bytes(), out, err),
+        Err(_) => deliver(2, b"", b"input: 9 NoMemory\n", out, err),
+    }
+}
+
+/// Draws a plan, as [`perform`] does.
+fn perform_draw_plan<P: FallibleRead, O: FallibleWrite, E: FallibleWrite>(
+    alloc: Global,
+    job: &Job<'_>,
+    plan: &mut Source<P>,
+    out: &mut Output<O>,
+    err: &mut Output<E>,
+) -> u8
+    ensures status { result ≤ 2 }
+    ensures quiet { result < 2 → err.new ≡ err.old }
+    ensures ends { Ends O.contents E.contents (AnswersOf (file_of P.remaining job.now.plan.now plan.old plan.new)
+        DrawsTo) result out.old out.new err.old err.new }
+    ensures plan_read { FailsByRead P.answers plan.old plan.new }
+    ensures out_written { FailsByWrite O.answers out.old out.new }
+    ensures err_written { FailsByWrite E.answers err.old err.new }
+{
+    let answer = drawn(alloc, job.plan, plan);
+    finish(alloc, &answer, out, err)
+}
+
+/// Draws a script's run over a plan, as [`perform`] does.
+fn perform_draw_run<P: FallibleRead, S: FallibleRead, O: FallibleWrite, E: FallibleWrite>(
+    alloc: Global,
+    job: &Job<'_>,
+    plan: &mut Source<P>,
+    script: &mut Source<S>,
+    out: &mut Output<O>,
+    err: &mut Output<E>,
+) -> u8
+    ensures status { result ≤ 2 }
+    ensures quiet { result < 2 → err.new ≡ err.old }
+    ensures ends { Ends O.contents E.contents (AnswersOf (file_of P.remaining job.now.plan.now plan.old plan.new)
+        (DrawsRunTo (file_of S.remaining (script_name job.now) script.old script.new))) result out.old out.new err.old
+        err.new }
+    ensures plan_read { FailsByRead P.answers plan.old plan.new }
+    ensures script_read { FailsByRead S.answers script.old script.new }
+    ensures out_written { FailsByWrite O.answers out.old out.new }
+    ensures err_written { FailsByWrite E.answers err.old err.new }
+{
+    let answer = drawn_script(alloc, job, plan, script);
+    finish(alloc, &answer, out, err)
+}
+
+/// Draws a plan, or a script's run over it if the job has a script, as [`perform`] does.
+fn perform_draw<P: FallibleRead, S: FallibleRead, O: FallibleWrite, E: FallibleWrite>(
+    alloc: Global,
+    job: &Job<'_>,
+    plan: &mut Source<P>,
+    script: &mut Source<S>,
+    out: &mut Output<O>,
+    err: &mut Output<E>,
+) -> u8
+    ensures status { result ≤ 2 }
+    ensures quiet { result < 2 → err.new ≡ err.old }
+    ensures draws { job.now.script ≡ None → Ends O.contents E.contents
+        (AnswersOf (file_of P.remaining job.now.plan.now plan.old plan.new) DrawsTo) result out.old out.new err.old
+        err.new }
+    ensures draws_run { IsSome job.now.script → Ends O.contents E.contents
+        (AnswersOf (file_of P.remaining job.now.plan.now plan.old plan.new)
+        (DrawsRunTo (file_of S.remaining (script_name job.now) script.old script.new))) result out.old out.new err.old
+        err.new }
+    ensures plan_read { FailsByRead P.answers plan.old plan.new }
+    ensures script_read { FailsByRead S.answers script.old script.new }
+    ensures out_written { FailsByWrite O.answers out.old out.new }
+    ensures err_written { FailsByWrite E.answers err.old err.new }
+{
+    match job.script {
+        Some(_) => perform_draw_run(alloc, job, plan, script, out, err),
+        None => perform_draw_plan(alloc, job, plan, out, err),
+    }
+}
+
 /// Performs a job on the contents of its files, prints its answer, and returns the exit status: 0 for yes, 1 for a
 /// refusal, 2 for an input that can't be used (printed to `err` alone) or an output that can't be written. Only `run`,
-/// `fleet` and an `explain` with a script read the script; only `fleet`, `search` and `replace` start threads. It may
-/// leak memory to the end of the process.
+/// `fleet` and an `explain` or a `draw` with a script read the script; `new` reads no file; only `fleet`, `search`,
+/// `replace` and `new` start threads. It may leak memory to the end of the process.
 pub fn perform<
     H: Threads + Wait + Sync,
     P: FallibleRead,
@@ -292,6 +393,22 @@ pub fn perform<
         (AnswersOf (file_of P.remaining job.now.plan.now plan.old plan.new) MakesTo) result out.old out.new err.old
         err.new }
 
+    // A new plan: with the status 0, the line of a plan without a fault that has what the words ask for; else a line
+    // that says why there is none.
+    ensures begins { job.now.action ≡ New → Ends O.contents E.contents (BeginsTo job.now.request) result out.old
+        out.new err.old err.new }
+
+    // A drawing prints the line of the text's fault; else a picture of the plan, certified or not, or the line of a
+    // fault of its parents or members. That of a script's run prints the line of the plan's first fault; else the
+    // number of the script's first bad line; else a picture, or a line that says why there is none.
+    ensures draws { job.now.action ≡ Draw → job.now.script ≡ None → Ends O.contents E.contents
+        (AnswersOf (file_of P.remaining job.now.plan.now plan.old plan.new) DrawsTo) result out.old out.new err.old
+        err.new }
+    ensures draws_run { job.now.action ≡ Draw → IsSome job.now.script → Ends O.contents E.contents
+        (AnswersOf (file_of P.remaining job.now.plan.now plan.old plan.new)
+        (DrawsRunTo (file_of S.remaining (script_name job.now) script.old script.new))) result out.old out.new err.old
+        err.new }
+
     // An explanation of a plan's text has the status and the last line of a check, on the same output; as JSON, the
     // status and what a check prints to standard error. One of a number prints the refusal with that number in words.
     ensures explains { job.now.action ≡ Explain → job.now.script ≡ None → Ends O.contents E.contents
@@ -322,5 +439,7 @@ pub fn perform<
         },
         Action::Replace(options) => perform_replace(rt, alloc, job, options, plan, out, err),
         Action::Make(making) => perform_make(alloc, job, making, plan, out, err),
+        Action::New => perform_new(rt, alloc, &job.request, job.workers, out, err),
+        Action::Draw => perform_draw(alloc, job, plan, script, out, err),
     }
 }

@@ -44,6 +44,17 @@ pub enum Edited {
     Reason(String),
 }
 
+/// The answer of `new`.
+#[derive(Drop)]
+pub enum Begun {
+    /// The line of the new plan.
+    Plan(Vec<u8>),
+    /// The line that says why there is none.
+    Reason(String),
+    /// The lines that say why the words can't be used.
+    Usage(String),
+}
+
 /// Why a job ends before its own answer.
 #[derive(Drop)]
 pub enum Stop<'a> {

@@ -7,6 +7,7 @@ ghost use Rattle.commands.specs.CommandLine.{IsLeaf, file_rule, flag_rule, json_
 ghost use Rattle.commands.specs.CommandLine.{file_leaf, fleet_leaf, script_leaf, workers_leaf, workers_rule};
 ghost use Rattle.commands.specs.CommandLine.{configuration_rule, group_rule, member_rule, members_leaf};
 ghost use Rattle.commands.specs.CommandLine.{places_leaf, replace_leaf};
+ghost use Rattle.commands.specs.CommandLine.{bounded_rule, draw_leaf, new_leaf, quorums_leaf, text_rule, words_leaf};
 ghost use Rattle.commands.specs.CommandLine.{count_rule, runs_leaf, simulate_leaf, steps_leaf, target_rule};
 
 use crate::help;
@@ -314,6 +315,166 @@ fn of_simulate<'a>(
     command.arg(flag(alloc, "replace", "Groups step along the plan"))
 }
 
+/// Returns an option with a text.
+fn text<'a>(alloc: Global, id: &'a str, value: &'a str, about: &'a str) -> Arg<'a>
+    ensures rule { rule_of result ≡ text_rule id.entry.now }
+    ensures local { result.global ≡ false }
+{
+    Arg::new(alloc, id)
+        .long(id)
+        .value_name(value)
+        .action(ArgAction::Set)
+        .help(about)
+}
+
+/// Returns a subcommand with the words of a new plan that are texts.
+fn of_words<'a>(
+    alloc: Global,
+    name: &'a str,
+    about: &'a str,
+    notes: &'a str,
+) -> Result<Command<'a>, AllocError>
+    ensures { IfOk result (IsLeaf (words_leaf name.entry.now)) }
+{
+    let command = Command::new(alloc, name).about(about).after_help(notes);
+    let members = text(
+        alloc,
+        "members",
+        "LIST",
+        "The members of each group, such as 0-2,5",
+    );
+    let command = command.arg(members)?;
+    let zones = text(
+        alloc,
+        "zones",
+        "LISTS",
+        "The members by zones in place of --members, such as 0,1/2,3/4,5",
+    );
+    let command = command.arg(zones)?;
+    let tail = text(
+        alloc,
+        "tail",
+        "LIST",
+        "The members that keep the log alone; the quorums are those of full and tail members",
+    );
+    let command = command.arg(tail)?;
+    let weights = text(
+        alloc,
+        "weights",
+        "LIST",
+        "Weights of members, such as 0=2,1=3; the others weigh 1",
+    );
+    let command = command.arg(weights)?;
+    command.arg(text(
+        alloc,
+        "survive",
+        "WHAT",
+        "Pick quorums that survive the loss of any N members, of a zone (zone), or for reads of one more (zone+1)",
+    ))
+}
+
+/// Returns an option with what a read set or a write set needs.
+fn needed<'a>(alloc: Global, id: &'a str, about: &'a str) -> Arg<'a>
+    ensures rule { rule_of result ≡ bounded_rule id.entry.now 1 16320 }
+    ensures local { result.global ≡ false }
+{
+    Arg::new(alloc, id)
+        .long(id)
+        .value_name("N")
+        .help(about)
+        .value_parser(value_parser!(u16).range(1..=16_320))
+}
+
+/// Returns a subcommand with the words of a new plan's quorums.
+fn of_quorums<'a>(
+    alloc: Global,
+    name: &'a str,
+    about: &'a str,
+    notes: &'a str,
+) -> Result<Command<'a>, AllocError>
+    ensures { IfOk result (IsLeaf (quorums_leaf name.entry.now)) }
+{
+    let read = needed(
+        alloc,
+        "read",
+        "How many members read, or their weight; by default as many as meet each write set",
+    );
+    let command = of_words(alloc, name, about, notes)?.arg(read)?;
+    command.arg(needed(
+        alloc,
+        "write",
+        "How many members write, or their weight; by default more than half",
+    ))
+}
+
+/// Returns the option with the number of groups.
+fn groups<'a>(alloc: Global) -> Arg<'a>
+    ensures rule { rule_of result ≡ count_rule (codes "groups") 1 16 (codes "1") }
+    ensures local { result.global ≡ false }
+{
+    Arg::new(alloc, "groups")
+        .long("groups")
+        .value_name("N")
+        .help("How many groups, 1 to 16")
+        .value_parser(value_parser!(u8).range(1..=16))
+        .default_value("1")
+}
+
+/// Returns the option with the number of groups at birth.
+fn born<'a>(alloc: Global) -> Arg<'a>
+    ensures rule { rule_of result ≡ bounded_rule (codes "born") 1 16 }
+    ensures local { result.global ≡ false }
+{
+    Arg::new(alloc, "born")
+        .long("born")
+        .value_name("N")
+        .help(
+            "How many groups exist when the volume is born, the others join later; by default all",
+        )
+        .value_parser(value_parser!(u8).range(1..=16))
+}
+
+/// Returns the option with the LSN allocation limit.
+fn lal<'a>(alloc: Global) -> Arg<'a>
+    ensures rule { rule_of result ≡ count_rule (codes "lal") 1 10000000 (codes "10000000") }
+    ensures local { result.global ≡ false }
+{
+    Arg::new(alloc, "lal")
+        .long("lal")
+        .value_name("N")
+        .help("How far LSNs may run ahead of the durable point, 1 to 10,000,000")
+        .value_parser(value_parser!(u32).range(1..=10_000_000))
+        .default_value("10000000")
+}
+
+/// Returns a subcommand with all words of a new plan.
+fn of_new<'a>(
+    alloc: Global,
+    name: &'a str,
+    about: &'a str,
+    notes: &'a str,
+) -> Result<Command<'a>, AllocError>
+    ensures { IfOk result (IsLeaf (new_leaf name.entry.now)) }
+{
+    let command = of_quorums(alloc, name, about, notes)?.arg(groups(alloc))?;
+    let command = command.arg(born(alloc))?;
+    let command = command.arg(lal(alloc))?;
+    command.arg(workers(alloc, "How many workers search, 1 to 16"))
+}
+
+/// Returns a subcommand of a plan's file, and of a script's if it is named.
+fn of_draw<'a>(
+    alloc: Global,
+    name: &'a str,
+    about: &'a str,
+    notes: &'a str,
+) -> Result<Command<'a>, AllocError>
+    ensures { IfOk result (IsLeaf (draw_leaf name.entry.now)) }
+{
+    let script = other_file(alloc, "script", "A script's file, whose run is drawn");
+    of_file(alloc, name, about, notes)?.arg(script)
+}
+
 fn add<'a>(command: Command<'a>, leaf: Command<'a>) -> Result<Command<'a>, AllocError>
     requires { (fields_of leaf).has_globals ≡ false }
     ensures { IfOk result
@@ -372,5 +533,19 @@ pub fn command_line<'a>(alloc: Global) -> Result<Command<'a>, AllocError>
         "Makes random runs of a plan, and judges what they print",
         help::SIMULATE,
     )?;
-    add(command, simulate)
+    let command = add(command, simulate)?;
+    let new = of_new(
+        alloc,
+        "new",
+        "Writes a plan with certificates from words",
+        help::NEW,
+    )?;
+    let command = add(command, new)?;
+    let draw = of_draw(
+        alloc,
+        "draw",
+        "Draws a plan, or a script's run over it, as SVG",
+        help::DRAW,
+    )?;
+    add(command, draw)
 }

@@ -1,15 +1,15 @@
 //! What a command line asks for.
 
 ghost use Rattle.std.specs.Prelude.{◌≡◌, ◌≢◌, IfErr, IfNone, IfOk, IfSome, codes, map};
-ghost use Rattle.clap.specs.Words.{found_of, rows_of, subcommand_of, subcommand_rows_of};
+ghost use Rattle.clap.specs.Words.{Text, found_of, rows_of, subcommand_of, subcommand_rows_of};
 ghost use Rattle.commands.specs.CommandLine.{tool};
-ghost use Rattle.commands.specs.Jobs.{AreOptions, HasOptions, IsJob, name_of};
+ghost use Rattle.commands.specs.Jobs.{AreOptions, HasOptions, IsJob, NamesPlan, name_of};
 ghost use Rattle.commands.specs.Usage.{IsMissing, IsRefusal, IsRightFor};
 ghost use Rattle.commands.specs.declared.action.Action.{Action as ActionName};
 ghost use Rattle.commands.specs.declared.action.ReplaceOptions.{ReplaceOptions as OptionsName};
 
 use crate::action::{Action, Job};
-use crate::options::{is_given, options_of, runs_of, step_of, text_of, workers_of};
+use crate::options::{is_given, options_of, request_of, runs_of, step_of, text_of, workers_of};
 use crate::subcommands::command_line;
 use crate::usage::Usage;
 use clap::ArgMatches;
@@ -73,10 +73,24 @@ fn action_of(name: &str, matches: &ArgMatches<'_>) -> Option<Action>
         "replace" => replace_of(matches),
         "steps" => Some(Action::Make(step_of(matches))),
         "simulate" => Some(Action::Make(runs_of(matches))),
+        "new" => Some(Action::New),
+        "draw" => Some(Action::Draw),
         _ => None,
     }
 }
 
+/// Returns the name of the plan's file; an empty one for `new`, which takes none.
+fn plan_of<'a>(name: &str, matches: &ArgMatches<'a>) -> Option<&'a str>
+    ensures named { IfSome result (λ plan. NamesPlan name.now (rows_of (found_of matches.now)) plan.now) }
+    ensures none { IfNone result ((plan : Text) → NamesPlan name.now (rows_of (found_of matches.now)) plan → ⊥) }
+{
+    if name == "new" {
+        return Some("");
+    }
+    text_of(matches, "plan")
+}
+
+/// Returns the job that clap found.
 fn job_of<'a>(matches: &ArgMatches<'a>) -> Result<Job<'a>, Usage>
     ensures job { IfOk result (IsJob (subcommand_rows_of matches.now)) }
     ensures refused { IfErr result (IsMissing (subcommand_rows_of matches.now)) }
@@ -87,7 +101,7 @@ fn job_of<'a>(matches: &ArgMatches<'a>) -> Result<Job<'a>, Usage>
     let Some(action) = action_of(name, inner) else {
         return Err(Usage::Missing("no such subcommand"));
     };
-    let Some(plan) = text_of(inner, "plan") else {
+    let Some(plan) = plan_of(name, inner) else {
         return Err(Usage::Missing("no plan"));
     };
     let script = text_of(inner, "script");
@@ -100,5 +114,6 @@ fn job_of<'a>(matches: &ArgMatches<'a>) -> Result<Job<'a>, Usage>
         script,
         workers,
         json: is_given(inner, "json"),
+        request: request_of(inner),
     })
 }

@@ -30,8 +30,8 @@ fn texts<'a>(alloc: Global, words: &'a [String]) -> Result<Vec<&'a str>, AllocEr
     words.iter().map(|word| word.as_str()).collect(alloc)
 }
 
-/// Reads the words of the command line and performs the job. A search, a replacement and a fleet start their threads
-/// with the second handle. A script is opened when it is read, after the plan was checked: opening a named pipe waits
+/// Reads the words of the command line and performs the job. A search, a replacement, a new plan and a fleet start their
+/// threads with the second handle. A script is opened when it is read, after the plan was checked: opening a named pipe waits
 /// for its writer.
 fn run<H: Threads + Wait + Sync>(rt: &HostRuntime, threads: &H) -> u8
     ensures { result ≤ 2 }
@@ -74,7 +74,7 @@ fn run<H: Threads + Wait + Sync>(rt: &HostRuntime, threads: &H) -> u8
             )
         }
         Ok(job) => {
-            let mut plan = opened(rt, Some(job.plan));
+            let mut plan = opened(rt, job.plan_file());
             let mut script = opened_late(rt, job.script);
             perform(
                 threads,

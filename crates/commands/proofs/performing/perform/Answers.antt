@@ -26,3 +26,9 @@ returns-in-Replace-clause-replaces g c = λ o is.
 
 pub returns-in-Make-clause-makes : goal.returns-in-Make-clause-makes
 returns-in-Make-clause-makes g c = λ making is. c.perform_make.ensures.ends
+
+pub returns-in-New-clause-yes : goal.returns-in-New-clause-yes
+returns-in-New-clause-yes g c = λ other has zero. let bad : true ≡ false = sym (ap prints_plan c.in-New.is) ∙ other in absurd cc
+
+pub returns-in-Draw-clause-yes : goal.returns-in-Draw-clause-yes
+returns-in-Draw-clause-yes g c = λ other has zero. let bad : true ≡ false = sym (ap prints_plan c.in-Draw.is) ∙ other in absurd cc

@@ -13,4 +13,6 @@ returns c =
     let five = c.in_ok-command-5.ensures ∙ ap₂ with_subcommand four (ap top c.in_ok-explain.ensures.app) in
     let six = c.in_ok-command-6.ensures ∙ ap₂ with_subcommand five (ap top c.in_ok-replace.ensures.app) in
     let seven = c.in_ok-command-7.ensures ∙ ap₂ with_subcommand six (ap top c.in_ok-steps.ensures.app) in
-    IfOk-weaker c.add-8.result _ _ (λ r h. h ∙ ap₂ with_subcommand seven (ap top c.in_ok-simulate.ensures.app)) c.add-8.ensures
+    let eight = c.in_ok-command-8.ensures ∙ ap₂ with_subcommand seven (ap top c.in_ok-simulate.ensures.app) in
+    let nine = c.in_ok-command-9.ensures ∙ ap₂ with_subcommand eight (ap top c.in_ok-new.ensures.app) in
+    IfOk-weaker c.add-10.result _ _ (λ r h. h ∙ ap₂ with_subcommand nine (ap top c.in_ok-draw.ensures.app)) c.add-10.ensures

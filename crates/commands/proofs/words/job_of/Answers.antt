@@ -1,4 +1,3 @@
-use Rattle.std.proofs.Common.{sym}
 use Rattle.clap.specs.Words.{found_of, rows_of}
 use Rattle.clap.specs.declared.parser.matches.ArgMatches.TheViews.{out-ArgMatches}
 use Rattle.commands.proofs.Entered.{is_entered}
@@ -10,9 +9,10 @@ returns-clause-job c =
     record {
       rows = rows;
       entered = rw (← c.in-Some-action_of.ensures.named) (is_entered (out-ArgMatches c.args.matches.now).subcommand c.in-Some.name.now rows c.in-Some.ensures.name c.in-Some.ensures.rows);
-      plan = sym c.in-Some-text_of.ensures;
+      plan = rw (← c.in-Some-action_of.ensures.named) c.in-Some-plan_of.ensures.named;
       script = c.text_of-script.ensures;
       workers = c.in-Some-workers_of.ensures.number;
       json = c.is_given.ensures;
       options = c.in-Some-action_of.ensures.options;
+      request = c.request_of.ensures;
     }

@@ -1,0 +1,5 @@
+use Rattle.commands.proofs.Edits.{any_fault}
+use Rattle.commands.proofs.pictures.drawn_plan.Goals as goal
+
+pub returns-in-Err-clause-stop : goal.returns-in-Err-clause-stop
+returns-in-Err-clause-stop c = any_fault _ c.of_plan.result c.of_plan.ensures.reported

@@ -1,0 +1,103 @@
+//! Pictures of a plan and of a script's run over it: `draw`.
+
+ghost use Rattle.std.specs.Prelude.{◌≡◌, ◌≤◌, IfErr, IfOk};
+ghost use Rattle.commands.specs.Answers.{AnswersOf, file_of, script_name};
+ghost use Rattle.commands.specs.Draws.{DrawsRunTo, DrawsTo, SaysPicture};
+ghost use Rattle.commands.specs.Stops.{StopsBy, answer_of};
+ghost use Rattle.commands.specs.Streams.{FailsByRead};
+ghost use Rattle.commands.specs.declared.reply.Stop.TheVariants.{NoMemory};
+
+use crate::Job;
+use crate::fallible::FallibleRead;
+use crate::files::Source;
+use crate::inputs::{PlanAndScript, contents, plan_and_script, plan_in};
+use crate::reply::{Reply, Stop};
+use drawing::{MOST_ROWS, draw_plan, draw_run};
+use drivers::{Script, Step};
+use plan::Plan;
+use std::alloc::{AllocError, Global};
+use volume_model::Fault;
+
+/// Returns the picture of a plan.
+fn drawn_plan(alloc: Global, plan: &Plan) -> Result<Reply, Stop<'static>>
+    ensures status { IfOk result (λ reply. reply.status ≡ 0) }
+    ensures stop { IfErr result (StopsBy (λ _. Unit {0})) }
+{
+    match draw_plan(alloc, plan) {
+        Ok(text) => Ok(Reply { status: 0, text }),
+        Err(fault) => Err(Stop::of_plan(fault)),
+    }
+}
+
+/// Returns the picture of a text's plan.
+fn drawn_text(alloc: Global, text: &[u8]) -> Result<Reply, Stop<'static>>
+    ensures { SaysPicture text.now (answer_of result) }
+{
+    match plan_in(alloc, text) {
+        Ok(plan) => drawn_plan(alloc, &plan),
+        Err(stop) => Err(stop),
+    }
+}
+
+/// Returns the answer of `draw` to a plan's file.
+pub fn drawn<'a, P: FallibleRead>(
+    alloc: Global,
+    name: &'a str,
+    plan: &mut Source<P>,
+) -> Result<Reply, Stop<'a>>
+    ensures answers { AnswersOf (file_of P.remaining name.entry.now plan.old plan.new) DrawsTo (answer_of result) }
+    ensures reason { FailsByRead P.answers plan.old plan.new }
+{
+    let text = contents(alloc, name, plan)?;
+    drawn_text(alloc, text.as_slice())
+}
+
+/// Returns the numbers of the lines that have an event.
+fn event_lines(alloc: Global, steps: &[Step]) -> Result<Vec<u32>, AllocError> {
+    let mut lines = Vec::new(alloc);
+    for step in steps {
+        if step.has_event {
+            lines.push(step.line)?;
+        }
+    }
+    Ok(lines)
+}
+
+/// Returns the picture of a script's run over a plan, or a line that says why there is none.
+fn drawn_run(alloc: Global, both: PlanAndScript) -> Result<Reply, Stop<'static>>
+    ensures status { IfOk result (λ reply. reply.status ≤ 1) }
+    ensures stop { IfErr result (λ stop. stop ≡ NoMemory) }
+{
+    let PlanAndScript { plan, script } = both;
+    let Script { steps, orders } = script;
+    let lines = event_lines(alloc, steps.as_slice())?;
+    match draw_run(alloc, &plan, lines.as_slice(), orders.as_slice()) {
+        Ok(text) => Ok(Reply { status: 0, text }),
+        Err(Fault::NoMemory) => Err(Stop::NoMemory),
+        Err(_) => {
+            let count = orders.len();
+            let text = format!(in alloc;
+                "no: the script has {count} events, and at most {MOST_ROWS} are drawn\n"
+            )?;
+            Ok(Reply { status: 1, text })
+        }
+    }
+}
+
+/// Returns the answer of `draw` to the files of a plan and a script.
+pub fn drawn_script<'a, P: FallibleRead, S: FallibleRead>(
+    alloc: Global,
+    job: &Job<'a>,
+    plan: &mut Source<P>,
+    script: &mut Source<S>,
+) -> Result<Reply, Stop<'a>>
+    ensures answers { AnswersOf (file_of P.remaining job.now.plan.now plan.old plan.new)
+        (DrawsRunTo (file_of S.remaining (script_name job.now) script.old script.new)) (answer_of result) }
+    ensures plan_read { FailsByRead P.answers plan.old plan.new }
+    ensures script_read { FailsByRead S.answers script.old script.new }
+{
+    match plan_and_script(alloc, job, plan, script) {
+        Ok(both) => drawn_run(alloc, both),
+        Err(stop) => Err(stop),
+    }
+}
