@@ -67,9 +67,9 @@ def printed(program, words, members):
         if "are disjoint" not in made.stdout + made.stderr:
             sys.exit(f"new_plans: {words}: {made.stdout}{made.stderr}")
         return None
-    checked = subprocess.run([program, "check", "-"], input=made.stdout, text=True, capture_output=True)
+    checked = subprocess.run([program, "explain", "-"], input=made.stdout, text=True, capture_output=True)
     if checked.returncode:
-        sys.exit(f"new_plans: {words}: {checked.stdout}")
+        sys.exit(f"new_plans: {words}: {checked.stdout}{checked.stderr}")
     root = json.loads(made.stdout)["groups"][0]["configurations"][0]
     if root["members"] != members:
         sys.exit(f"new_plans: {words}: other members")

@@ -7,7 +7,7 @@ that is as large as a plan may be.
 Each picture is read as XML. The numbers of its cards, of their members (full, tail and fresh) and of its rows are
 compared with those of the plan and the script, which this program counts itself. With `--browser` headless Chromium
 measures each text: none may leave its card or the picture, and no two cards or lines of a card may overlap. `--keep`
-writes the pictures there. The program that draws takes some minutes to build, unless `--program` names it.
+writes the pictures there.
 """
 import argparse
 import json
@@ -19,87 +19,8 @@ import tempfile
 import xml.etree.ElementTree as tree
 
 import families
-from building import TOP, tried
 
-CRATES = ["volume_model", "plan", "explain", "world", "drivers", "drawing"]
-
-PROGRAM = r"""//! Draws a plan, or a script's run over it.
-#![tactic(auto)]
-
-use drawing::{draw_plan, draw_run};
-use drivers::read_script;
-use plan::{CheckedPlan, check_plan, read_plan};
-use std::alloc::{AllocError, Global};
-use std::fs::read;
-use std::process::ExitCode;
-use std::rt::{Env, Files};
-use std::sync::Arc;
-use std::{env, io};
-
-/// Returns the picture of a plan.
-fn plan_picture(alloc: Global, text: &[u8]) -> Result<String, AllocError> {
-    match read_plan(alloc, text) {
-        Ok(plan) => match draw_plan(alloc, &plan) {
-            Ok(svg) => Ok(svg),
-            Err(fault) => format!(in alloc; "{fault}"),
-        },
-        Err(fault) => format!(in alloc; "{fault}"),
-    }
-}
-
-/// Returns the picture of a script's run over a plan.
-fn run_picture(alloc: Global, plan: CheckedPlan, text: &[u8]) -> Result<String, AllocError> {
-    let plan = Arc::new(alloc, plan)?;
-    let Ok(script) = read_script(alloc, text) else {
-        return format!(in alloc; "bad script");
-    };
-    let mut lines = Vec::new(alloc);
-    for step in &script.steps {
-        if step.has_event {
-            lines.push(step.line)?;
-        }
-    }
-    match draw_run(alloc, &plan, lines.as_slice(), script.orders.as_slice()) {
-        Ok(svg) => Ok(svg),
-        Err(fault) => format!(in alloc; "{fault}"),
-    }
-}
-
-/// Returns the picture of a script's run over the plan of a text.
-fn checked_picture(alloc: Global, plan: &[u8], text: &[u8]) -> Result<String, AllocError> {
-    match read_plan(alloc, plan) {
-        Ok(plan) => match check_plan(alloc, plan) {
-            Ok(plan) => run_picture(alloc, plan, text),
-            Err((fault, _)) => format!(in alloc; "{fault}"),
-        },
-        Err(fault) => format!(in alloc; "{fault}"),
-    }
-}
-
-fn run<R: Print + Files + Env>(rt: &R, alloc: Global) -> io::Result<()> {
-    let words: Vec<String> = env::args(&(rt, alloc))?.collect(alloc)?;
-    let Some(plan) = words.get(1) else {
-        return Ok(());
-    };
-    let plan = read(&(rt, alloc), plan.as_str())?;
-    let svg = match words.get(2) {
-        None => plan_picture(alloc, plan.as_slice())?,
-        Some(script) => {
-            let script = read(&(rt, alloc), script.as_str())?;
-            checked_picture(alloc, plan.as_slice(), script.as_slice())?
-        }
-    };
-    print!(rt; "{svg}")
-}
-
-fn main(rt: HostRuntime) -> ExitCode {
-    match run(&rt, rt.alloc()) {
-        Ok(()) => ExitCode::from(0),
-        Err(_) => ExitCode::from(1),
-    }
-}
-"""
-
+TOP = pathlib.Path(__file__).resolve().parent.parent
 SVG = "{http://www.w3.org/2000/svg}"
 EXAMPLES = TOP / "examples"
 SCRIPTS = {
@@ -241,7 +162,7 @@ def check_drawing(asked, program, folder, drawing):
     name, plan, script = drawing
     file = folder / "plan.json"
     file.write_text(json.dumps(plan))
-    words = [str(program), str(file), *([str(script)] if script else [])]
+    words = [str(program), "draw", str(file), *([str(script)] if script else [])]
     svg = subprocess.run(words, check=True, capture_output=True, text=True).stdout
     assert svg.startswith("<svg"), f"{name}: {svg[:100]}"
     if script:
@@ -259,15 +180,13 @@ def main():
     parser = argparse.ArgumentParser()
     parser.add_argument("--browser", action="store_true")
     parser.add_argument("--keep", type=pathlib.Path)
-    parser.add_argument("--program", type=pathlib.Path)
+    parser.add_argument("--program", type=pathlib.Path, default=TOP / "crates/plan_tool/out/plan_tool")
     asked = parser.parse_args()
     if asked.keep:
         asked.keep.mkdir(parents=True, exist_ok=True)
     with tempfile.TemporaryDirectory() as room:
         folder = pathlib.Path(room)
-        words = [str(EXAMPLES / "five_members.json")]
-        program = asked.program or tried(folder, "picture_tool", PROGRAM, CRATES, words)
-        sizes = [check_drawing(asked, program, folder, drawing) for drawing in drawings(folder)]
+        sizes = [check_drawing(asked, asked.program, folder, drawing) for drawing in drawings(folder)]
     print(f"{len(sizes)} pictures, the largest of {max(sizes)} bytes, all as their plans and scripts")
 
 
