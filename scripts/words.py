@@ -22,7 +22,7 @@ NAMES = {
     "conclude": "commit_or_note", "leave": "leak", "Reach": "StealHandle", "Turn": "Assignment",
 }
 # (crate, word): the word means something else in this crate.
-OTHER = {("volume_model", "Lasts"), ("explain", "leave")}
+OTHER = {("volume_model", "Lasts"), ("explain", "leave"), ("plan_edit", "leave")}
 PHRASES = [
     r"want of memory", r"short way", r"(?:is|are|was|were) told", r"tells", r"who(?:ever)? waits", r"stands apart", r"by itself", r"but for",
     r"what it came to", r"poised", r"deeds?", r"woken", r"a way of its own",
