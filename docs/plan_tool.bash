@@ -3,7 +3,7 @@
 _plan_tool() {
     local word=${COMP_WORDS[COMP_CWORD]} command=${COMP_WORDS[1]} options=
     if [ "$COMP_CWORD" -eq 1 ]; then
-        COMPREPLY=($(compgen -W "check run fleet search explain replace steps simulate help --help --version" -- "$word"))
+        COMPREPLY=($(compgen -W "check run fleet search explain replace steps simulate new draw help --help --version" -- "$word"))
         return
     fi
     case $command in
@@ -15,7 +15,9 @@ _plan_tool() {
     replace) options="-w --workers --out --in -g --group -c --configuration --tail --direct -h --help" ;;
     steps) options="-g --group -c --configuration -h --help" ;;
     simulate) options="--seed --runs --crash --replace -h --help" ;;
-    help) options="check run fleet search explain replace steps simulate" ;;
+    new) options="--members --zones --tail --weights --survive --read --write --groups --born --lal -w --workers -h --help" ;;
+    draw) options="-h --help" ;;
+    help) options="check run fleet search explain replace steps simulate new draw" ;;
     esac
     case $word in
     -*) COMPREPLY=($(compgen -W "$options" -- "$word")) ;;
