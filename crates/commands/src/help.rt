@@ -128,9 +128,9 @@ all and 1 full member read, 4 of all or the 3 full members write.
 --survive picks the quorums in place of --read, --write, --weights and --tail. With a number N, a read set and a write
 set are left whichever N members are lost: N + 1 of M members read, M - N write. With `zone` they are left whichever
 zone is lost, with `zone+1` a read set is left after the loss of one more member: N + 1 read and M - N write for the
-size N of the largest zone, if these survive that; else a part of all zones but one writes, and a part of two zones reads. A
-part of a zone of Z members is Z / 2 + 1 of them for writes, and as many as meet those for reads; with `zone+1` and
-three zones it is the whole zone for writes and one member for reads.
+size N of the largest zone, if these survive that; else a part of all zones but one writes, and a part of two zones
+reads. A part of a zone of Z members is Z / 2 + 1 of them for writes, and as many as meet those for reads; with `zone+1`
+and three zones it is the whole zone for writes and one member for reads.
 
 Exit status: 0 where the plan is printed; 1 where it isn't and a line says why, with two disjoint sets where a read set
 needn't meet a write set; 2 for words that can't be used (told on standard error).

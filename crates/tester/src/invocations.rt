@@ -4,31 +4,46 @@ ghost use Rattle.std.specs.Prelude.{◌≤◌};
 
 use commands::{Action, Job, Output, Source, perform};
 use fuzzing::CommandOutput;
+use plan_edit::PlanRequest;
 use std::alloc::{AllocError, Global};
 use std::io;
 use std::sync::Wait;
 use std::thread::Threads;
 
+/// Returns the job of an action over a plan, and over a script if there is one.
+fn over_files(action: Action, script: Option<&'static str>, workers: u8) -> Job<'static>
+    requires some { 1 ≤ workers }
+    requires few { workers ≤ 16 }
+{
+    Job {
+        action,
+        plan: "plan",
+        script,
+        workers,
+        json: false,
+        request: PlanRequest {
+            members: None,
+            zones: None,
+            tail: None,
+            weights: None,
+            survive: None,
+            read: None,
+            write: None,
+            groups: 1,
+            born: None,
+            lal: 1,
+        },
+    }
+}
+
 /// Returns the job of a check.
 pub fn check() -> Job<'static> {
-    Job {
-        action: Action::Check,
-        plan: "plan",
-        script: None,
-        workers: 1,
-        json: false,
-    }
+    over_files(Action::Check, None, 1)
 }
 
 /// Returns the job of a run.
 pub fn run() -> Job<'static> {
-    Job {
-        action: Action::Run,
-        plan: "plan",
-        script: Some("script"),
-        workers: 1,
-        json: false,
-    }
+    over_files(Action::Run, Some("script"), 1)
 }
 
 /// Returns the job of a fleet with this many drivers.
@@ -36,13 +51,7 @@ pub fn fleet(workers: u8) -> Job<'static>
     requires some { 1 ≤ workers }
     requires few { workers ≤ 16 }
 {
-    Job {
-        action: Action::Fleet,
-        plan: "plan",
-        script: Some("script"),
-        workers,
-        json: false,
-    }
+    over_files(Action::Fleet, Some("script"), workers)
 }
 
 /// Runs a job over a plan's text, which may be one that can't be read, and a script.
