@@ -245,7 +245,7 @@ fn perform_new<H: Threads + Wait + Sync, O: FallibleWrite, E: FallibleWrite>(
         Ok(Begun::Plan(line)) => deliver(0, line.as_slice(), b"", out, err),
         Ok(Begun::Reason(line)) => deliver(1, line.as_bytes(), b"", out, err),
         Ok(Begun::Usage(lines)) => deliver(2, b"", lines.as_bytes(), out, err),
-        Err(_) => deliver(2, b"", b"input: 9 NoMemory\n", out, err),
+        Err(_) => refuse(alloc, &Stop::NoMemory, out, err),
     }
 }
 
