@@ -27,4 +27,4 @@ returns-in-Ok-Usage-clause-ends g c =
 pub returns-in-Err-clause-ends : goal.returns-in-Err-clause-ends
 returns-in-Err-clause-ends g c =
     ends_by g.O.Write.contents g.E.Write.contents (IsSaid (stop_answer NoMemory)) (BeginsTo c.args.request.now) c.refuse.result c.args.out.now c.refuse.new.out c.args.err.now c.refuse.new.err
-    (λ a said. elim said [ | inl e ↦ unusable (codes "input: 9 NoMemory\n") e | inr e ↦ unusable (codes "input: 9 NoMemory\n") e ]) c.refuse.ensures.ends
+    (λ a said. elim said [ inl e ↦ unusable (codes "input: 9 NoMemory\n") e | inr e ↦ unusable (codes "input: 9 NoMemory\n") e ]) c.refuse.ensures.ends
