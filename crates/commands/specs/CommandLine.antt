@@ -123,22 +123,32 @@ bounded_rule id least most = record (new_rule id) {
   parser = Some (parsers.Signed (pos least) (pos most));
 }
 
--- the words of a new plan that are texts: its members, and what they survive
+-- the members of a new plan
+abbrev pub zones_leaf : Text → App
+zones_leaf name = with_rule (with_rule (new_app name) (text_rule (codes "members"))) (text_rule (codes "zones"))
+
+-- the same, and their kinds and weights
+abbrev pub weights_leaf : Text → App
+weights_leaf name = with_rule (with_rule (zones_leaf name) (text_rule (codes "tail"))) (text_rule (codes "weights"))
+
+-- the same, and what they survive
 abbrev pub words_leaf : Text → App
-words_leaf name = with_rule (with_rule (with_rule (with_rule (with_rule (new_app name)
-    (text_rule (codes "members"))) (text_rule (codes "zones"))) (text_rule (codes "tail")))
-    (text_rule (codes "weights"))) (text_rule (codes "survive"))
+words_leaf name = with_rule (weights_leaf name) (text_rule (codes "survive"))
 
 -- the same, and what read sets and write sets need
 abbrev pub quorums_leaf : Text → App
 quorums_leaf name = with_rule (with_rule (words_leaf name) (bounded_rule (codes "read") 1 16320))
     (bounded_rule (codes "write") 1 16320)
 
+-- the same, and the numbers of groups
+abbrev pub groups_leaf : Text → App
+groups_leaf name = with_rule (with_rule (quorums_leaf name) (count_rule (codes "groups") 1 16 (codes "1")))
+    (bounded_rule (codes "born") 1 16)
+
 -- all options of a new plan
 abbrev pub new_leaf : Text → App
-new_leaf name = with_rule (with_rule (with_rule (with_rule (quorums_leaf name)
-    (count_rule (codes "groups") 1 16 (codes "1"))) (bounded_rule (codes "born") 1 16))
-    (count_rule (codes "lal") 1 10000000 (codes "10000000"))) workers_rule
+new_leaf name = with_rule (with_rule (groups_leaf name) (count_rule (codes "lal") 1 10000000 (codes "10000000")))
+    workers_rule
 
 -- a subcommand of a plan's file, and of a script's if it is named
 abbrev pub draw_leaf : Text → App

@@ -412,7 +412,10 @@ fn events_to_loss(
     group: u8,
 ) -> Result<usize, AllocError> {
     let (mut kept, mut lost) = (0usize, events.len());
-    while lost.saturating_sub(kept) > 1 {
+    for _ in 0..usize::BITS {
+        if lost.saturating_sub(kept) <= 1 {
+            break;
+        }
         let half = kept.saturating_add(lost.saturating_sub(kept) / 2);
         let (first, _) = events.split_at(half.min(events.len()));
         if StepReplay::after(alloc, plan, first)?.has_lost(group) {

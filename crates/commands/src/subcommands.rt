@@ -7,7 +7,8 @@ ghost use Rattle.commands.specs.CommandLine.{IsLeaf, file_rule, flag_rule, json_
 ghost use Rattle.commands.specs.CommandLine.{file_leaf, fleet_leaf, script_leaf, workers_leaf, workers_rule};
 ghost use Rattle.commands.specs.CommandLine.{configuration_rule, group_rule, member_rule, members_leaf};
 ghost use Rattle.commands.specs.CommandLine.{places_leaf, replace_leaf};
-ghost use Rattle.commands.specs.CommandLine.{bounded_rule, draw_leaf, new_leaf, quorums_leaf, text_rule, words_leaf};
+ghost use Rattle.commands.specs.CommandLine.{bounded_rule, draw_leaf, groups_leaf, new_leaf, quorums_leaf};
+ghost use Rattle.commands.specs.CommandLine.{text_rule, weights_leaf, words_leaf, zones_leaf};
 ghost use Rattle.commands.specs.CommandLine.{count_rule, runs_leaf, simulate_leaf, steps_leaf, target_rule};
 
 use crate::help;
@@ -327,6 +328,55 @@ fn text<'a>(alloc: Global, id: &'a str, value: &'a str, about: &'a str) -> Arg<'
         .help(about)
 }
 
+/// Returns a subcommand with the members of a new plan.
+fn of_zones<'a>(
+    alloc: Global,
+    name: &'a str,
+    about: &'a str,
+    notes: &'a str,
+) -> Result<Command<'a>, AllocError>
+    ensures { IfOk result (IsLeaf (zones_leaf name.entry.now)) }
+{
+    let members = text(
+        alloc,
+        "members",
+        "LIST",
+        "The members of each group, such as 0-2,5",
+    );
+    let command = Command::new(alloc, name).about(about).after_help(notes);
+    let command = command.arg(members)?;
+    command.arg(text(
+        alloc,
+        "zones",
+        "LISTS",
+        "The members by zones in place of --members, such as 0,1/2,3/4,5",
+    ))
+}
+
+/// Returns such a subcommand with the kinds and weights of the members.
+fn of_weights<'a>(
+    alloc: Global,
+    name: &'a str,
+    about: &'a str,
+    notes: &'a str,
+) -> Result<Command<'a>, AllocError>
+    ensures { IfOk result (IsLeaf (weights_leaf name.entry.now)) }
+{
+    let tail = text(
+        alloc,
+        "tail",
+        "LIST",
+        "The members that keep the log alone; the quorums are those of full and tail members",
+    );
+    let command = of_zones(alloc, name, about, notes)?.arg(tail)?;
+    command.arg(text(
+        alloc,
+        "weights",
+        "LIST",
+        "Weights of members, such as 0=2,1=3; the others weigh 1",
+    ))
+}
+
 /// Returns a subcommand with the words of a new plan that are texts.
 fn of_words<'a>(
     alloc: Global,
@@ -336,41 +386,13 @@ fn of_words<'a>(
 ) -> Result<Command<'a>, AllocError>
     ensures { IfOk result (IsLeaf (words_leaf name.entry.now)) }
 {
-    let command = Command::new(alloc, name).about(about).after_help(notes);
-    let members = text(
-        alloc,
-        "members",
-        "LIST",
-        "The members of each group, such as 0-2,5",
-    );
-    let command = command.arg(members)?;
-    let zones = text(
-        alloc,
-        "zones",
-        "LISTS",
-        "The members by zones in place of --members, such as 0,1/2,3/4,5",
-    );
-    let command = command.arg(zones)?;
-    let tail = text(
-        alloc,
-        "tail",
-        "LIST",
-        "The members that keep the log alone; the quorums are those of full and tail members",
-    );
-    let command = command.arg(tail)?;
-    let weights = text(
-        alloc,
-        "weights",
-        "LIST",
-        "Weights of members, such as 0=2,1=3; the others weigh 1",
-    );
-    let command = command.arg(weights)?;
-    command.arg(text(
+    let survive = text(
         alloc,
         "survive",
         "WHAT",
         "Pick quorums that survive the loss of any N members, of a zone (zone), or for reads of one more (zone+1)",
-    ))
+    );
+    of_weights(alloc, name, about, notes)?.arg(survive)
 }
 
 /// Returns an option with what a read set or a write set needs.
@@ -447,6 +469,19 @@ fn lal<'a>(alloc: Global) -> Arg<'a>
         .default_value("10000000")
 }
 
+/// Returns a subcommand with the words of a new plan's quorums and groups.
+fn of_groups<'a>(
+    alloc: Global,
+    name: &'a str,
+    about: &'a str,
+    notes: &'a str,
+) -> Result<Command<'a>, AllocError>
+    ensures { IfOk result (IsLeaf (groups_leaf name.entry.now)) }
+{
+    let command = of_quorums(alloc, name, about, notes)?.arg(groups(alloc))?;
+    command.arg(born(alloc))
+}
+
 /// Returns a subcommand with all words of a new plan.
 fn of_new<'a>(
     alloc: Global,
@@ -456,9 +491,7 @@ fn of_new<'a>(
 ) -> Result<Command<'a>, AllocError>
     ensures { IfOk result (IsLeaf (new_leaf name.entry.now)) }
 {
-    let command = of_quorums(alloc, name, about, notes)?.arg(groups(alloc))?;
-    let command = command.arg(born(alloc))?;
-    let command = command.arg(lal(alloc))?;
+    let command = of_groups(alloc, name, about, notes)?.arg(lal(alloc))?;
     command.arg(workers(alloc, "How many workers search, 1 to 16"))
 }
 

@@ -31,8 +31,8 @@ fn texts<'a>(alloc: Global, words: &'a [String]) -> Result<Vec<&'a str>, AllocEr
 }
 
 /// Reads the words of the command line and performs the job. A search, a replacement, a new plan and a fleet start their
-/// threads with the second handle. A script is opened when it is read, after the plan was checked: opening a named pipe waits
-/// for its writer.
+/// threads with the second handle. A script is opened when it is read, after the plan was checked: opening a named pipe
+/// waits for its writer.
 fn run<H: Threads + Wait + Sync>(rt: &HostRuntime, threads: &H) -> u8
     ensures { result ≤ 2 }
 {
