@@ -78,10 +78,11 @@ fn comes_next(set: &RecordSet, packet: &SharedRecord) -> bool
     ensures is { result ≡ is_next (sets.records_of set.now) (shared_redo packet.now) }
     ensures in_order { IsTrue result → IsInOrder (sets.records_of set.now ++ shared_redo packet.now ∷ []) }
 {
-    match set.last() {
-        Some(last) => last.is_before(packet),
-        None => true,
+    let packets = set.as_slice();
+    if packets.is_empty() {
+        return true;
     }
+    packets[packets.len() - 1].is_before(packet)
 }
 
 /// Returns a set with one more record, or `BadField` if the record doesn't come after the last one.
@@ -91,7 +92,7 @@ fn pushed(mut set: RecordSet, packet: SharedRecord) -> Result<RecordSet, Fault>
     if !comes_next(&set, &packet) {
         return Err(Fault::BadField);
     }
-    set.push(packet)?;
+    set.extend_from_slice(&[packet])?;
     Ok(set)
 }
 
@@ -106,7 +107,6 @@ fn read_records(alloc: Global, count: u32, bytes: &[u8]) -> Result<(RecordSet, &
         set = pushed(set, packet)?;
         rest = after;
     }
-    set.share()?;
     Ok((set, rest))
 }
 

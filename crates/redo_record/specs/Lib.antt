@@ -2,12 +2,8 @@ pub mod Payload
 pub mod Record
 pub mod SharedRecord
 pub mod Packet
-pub mod SharedList
-pub mod Run
-pub mod Joined
-pub mod Partition
-pub mod RunPlaces
-pub mod Records
+pub mod SharedRecords
+pub mod RecordRange
 pub mod Ranges
 pub mod Head
 pub mod Spelling

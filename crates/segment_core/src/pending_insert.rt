@@ -1,7 +1,8 @@
 //! Records that are prepared to be added.
 
 use crate::chains::Chains;
-use redo_record::{RunPlace, SharedRecord};
+use crate::run_place::RunPlace;
+use redo_record::SharedRecord;
 
 /// The effect of a new record on the chains.
 #[derive(Drop)]

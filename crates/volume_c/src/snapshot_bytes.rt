@@ -89,10 +89,11 @@ impl SnapshotBytes {
         ensures back { drop result out.new ≡ drop result out.old }
         ensures within { result ≤ length out.old }
     {
-        if self.taken < self.head.len() {
+        let packets = self.contents.records.as_slice();
+        if self.taken < self.head.len() || self.next > packets.len() {
             return 0;
         }
-        let left = self.contents.records.records_from(self.next);
+        let (_, left) = packets.split_at(self.next);
         let (records, bytes) = write_records(out, left);
         self.next += records;
         bytes

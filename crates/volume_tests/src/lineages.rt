@@ -135,11 +135,7 @@ const LIVE_RECORDS: &[Live] = &[
 
 /// Returns whether a set has exactly these records.
 fn is_set(records: &RecordSet, numbers: &[(u32, u64)]) -> bool {
-    let mut left = records.records();
-    for (volume_epoch, lsn) in numbers {
-        let Some(packet) = left.next() else {
-            return false;
-        };
+    for (packet, (volume_epoch, lsn)) in records.as_slice().iter().zip(numbers) {
         if packet.volume_epoch() != *volume_epoch || packet.lsn() != *lsn {
             return false;
         }

@@ -39,13 +39,11 @@ fn of_group(alloc: Global, group: u8, log: &RecordSet) -> Result<RecordSet, Allo
         return log.clone();
     }
     let mut set = RecordSet::new(alloc);
-    let mut left = log.records();
-    while let Some(packet) = left.next() {
+    for packet in log.as_slice() {
         if packet.group() == group {
             set.insert(packet.clone()?)?;
         }
     }
-    set.share()?;
     Ok(set)
 }
 
