@@ -79,8 +79,8 @@ fn list_of(alloc: Global, members: MemberSet) -> Result<Vec<u8>, Fault>
     Ok(list)
 }
 
-/// Returns the weight of a member.
-fn weight_of(weights: &[u8], member: u8) -> u8
+/// Returns the weight of a member, 1 if none is given.
+pub(crate) fn weight_of(weights: &[u8], member: u8) -> u8
     ensures { result ≡ get_or weights.now member 1 }
 {
     match weights.get(usize::from(member)) {

@@ -1,19 +1,12 @@
 //! Writes a new plan. What is read from the text is compared with what was asked for.
 
+use crate::new_checking::weight_of;
 use crate::new_refusal::NewRefusal;
 use crate::picking::{Counts, apart_after_losses, check_zones, counts_for, largest, part_of};
 use crate::plan_words::{PlanWords, Quorums};
 use crate::text::{add_comma, add_members};
 use quorum_expr::{MEMBERS, MemberSet};
 use std::alloc::{AllocError, Global};
-
-/// Returns the weight of a member.
-fn weight_of(weights: &[u8], member: u8) -> u8 {
-    match weights.get(usize::from(member)) {
-        Some(weight) => *weight,
-        None => 1,
-    }
-}
 
 /// Returns whether a member has another weight than 1.
 fn is_weighted(members: MemberSet, weights: &[u8]) -> bool {
