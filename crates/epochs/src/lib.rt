@@ -4,7 +4,5 @@
 mod authority;
 mod snapshot;
 
-pub use authority::{
-    Authority, Readiness, early_steps_lose, readable_volumes_recover, waiting_keeps_readers,
-};
+pub use authority::{Authority, Readiness};
 pub use snapshot::AuthoritySnapshot;

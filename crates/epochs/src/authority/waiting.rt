@@ -3,9 +3,6 @@
 ghost use Rattle.std.specs.Prelude.{◌≡◌, MatchResult, Err, Ok};
 ghost use Rattle.std.specs.FinSet as set;
 ghost use Rattle.epochs.specs.Authority.{authority_of, authority_plan};
-ghost use Rattle.epochs.specs.Waiting.{WaitingKeepsReaders};
-ghost use Rattle.epochs.specs.Lost.{EarlyStepsLose};
-ghost use Rattle.epochs.specs.Readable.{ReadableVolumesRecover};
 
 use super::Authority;
 use quorum_expr::{MemberSet, holds};
@@ -53,22 +50,3 @@ impl Authority {
         }
     }
 }
-
-/// Proves that a group whose last advance waited can be read: in every run its whole members satisfy its
-/// configuration's read expression, if the root's members satisfy the root's.
-pub fn waiting_keeps_readers()
-    ensures { WaitingKeepsReaders }
-{}
-
-/// Proves that a volume is lost if a group takes a step too early: if the group's whole members don't satisfy its
-/// configuration's read expression, and each of its nodes has taken the step to that configuration, no recovery whose
-/// volume epoch is assigned later ever cuts, whatever happens.
-pub fn early_steps_lose()
-    ensures { EarlyStepsLose }
-{}
-
-/// Proves that a volume whose groups can be read can be recovered, if all claims of its plan hold: some events lead the
-/// recovery of the next volume epoch to its cut, unless volume epochs or LSNs are spent.
-pub fn readable_volumes_recover()
-    ensures { ReadableVolumesRecover }
-{}

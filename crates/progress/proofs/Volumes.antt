@@ -27,7 +27,7 @@ use Rattle.volume_model.proofs.Run.{event_kept, opening_kept}
 use Rattle.volume_model.proofs.Sound.{born_from_cut}
 use Rattle.volume_model.specs.declared.fault.Fault.{Fault}
 use Rattle.volume_model.specs.declared.fault.Fault.TheVariants.{AllGrown, EpochsSpent, NoActor, NoGroup, AheadMember, AlreadyDone, AlreadyWhole, BadPiece, BadTransaction, Full, LimitReached, LsnSpent, NotAddressed, NotInPlan, NotInstalled, NotJoined, NotOpen, NotReady, NotWhole, SeriesSpent, StaleMember, StaleVolume, Superseded}
-use Rattle.epochs.proofs.Lost.{Ok-is, Ok-node, IsGood, authority_on, client_on, node_on, ready, there_of}
+use Rattle.progress.proofs.Lost.{Ok-is, Ok-node, IsGood, authority_on, client_on, node_on, ready, there_of}
 
 Ok-client : (a b : ClientStep) → ◌≡◌ {A = ClientAnswer} (Ok a) (Ok b) → a ≡ b
 Ok-client a b h = cc

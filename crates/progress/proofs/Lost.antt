@@ -30,9 +30,9 @@ use Rattle.volume_model.proofs.Sound.{is_sound}
 use Rattle.volume_model.proofs.Views.{length-places_now, place_in-places_now}
 use Rattle.volume_model.specs.declared.fault.Fault.{Fault}
 use Rattle.volume_model.specs.declared.fault.Fault.TheVariants.{AllGrown, EpochsSpent, NoActor, NoGroup, NotInPlan, Superseded}
-use Rattle.epochs.specs.Lost.{EarlyStepsLose, HaveTakenStep, IsLost}
-use Rattle.epochs.specs.Waiting.{whole_in}
-use Rattle.epochs.proofs.Waiting.{deliver_whole, offer_whole, restart_whole}
+use Rattle.progress.specs.Lost.{EarlyStepsLose, HaveTakenStep, IsLost}
+use Rattle.progress.specs.Waiting.{whole_in}
+use Rattle.progress.proofs.Waiting.{deliver_whole, offer_whole, restart_whole}
 
 pub Ok-is : (a b : AuthorityStep) → ◌≡◌ {A = Result AuthorityStep Fault} (Ok a) (Ok b) → a ≡ b
 Ok-is a b h = cc

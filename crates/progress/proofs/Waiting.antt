@@ -20,7 +20,7 @@ use Rattle.volume_model.proofs.FormulaLaws.{sat_more}
 use Rattle.volume_model.proofs.NodeSteps.{refuse_if-ok, page_answer-ok, hydrated-ok}
 use Rattle.volume_model.specs.declared.fault.Fault.{Fault}
 use Rattle.volume_model.specs.declared.fault.Fault.TheVariants.{AllGrown, EpochsSpent, NoActor, NoGroup, AheadMember, AlreadyWhole, BadPiece, Full, NotAddressed, NotInPlan, NotInstalled, NotWhole, SeriesSpent, StaleMember, StaleVolume, Superseded}
-use Rattle.epochs.specs.Waiting.{CanBeRead, WaitingKeepsReaders, last_advance_waited, waited_after, whole_in}
+use Rattle.progress.specs.Waiting.{CanBeRead, WaitingKeepsReaders, last_advance_waited, waited_after, whole_in}
 
 Ok-is : (a b : NodeStep) → ◌≡◌ {A = NodeAnswer} (Ok a) (Ok b) → a ≡ b
 Ok-is a b h = cc

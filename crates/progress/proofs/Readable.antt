@@ -33,21 +33,21 @@ use Rattle.volume_model.proofs.Views.{length-places_now, place_in-places_now}
 use Rattle.volume_model.proofs.Run.{event_kept, opening_kept, run_kept}
 use Rattle.volume_model.specs.declared.fault.Fault.{Fault}
 use Rattle.volume_model.specs.declared.fault.Fault.TheVariants.{LsnSpent, AllGrown, EpochsSpent, NoActor, NoGroup, Superseded, NotAddressed, NotInPlan}
-use Rattle.epochs.specs.Waiting.{CanBeRead, whole_in}
-use Rattle.epochs.specs.Readable.{CanCut, ReadableVolumesRecover}
-use Rattle.epochs.proofs.Lost.{Ok-is, nodes_on}
-use Rattle.epochs.proofs.Volumes.{VolumesKnown, volumes_known}
+use Rattle.progress.specs.Waiting.{CanBeRead, whole_in}
+use Rattle.progress.specs.Readable.{CanCut, ReadableVolumesRecover}
+use Rattle.progress.proofs.Lost.{Ok-is, nodes_on}
+use Rattle.progress.proofs.Volumes.{VolumesKnown, volumes_known}
 
 -- who satisfies a read expression satisfies it without the members that the configuration doesn't have, and without
 -- numbers that no message may have as its sender
-abbrev ReadsMembers : Plan → Type 0
+abbrev pub ReadsMembers : Plan → Type 0
 ReadsMembers plan = (group c : ℕ) (readers : Members) → group < plan.groups → c < plan.configurations group
     → sat (plan.configuration group c).read readers ≡ true
     → sat (plan.configuration group c).read (λ x. readers x && (has_member (plan.configuration group c) x && nat_lt x 64)) ≡ true
 
 -- ---- lists
 
-has_number : {A : Type 0} (xs : List A) (x : A) → IsIn x xs → (n : ℕ) × (n ≤ length xs) × (numbered xs n ≡ Some x)
+pub has_number : {A : Type 0} (xs : List A) (x : A) → IsIn x xs → (n : ℕ) × (n ≤ length xs) × (numbered xs n ≡ Some x)
 has_number [] x i = absurd i
 has_number (y ∷ ys) x (inl e) = (suc (length ys), omega arith, rw (eq-eqb (suc (length ys)) (suc (length ys)) refl) (ap Some (sym e)))
 has_number (y ∷ ys) x (inr i) =
@@ -61,15 +61,15 @@ has_number (y ∷ ys) x (inr i) =
       | inr no' ↦ no'
     ]
 
-every_true : {A : Type 0} (test : A → Bool) (xs : List A) → ((x : A) → IsIn x xs → test x ≡ true) → every test xs ≡ true
+pub every_true : {A : Type 0} (test : A → Bool) (xs : List A) → ((x : A) → IsIn x xs → test x ≡ true) → every test xs ≡ true
 every_true test [] h = refl
 every_true test (x ∷ xs) h = and_from (test x) (every test xs) (h x (inl refl)) (every_true test xs (λ y i. h y (inr i)))
 
-every_below_true : (n : ℕ) (test : ℕ → Bool) → ((k : ℕ) → k < n → test k ≡ true) → every_below n test ≡ true
+pub every_below_true : (n : ℕ) (test : ℕ → Bool) → ((k : ℕ) → k < n → test k ≡ true) → every_below n test ≡ true
 every_below_true zero test h = refl
 every_below_true (suc n) test h = and_from (test n) (every_below n test) (h n (omega arith)) (every_below_true n test (λ k l. h k (omega arith)))
 
-some_below_true : (n : ℕ) (test : ℕ → Bool) (k : ℕ) → k < n → test k ≡ true → some_below n test ≡ true
+pub some_below_true : (n : ℕ) (test : ℕ → Bool) (k : ℕ) → k < n → test k ≡ true → some_below n test ≡ true
 some_below_true zero test k l h = absurd (omega arith)
 some_below_true (suc n) test k l h =
     elim (cases_lt k n) [
@@ -103,11 +103,11 @@ module _ (plan : Plan) (world : World) where
       let answer : ◌≡◌ {A = ClientAnswer} (take plan v (world.clients v) (numbered world.messages n)) (Ok step) = ap (take plan v (world.clients v)) found ∙ is in
       ap (λ a. after_step world (of_client world v a)) answer
 
-IsIn-kept : {A : Type 0} (made kept : List A) (x : A) → IsIn x kept → IsIn x (added made kept)
+pub IsIn-kept : {A : Type 0} (made kept : List A) (x : A) → IsIn x kept → IsIn x (added made kept)
 IsIn-kept [] kept x i = i
 IsIn-kept (y ∷ made) kept x i = IsIn-kept made (y ∷ kept) x (inr i)
 
-IsIn-new : {A : Type 0} (made kept : List A) (x : A) → IsIn x made → IsIn x (added made kept)
+pub IsIn-new : {A : Type 0} (made kept : List A) (x : A) → IsIn x made → IsIn x (added made kept)
 IsIn-new [] kept x i = absurd i
 IsIn-new (y ∷ made) kept x (inl e) = IsIn-kept made (y ∷ kept) x (inl e)
 IsIn-new (y ∷ made) kept x (inr i) = IsIn-new made (y ∷ kept) x i
@@ -115,15 +115,15 @@ IsIn-new (y ∷ made) kept x (inr i) = IsIn-new made (y ∷ kept) x i
 -- ---- what each run has told of steps
 
 -- the StepTo of a group's configuration was made, unless that is the root
-abbrev HasStep : Plan → World → ℕ → Type 0
+abbrev pub HasStep : Plan → World → ℕ → Type 0
 HasStep plan world g = (configuration_of world.authority g ≡ 0) ⊎ IsMade world (StepTo g (place_now plan world.authority g))
 
 -- a whole node has a place
-abbrev HasPlace : ℕ → ℕ → Node → Type 0
+abbrev pub HasPlace : ℕ → ℕ → Node → Type 0
 HasPlace g x node = node.whole ≡ true → 1 ≤ node.place.epoch
 
 module _ (plan : Plan) (certified : IsCertified plan) (world : World) (known : IsKeptWorld plan world) where
-  place_on : ((g x : ℕ) → HasPlace g x (world.nodes g x)) → (event : Event) (g x : ℕ) → HasPlace g x ((after plan world event).nodes g x)
+  pub place_on : ((g x : ℕ) → HasPlace g x (world.nodes g x)) → (event : Event) (g x : ℕ) → HasPlace g x ((after plan world event).nodes g x)
   place_on old event =
       nodes_on plan certified world known HasPlace old
       (λ g x node h same grows w. (let o : 1 ≤ (world.nodes g x).place.epoch = h (sym same ∙ w) in omega arith))
@@ -137,10 +137,10 @@ module _ (plan : Plan) (certified : IsCertified plan) (world : World) (known : I
           let same : step.node.place.epoch ≡ (world.nodes g x).place.epoch = ap (λ (s : NodeStep). s.node.place.epoch) is in
           omega arith
 
-  made_on : (event : Event) (m : Message) → IsMade world m → IsMade (after plan world event) m
+  pub made_on : (event : Event) (m : Message) → IsMade world m → IsMade (after plan world event) m
   made_on event m i = (let (later, e) = keeps_after plan world event in subst (λ z. IsIn m z) e (IsIn-append_right later world.messages m i))
 
-  by_authority : (g : ℕ) (event : Event) (answer : Result AuthorityStep Fault) → HasStep plan world g
+  pub by_authority : (g : ℕ) (event : Event) (answer : Result AuthorityStep Fault) → HasStep plan world g
       → ((s : AuthorityStep) → answer ≡ Ok s → (configuration_of s.authority g ≡ configuration_of world.authority g) ⊎ IsIn (StepTo g (place_now plan s.authority g)) s.made)
       → ((m : Message) → IsMade world m → IsMade (after_step world (of_authority world answer)) m)
       → HasStep plan (after_step world (of_authority world answer)) g
@@ -154,17 +154,17 @@ module _ (plan : Plan) (certified : IsCertified plan) (world : World) (known : I
         | inr new ↦ inr (IsIn-new s.made world.messages _ new)
       ]
 
-  by_client : (g v : ℕ) (answer : ClientAnswer) → HasStep plan world g → ((m : Message) → IsMade world m → IsMade (after_step world (of_client world v answer)) m) → HasStep plan (after_step world (of_client world v answer)) g
+  pub by_client : (g v : ℕ) (answer : ClientAnswer) → HasStep plan world g → ((m : Message) → IsMade world m → IsMade (after_step world (of_client world v answer)) m) → HasStep plan (after_step world (of_client world v answer)) g
   by_client g v (Err fault) old keeps = old
   by_client g v (Ok s) (inl root) keeps = inl root
   by_client g v (Ok s) (inr made) keeps = inr (keeps _ made)
 
-  by_node : (g group x : ℕ) (answer : NodeAnswer) → HasStep plan world g → ((m : Message) → IsMade world m → IsMade (after_step world (of_node world group x answer)) m) → HasStep plan (after_step world (of_node world group x answer)) g
+  pub by_node : (g group x : ℕ) (answer : NodeAnswer) → HasStep plan world g → ((m : Message) → IsMade world m → IsMade (after_step world (of_node world group x answer)) m) → HasStep plan (after_step world (of_node world group x answer)) g
   by_node g group x (Err fault) old keeps = old
   by_node g group x (Ok s) (inl root) keeps = inl root
   by_node g group x (Ok s) (inr made) keeps = inr (keeps _ made)
 
-  step_on : (g : ℕ) → HasStep plan world g → (event : Event) → HasStep plan (after plan world event) g
+  pub step_on : (g : ℕ) → HasStep plan world g → (event : Event) → HasStep plan (after plan world event) g
   step_on g old Assign = by_authority g Assign (assigned plan world.authority) old (λ s h.
       inl (ap (λ (z : AuthorityStep). configuration_of z.authority g) (sym (Ok-is _ s (refuse_if-ok (nat_le 4294967295 world.authority.last_volume) EpochsSpent _ s h).1)))) (made_on Assign)
   step_on g old (Advance group c) = by_authority g (Advance group c) (advanced plan world.authority group c) old (λ s h.
@@ -198,13 +198,13 @@ module _ (plan : Plan) (certified : IsCertified plan) (world : World) (known : I
   step_on g old (Offer group x lsn) = by_node g group x _ old (made_on (Offer group x lsn))
 
 module _ (plan : Plan) (certified : IsCertified plan) where
-  run_steps : (events : List Event) (world : World) → IsKeptWorld plan world → ((g x : ℕ) → HasPlace g x (world.nodes g x)) → ((g : ℕ) → HasStep plan world g)
+  pub run_steps : (events : List Event) (world : World) → IsKeptWorld plan world → ((g x : ℕ) → HasPlace g x (world.nodes g x)) → ((g : ℕ) → HasStep plan world g)
       → ((g x : ℕ) → HasPlace g x ((run plan world events).nodes g x)) × ((g : ℕ) → HasStep plan (run plan world events) g)
   run_steps [] world known places steps = (places, steps)
   run_steps (event ∷ events) world known places steps =
       run_steps events (after plan world event) (event_kept plan certified world known.kept event) (place_on plan certified world known places event) (λ g. step_on plan certified world known g (steps g) event)
 
-  born_place : (g x : ℕ) (b : Bool) → has_member (plan.configuration g 0) x ≡ b → HasPlace g x (born_node plan g x)
+  pub born_place : (g x : ℕ) (b : Bool) → has_member (plan.configuration g 0) x ≡ b → HasPlace g x (born_node plan g x)
   born_place g x true e = rw e (λ w. omega arith)
   born_place g x false e = rw e (λ w. absurd (true≢false (sym w)))
 
@@ -218,7 +218,7 @@ module _ (plan : Plan) (certified : IsCertified plan) where
 
 -- ---- the events
 
-each_has : {A : Type 0} (n : ℕ) (f : ℕ → A) (k : ℕ) → k < n → IsIn (f k) (each_below n (λ k. true) f)
+pub each_has : {A : Type 0} (n : ℕ) (f : ℕ → A) (k : ℕ) → k < n → IsIn (f k) (each_below n (λ k. true) f)
 each_has zero f k l = absurd (omega arith)
 each_has (suc n) f k l =
     elim (cases_lt k n) [
@@ -226,7 +226,7 @@ each_has (suc n) f k l =
       | inr last ↦ (let e : k ≡ n = omega arith in IsIn-append_right (each_below n (λ k. true) f) (f n ∷ []) (f k) (inl (ap f e)))
     ]
 
-senders_first : (new : From) (reports : List From) (y : ℕ) → senders reports y ≡ true → senders (with_first new reports) y ≡ true
+pub senders_first : (new : From) (reports : List From) (y : ℕ) → senders reports y ≡ true → senders (with_first new reports) y ≡ true
 senders_first new reports y h =
     elim (cases_Bool (senders reports new.sender)) [
       | inl has ↦ rw has h
@@ -235,70 +235,70 @@ senders_first new reports y h =
           any_from (λ report. report.sender == y) (reports ++ new ∷ []) from (IsIn-append_left reports (new ∷ []) from i) test)
     ]
 
-sender_first : (new : From) (reports : List From) → senders (with_first new reports) new.sender ≡ true
+pub sender_first : (new : From) (reports : List From) → senders (with_first new reports) new.sender ≡ true
 sender_first new reports =
     elim (cases_Bool (senders reports new.sender)) [
       | inl has ↦ rw has has
       | inr lacks ↦ rw lacks (any_from (λ report. report.sender == new.sender) (reports ++ new ∷ []) new (IsIn-append_right reports (new ∷ []) new (inl refl)) (eq-eqb new.sender new.sender refl))
     ]
 
-unborn_from : (stage : Stage) → (is_born stage ≡ true → ⊥) → stage ≡ Unborn
+pub unborn_from : (stage : Stage) → (is_born stage ≡ true → ⊥) → stage ≡ Unborn
 unborn_from Unborn h = refl
 unborn_from Reading h = absurd (h refl)
 unborn_from Installing h = absurd (h refl)
 unborn_from Writing h = absurd (h refl)
 
-length_mapped : {A B : Type 0} (f : A → B) (xs : List A) → length (map f xs) ≡ length xs
+pub length_mapped : {A B : Type 0} (f : A → B) (xs : List A) → length (map f xs) ≡ length xs
 length_mapped f [] = refl
 length_mapped f (x ∷ xs) = ap suc (length_mapped f xs)
 
 -- a test that passes refuses nothing
-passes : {A : Type 0} (test : Bool) (fault : Fault) (rest : Result A Fault) → test ≡ true → refuse_if (not test) fault rest ≡ rest
+pub passes : {A : Type 0} (test : Bool) (fault : Fault) (rest : Result A Fault) → test ≡ true → refuse_if (not test) fault rest ≡ rest
 passes test fault rest h = rw h refl
 
-set-here : (groups : List ClientGroup) (k : ℕ) (group : ClientGroup) → k < length groups → group_of (slice_set groups k group) k ≡ group
+pub set-here : (groups : List ClientGroup) (k : ℕ) (group : ClientGroup) → k < length groups → group_of (slice_set groups k group) k ≡ group
 set-here [] k group l = absurd (omega arith)
 set-here (g ∷ groups) zero group l = refl
 set-here (g ∷ groups) (suc k) group l = set-here groups k group (omega arith)
 
 -- some events lead from one world to another
-abbrev Reaches : Plan → World → World → Type 0
+abbrev pub Reaches : Plan → World → World → Type 0
 Reaches plan world later = (more : List Event) × (run plan world more ≡ later)
 
 module _ (plan : Plan) where
-  run_append : (world : World) (es fs : List Event) → run plan world (es ++ fs) ≡ run plan (run plan world es) fs
+  pub run_append : (world : World) (es fs : List Event) → run plan world (es ++ fs) ≡ run plan (run plan world es) fs
   run_append world [] fs = refl
   run_append world (e ∷ es) fs = run_append (after plan world e) es fs
 
-  reach_none : (world : World) → Reaches plan world world
+  pub reach_none : (world : World) → Reaches plan world world
   reach_none world = ([], refl)
 
-  reach_one : (world : World) (event : Event) → Reaches plan world (after plan world event)
+  pub reach_one : (world : World) (event : Event) → Reaches plan world (after plan world event)
   reach_one world event = (event ∷ [], refl)
 
-  reach_then : (a b c : World) → Reaches plan a b → Reaches plan b c → Reaches plan a c
+  pub reach_then : (a b c : World) → Reaches plan a b → Reaches plan b c → Reaches plan a c
   reach_then a b c (es, h) (fs, k) = (es ++ fs, run_append a es fs ∙ ap (λ z. run plan z fs) h ∙ k)
 
 module _ (plan : Plan) (certified : IsCertified plan) (world : World) (known : IsKeptWorld plan world) (volumes : VolumesKnown world)
     (placed : (g x : ℕ) → HasPlace g x (world.nodes g x)) (steps : (g : ℕ) → HasStep plan world g) (left : world.authority.last_volume < 4294967295) where
   -- the recovery's volume epoch
-  abbrev v : ℕ
+  abbrev pub v : ℕ
   v = suc world.authority.last_volume
 
-  abbrev joined : ℕ
+  abbrev pub joined : ℕ
   joined = groups_joined world.authority
 
-  abbrev epoch : ℕ → ℕ
+  abbrev pub epoch : ℕ → ℕ
   epoch g = epoch_now plan world g
 
-  abbrev place : ℕ → Place
+  abbrev pub place : ℕ → Place
   place g = place_now plan world.authority g
 
   in_plan : (g : ℕ) → g < joined → g < plan.groups
   in_plan g l = (let w : joined ≤ plan.groups = known.kept.authority.within in omega arith)
 
   -- the recovery reads, and everything that it needs for a report was made
-  record IsReading (u : World) : Type 0 where
+  pub record IsReading (u : World) : Type 0 where
     in_run : IsKeptWorld plan u
     last : u.authority.last_volume ≤ v
     configurations : u.authority.configurations ≡ world.authority.configurations
@@ -312,11 +312,11 @@ module _ (plan : Plan) (certified : IsCertified plan) (world : World) (known : I
     whole : (g x : ℕ) → whole_in world g x ≡ true → whole_in u g x ≡ true
 
   -- the recovery keeps each report that it had
-  abbrev Keeps : World → World → Type 0
+  abbrev pub Keeps : World → World → Type 0
   Keeps u later = (g y : ℕ) → senders (reports_of (u.clients v).groups g) y ≡ true → senders (reports_of (later.clients v).groups g) y ≡ true
 
   -- a delivery that leaves all this
-  delivered_on : (u : World) → IsReading u → (g x n : ℕ) (m : Message) (step : NodeStep) → g < joined → is_named plan g x ≡ true → numbered u.messages n ≡ Some m
+  pub delivered_on : (u : World) → IsReading u → (g x n : ℕ) (m : Message) (step : NodeStep) → g < joined → is_named plan g x ≡ true → numbered u.messages n ≡ Some m
       → ◌≡◌ {A = NodeAnswer} (reaction plan g x (u.nodes g x) m) (Ok step)
       → step.node.volume ≤ v → HasPlace g x step.node → ((u.nodes g x).whole ≡ true → step.node.whole ≡ true)
       → IsReading (after plan u (Deliver g x n)) × Keeps u (after plan u (Deliver g x n)) × ((after plan u (Deliver g x n)) ≡ record u { nodes = put_at u.nodes g x step.node; messages = added step.made u.messages })
@@ -449,15 +449,15 @@ module _ (plan : Plan) (certified : IsCertified plan) (world : World) (known : I
         (c, reach_then plan u b c (reach_then plan u a b ua ab) bc, rc, (λ k y h. kc k y (kb k y (ka k y h))), has)
 
   -- the recovery has the reports of a group's whole members below a number
-  abbrev Heard : World → ℕ → ℕ → Type 0
+  abbrev pub Heard : World → ℕ → ℕ → Type 0
   Heard u g most = (x : ℕ) → x < most → whole_in world g x ≡ true → has_member (plan.configuration g (configuration_of world.authority g)) x ≡ true → senders (reports_of (u.clients v).groups g) x ≡ true
 
-  named_of : (g x : ℕ) → g < joined → has_member (plan.configuration g (configuration_of world.authority g)) x ≡ true → is_named plan g x ≡ true
+  pub named_of : (g x : ℕ) → g < joined → has_member (plan.configuration g (configuration_of world.authority g)) x ≡ true → is_named plan g x ≡ true
   named_of g x l h =
       and_from (nat_lt g plan.groups) _ (lt-ltb g plan.groups (in_plan g l))
       (some_below_true (plan.configurations g) (λ c. has_member (plan.configuration g c) x) (configuration_of world.authority g) (known.kept.authority.there g (in_plan g l)) h)
 
-  one_heard : (g x : ℕ) → g < joined → x < 64 → (u : World) → IsReading u → (later : World) × Reaches plan u later × IsReading later × Keeps u later
+  pub one_heard : (g x : ℕ) → g < joined → x < 64 → (u : World) → IsReading u → (later : World) × Reaches plan u later × IsReading later × Keeps u later
       × (whole_in world g x ≡ true → has_member (plan.configuration g (configuration_of world.authority g)) x ≡ true → senders (reports_of (later.clients v).groups g) x ≡ true)
   one_heard g x l small u r =
       elim (cases_Bool (whole_in world g x)) [
@@ -468,7 +468,7 @@ module _ (plan : Plan) (certified : IsCertified plan) (world : World) (known : I
         ]
       ]
 
-  group_heard : (g : ℕ) → g < joined → (most : ℕ) → most ≤ 64 → (u : World) → IsReading u → (later : World) × Reaches plan u later × IsReading later × Keeps u later × Heard later g most
+  pub group_heard : (g : ℕ) → g < joined → (most : ℕ) → most ≤ 64 → (u : World) → IsReading u → (later : World) × Reaches plan u later × IsReading later × Keeps u later × Heard later g most
   group_heard g l zero few u r = (u, reach_none plan u, r, (λ k y h. h), (λ x small. absurd (omega arith)))
   group_heard g l (suc most) few u r =
       let (a, ua, ra, ka, ha) = group_heard g l most (omega arith) u r in
@@ -485,7 +485,7 @@ module _ (plan : Plan) (certified : IsCertified plan) (world : World) (known : I
         ]),
       )
 
-  all_heard : (most : ℕ) → most ≤ joined → (u : World) → IsReading u → (later : World) × Reaches plan u later × IsReading later × ((g : ℕ) → g < most → Heard later g 64)
+  pub all_heard : (most : ℕ) → most ≤ joined → (u : World) → IsReading u → (later : World) × Reaches plan u later × IsReading later × ((g : ℕ) → g < most → Heard later g 64)
   all_heard zero few u r = (u, reach_none plan u, r, (λ g small. absurd (omega arith)))
   all_heard (suc most) few u r =
       let (a, ua, ra, ha) = all_heard most (omega arith) u r in
@@ -501,7 +501,7 @@ module _ (plan : Plan) (certified : IsCertified plan) (world : World) (known : I
 
   -- ---- the cut
 
-  can_cut : ReadsMembers plan → ((g : ℕ) → g < joined → CanBeRead plan world g) → (u : World) → IsReading u → ((g : ℕ) → g < joined → Heard u g 64) → CanCut plan u v
+  pub can_cut : ReadsMembers plan → ((g : ℕ) → g < joined → CanBeRead plan world g) → (u : World) → IsReading u → ((g : ℕ) → g < joined → Heard u g 64) → CanCut plan u v
   can_cut members readable u r heard_all =
       let client : Client = u.clients v in
       let read_one : (g : ℕ) → g < length client.groups → sat (place_configuration plan g (place_of client.groups g)).read (senders (reports_of client.groups g)) ≡ true = λ g small. (
@@ -531,22 +531,22 @@ module _ (plan : Plan) (certified : IsCertified plan) (world : World) (known : I
 
   -- ---- the first two events
 
-  abbrev assigned_world : World
+  abbrev pub assigned_world : World
   assigned_world = record world { authority = record world.authority { last_volume = v }; messages = View v (places_now plan world.authority) ∷ world.messages }
 
-  assigned_is : after plan world Assign ≡ assigned_world
+  pub assigned_is : after plan world Assign ≡ assigned_world
   assigned_is =
       let is : ◌≡◌ {A = Result AuthorityStep Fault} (assigned plan world.authority) (Ok (record { made = View v (places_now plan world.authority) ∷ []; authority = record world.authority { last_volume = v } })) =
       rw (lt-leb 4294967295 world.authority.last_volume left) refl in
       ap (λ a. after_step world (of_authority world a)) is
 
-  unborn_still : (world.clients v).stage ≡ Unborn
+  pub unborn_still : (world.clients v).stage ≡ Unborn
   unborn_still = unborn_from (world.clients v).stage (λ b. (let k : v ≤ world.authority.last_volume = ((known.kept.clients v).born b).known in omega arith))
 
-  long : length (places_now plan world.authority) ≡ joined
+  pub long : length (places_now plan world.authority) ≡ joined
   long = length-places_now plan world.authority
 
-  are_there : are_places plan (places_now plan world.authority) ≡ true
+  pub are_there : are_places plan (places_now plan world.authority) ≡ true
   are_there =
       let born : plan.born ≤ joined = known.kept.authority.born in
       let within : joined ≤ plan.groups = known.kept.authority.within in
@@ -559,13 +559,13 @@ module _ (plan : Plan) (certified : IsCertified plan) (world : World) (known : I
       subst (λ (p : Place). is_configuration plan g p.configuration p.epoch ≡ true) (sym (place_in-places_now plan world.authority g l))
       (and_from (nat_lt (configuration_of world.authority g) (plan.configurations g)) _ (lt-ltb (configuration_of world.authority g) (plan.configurations g) (known.kept.authority.there g (in_plan g l))) (eq-eqb (epoch g) (epoch g) refl))))))
 
-  abbrev first_step : ClientStep
+  abbrev pub first_step : ClientStep
   first_step = born_client v (places_now plan world.authority)
 
-  abbrev read_world : World
+  abbrev pub read_world : World
   read_world = record assigned_world { clients = put world.clients v first_step.client; messages = added first_step.made assigned_world.messages }
 
-  begins : (later : World) × Reaches plan world later × IsReading later
+  pub begins : (later : World) × Reaches plan world later × IsReading later
   begins =
       let (n, few, found) = has_number assigned_world.messages (View v (places_now plan world.authority)) (inl refl) in
       let taken_is : ◌≡◌ {A = ClientAnswer} (taken plan v (world.clients v) (View v (places_now plan world.authority))) (Ok first_step) =
@@ -594,7 +594,7 @@ module _ (plan : Plan) (certified : IsCertified plan) (world : World) (known : I
         },
       )
 
-  recovers : ReadsMembers plan → ((g : ℕ) → g < joined → CanBeRead plan world g) → (more : List Event) × CanCut plan (run plan world more) v
+  pub recovers : ReadsMembers plan → ((g : ℕ) → g < joined → CanBeRead plan world g) → (more : List Event) × CanCut plan (run plan world more) v
   recovers members readable =
       let (u, wu, ru) = begins in
       let (end, ue, re, heard_all) = all_heard joined (omega arith) u ru in
@@ -602,7 +602,7 @@ module _ (plan : Plan) (certified : IsCertified plan) (world : World) (known : I
       (more, subst (λ z. CanCut plan z v) (sym is) (can_cut members readable end re heard_all))
 
 -- the claims of a plan say that no other members count
-reads_members : (plan : Plan) → KeepsClaims plan → ReadsMembers plan
+pub reads_members : (plan : Plan) → KeepsClaims plan → ReadsMembers plan
 reads_members plan claims group c readers there below h =
     let claim : KeepsClaim (plan.configuration group c) = claims.quorums group c there below in
     sym (sat-own (plan.configuration group c).read (has_member (plan.configuration group c)) readers

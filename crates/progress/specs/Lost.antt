@@ -4,7 +4,7 @@ use Rattle.volume_model.specs.Plan.{Plan, IsCertified, epoch_of, is_named}
 use Rattle.volume_model.specs.Formula.{sat}
 use Rattle.volume_model.specs.Client.{has_cut}
 use Rattle.volume_model.specs.World.{World, Event, configuration_of, groups_joined, opening, run}
-use Rattle.epochs.specs.Waiting.{whole_in}
+use Rattle.progress.specs.Waiting.{whole_in}
 
 -- each node of the group has taken the step to the group's configuration
 abbrev pub HaveTakenStep : Plan → World → ℕ → Type 0

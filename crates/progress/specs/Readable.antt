@@ -6,7 +6,7 @@ use Rattle.volume_model.specs.Client.{ClientAnswer, ClientStep}
 use Rattle.volume_model.specs.ClientRecovery.{cut_client}
 use Rattle.volume_model.specs.World.{World, Event, groups_joined, opening, run}
 use Rattle.volume_model.specs.declared.fault.Fault.TheVariants.{LsnSpent}
-use Rattle.epochs.specs.Waiting.{CanBeRead}
+use Rattle.progress.specs.Waiting.{CanBeRead}
 
 -- the recovery of a volume epoch can cut, or its LSNs would begin above the greatest one
 abbrev pub CanCut : Plan → World → ℕ → Type 0

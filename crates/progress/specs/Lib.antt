@@ -1,0 +1,3 @@
+pub mod Waiting
+pub mod Lost
+pub mod Readable

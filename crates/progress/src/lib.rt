@@ -1,0 +1,25 @@
+//! Which volumes can go on: laws about all runs of the model.
+#![tactic(auto)]
+
+ghost use Rattle.progress.specs.Waiting.{WaitingKeepsReaders};
+ghost use Rattle.progress.specs.Lost.{EarlyStepsLose};
+ghost use Rattle.progress.specs.Readable.{ReadableVolumesRecover};
+
+/// Proves that a group whose last advance waited can be read: in every run its whole members satisfy its
+/// configuration's read expression, if the root's members satisfy the root's.
+pub fn waiting_keeps_readers()
+    ensures { WaitingKeepsReaders }
+{}
+
+/// Proves that a volume is lost if a group takes a step too early: if the group's whole members don't satisfy its
+/// configuration's read expression, and each of its nodes has taken the step to that configuration, no recovery whose
+/// volume epoch is assigned later ever cuts, whatever happens.
+pub fn early_steps_lose()
+    ensures { EarlyStepsLose }
+{}
+
+/// Proves that a volume whose groups can be read can be recovered, if all claims of its plan hold: some events lead the
+/// recovery of the next volume epoch to its cut, unless volume epochs or LSNs are spent.
+pub fn readable_volumes_recover()
+    ensures { ReadableVolumesRecover }
+{}
