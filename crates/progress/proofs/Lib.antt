@@ -2,3 +2,4 @@ pub mod Waiting
 pub mod Lost
 pub mod Volumes
 pub mod Readable
+pub mod Installing

@@ -1,3 +1,4 @@
 pub mod Waiting
 pub mod Lost
 pub mod Readable
+pub mod Onward
