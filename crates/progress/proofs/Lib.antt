@@ -3,3 +3,4 @@ pub mod Lost
 pub mod Volumes
 pub mod Readable
 pub mod Installing
+pub mod Counts
