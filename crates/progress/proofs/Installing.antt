@@ -39,21 +39,21 @@ module _ (plan : Plan) (v : ℕ) (now : List ℕ) (line : Lineage) (records : Li
 
   -- the recovery has cut and hasn't opened, and everything that it needs to install its log was made
   pub record IsRecovering (u : World) : Type 0 where
-    in_run : IsKeptWorld plan u
-    last : u.authority.last_volume ≤ v
-    configurations : u.authority.configurations ≡ now
-    stage : (u.clients v).stage ≡ Installing
-    groups : length (u.clients v).groups ≡ length now
-    places : (g : ℕ) → g < length now → place_of (u.clients v).groups g ≡ place_at g
-    lineage : (u.clients v).lineage ≡ line
-    found : (u.clients v).found ≡ records
-    log : (u.clients v).log ≡ records
-    pieces : (g : ℕ) → g < length now → (m : Message)
+    pub in_run : IsKeptWorld plan u
+    pub last : u.authority.last_volume ≤ v
+    pub configurations : u.authority.configurations ≡ now
+    pub stage : (u.clients v).stage ≡ Installing
+    pub groups : length (u.clients v).groups ≡ length now
+    pub places : (g : ℕ) → g < length now → place_of (u.clients v).groups g ≡ place_at g
+    pub lineage : (u.clients v).lineage ≡ line
+    pub found : (u.clients v).found ≡ records
+    pub log : (u.clients v).log ≡ records
+    pub pieces : (g : ℕ) → g < length now → (m : Message)
         → IsIn m (in_pieces (to_install line records g) (Install g (label v (epoch_at g)))) → IsMade u m
-    step : (g : ℕ) → (at g ≡ 0) ⊎ IsMade u (StepTo g (place_at g))
-    volume : (g x : ℕ) → (u.nodes g x).volume ≤ v
-    placed_on : (g x : ℕ) → HasPlace g x (u.nodes g x)
-    asked : (g x : ℕ) → (u.nodes g x).whole ≡ false → 1 ≤ (u.nodes g x).place.epoch
+    pub step : (g : ℕ) → (at g ≡ 0) ⊎ IsMade u (StepTo g (place_at g))
+    pub volume : (g x : ℕ) → (u.nodes g x).volume ≤ v
+    pub placed_on : (g x : ℕ) → HasPlace g x (u.nodes g x)
+    pub asked : (g x : ℕ) → (u.nodes g x).whole ≡ false → 1 ≤ (u.nodes g x).place.epoch
         → IsMade u (CopyAsk g (u.nodes g x).place.epoch)
 
   -- the node keeps no piece of the recovery's install
@@ -62,15 +62,15 @@ module _ (plan : Plan) (v : ℕ) (now : List ℕ) (line : Lineage) (records : Li
 
   -- the same, and no node keeps a part of the install
   pub record IsInstalling (u : World) : Type 0 where
-    recovering : IsRecovering u
-    unstarted : (g x : ℕ) → IsUnstarted (u.nodes g x)
+    pub recovering : IsRecovering u
+    pub unstarted : (g x : ℕ) → IsUnstarted (u.nodes g x)
 
   -- the member is whole at the group's present place, and has the recovery's lineage: by the invariant it holds exactly
   -- what the recovery found of the group
   pub record IsInstalled (u : World) (g x : ℕ) : Type 0 where
-    whole : (u.nodes g x).whole ≡ true
-    lineage : lineage_epoch (u.nodes g x) ≡ v
-    epoch : (u.nodes g x).place.epoch ≡ epoch_at g
+    pub whole : (u.nodes g x).whole ≡ true
+    pub lineage : lineage_epoch (u.nodes g x) ≡ v
+    pub epoch : (u.nodes g x).place.epoch ≡ epoch_at g
 
   -- the recovery has counted the member's acknowledgement of all that it found of the group
   abbrev pub IsCounted : World → ℕ → ℕ → Type 0
@@ -82,8 +82,8 @@ module _ (plan : Plan) (v : ℕ) (now : List ℕ) (line : Lineage) (records : Li
 
   -- what a later world keeps
   pub record KeepsReady (u later : World) : Type 0 where
-    ready : (g x : ℕ) → IsReady u g x → IsReady later g x
-    whole : (g x : ℕ) → (u.nodes g x).whole ≡ true → (later.nodes g x).whole ≡ true
+    pub ready : (g x : ℕ) → IsReady u g x → IsReady later g x
+    pub whole : (g x : ℕ) → (u.nodes g x).whole ≡ true → (later.nodes g x).whole ≡ true
 
 -- ---- steps that leave all this
 

@@ -4,3 +4,4 @@ pub mod Volumes
 pub mod Readable
 pub mod Installing
 pub mod Counts
+pub mod Commits

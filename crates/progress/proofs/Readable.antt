@@ -299,17 +299,17 @@ module _ (plan : Plan) (certified : IsCertified plan) (world : World) (known : I
 
   -- the recovery reads, and everything that it needs for a report was made
   pub record IsReading (u : World) : Type 0 where
-    in_run : IsKeptWorld plan u
-    last : u.authority.last_volume ≤ v
-    configurations : u.authority.configurations ≡ world.authority.configurations
-    stage : (u.clients v).stage ≡ Reading
-    groups : length (u.clients v).groups ≡ joined
-    places : (g : ℕ) → g < joined → place_of (u.clients v).groups g ≡ place g
-    fence : (g : ℕ) → g < joined → IsMade u (Fence g (label v (epoch g)))
-    step : (g : ℕ) → (configuration_of world.authority g ≡ 0) ⊎ IsMade u (StepTo g (place g))
-    volume : (g x : ℕ) → (u.nodes g x).volume ≤ v
-    placed_on : (g x : ℕ) → HasPlace g x (u.nodes g x)
-    whole : (g x : ℕ) → whole_in world g x ≡ true → whole_in u g x ≡ true
+    pub in_run : IsKeptWorld plan u
+    pub last : u.authority.last_volume ≤ v
+    pub configurations : u.authority.configurations ≡ world.authority.configurations
+    pub stage : (u.clients v).stage ≡ Reading
+    pub groups : length (u.clients v).groups ≡ joined
+    pub places : (g : ℕ) → g < joined → place_of (u.clients v).groups g ≡ place g
+    pub fence : (g : ℕ) → g < joined → IsMade u (Fence g (label v (epoch g)))
+    pub step : (g : ℕ) → (configuration_of world.authority g ≡ 0) ⊎ IsMade u (StepTo g (place g))
+    pub volume : (g x : ℕ) → (u.nodes g x).volume ≤ v
+    pub placed_on : (g x : ℕ) → HasPlace g x (u.nodes g x)
+    pub whole : (g x : ℕ) → whole_in world g x ≡ true → whole_in u g x ≡ true
 
   -- the recovery keeps each report that it had
   abbrev pub Keeps : World → World → Type 0
