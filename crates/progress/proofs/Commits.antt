@@ -1,34 +1,40 @@
 -- From members that hold what the recovery found to a commit of its own.
 use Rattle.std.proofs.Common.{◌≡◌, ℕ, zero, suc, ◌+◌, ◌<◌, ◌≤◌, ◌^◌, max, Bool, true, false, not, ◌&&◌, ◌||◌, ◌==◌, nat_lt, nat_le, if◌then◌else◌, ◌⊎◌, List, [], ◌∷◌, Option, Some, None, Result, Ok, Err, length, refl, sym, ap, ◌∙◌, subst, inl, inr, arith}
 use Rattle.std.specs.Prelude.{slice_index_or, slice_set}
-use Rattle.std.proofs.lemmas.Bool.{cases_Bool, cases_lt, and_parts, and_from, or_left, or_right, true≢false, eqb-true, eq-eqb, lt-ltb, le-ltb, le-leb}
+use Rattle.std.proofs.lemmas.Bool.{cases_Bool, cases_lt, and_parts, and_from, and_right, or_left, or_right, true≢false, eqb-true, eq-eqb, lt-ltb, le-ltb, le-leb, lt-leb}
 use Rattle.volume_model.specs.Lists.{IsIn, added, put, put_at, every_below}
 use Rattle.volume_model.specs.Claims.{KeepsClaim, KeepsClaims}
 use Rattle.volume_model.specs.Formula.{Members, sat}
-use Rattle.volume_model.specs.Redo.{Redo, of_group, last_lsn, last_of_group, up_to}
-use Rattle.volume_model.specs.Lineage.{Lineage, last_start}
-use Rattle.volume_model.specs.Plan.{Plan, IsCertified, has_member}
+use Rattle.volume_model.specs.Redo.{Redo, holds_record, is_same, same_numbers, spelling, of_group, last_lsn, last_of_group, scl, up_to, with_record}
+use Rattle.volume_model.specs.Lineage.{Lineage, last_epoch, last_start}
+use Rattle.volume_model.specs.Plan.{Plan, IsCertified, has_member, is_named}
 use Rattle.volume_model.specs.Message.{Place, Message}
 use Rattle.volume_model.specs.Message.Message.{Write, Ack}
-use Rattle.volume_model.specs.Client.{Client, ClientAnswer, ClientGroup, ClientStep, Stage, group_of, place_of, counts_of, group_point_of, place_configuration}
+use Rattle.volume_model.specs.Node.{Node, NodeAnswer, NodeStep, lineage_epoch, most_records, reaction}
+use Rattle.volume_model.specs.Client.{Client, ClientAnswer, ClientGroup, ClientStep, Stage, group_of, place_of, counts_of, group_point_of, has_cut, place_configuration}
 use Rattle.volume_model.specs.Client.Stage.{Unborn, Reading, Installing, Writing}
-use Rattle.volume_model.specs.ClientPoints.{counted_by, reaching, raised, raised_group}
-use Rattle.volume_model.specs.ClientWriter.{Change, record_of}
+use Rattle.volume_model.specs.ClientPoints.{complete_of, consistency_point_below, counted_by, reaching, raised, raised_group}
+use Rattle.volume_model.specs.ClientWriter.{Change, issued, record_of}
 use Rattle.volume_model.specs.ClientRecovery.{has_installed, opened, writing}
 use Rattle.volume_model.specs.Points.{IsRaised}
-use Rattle.volume_model.specs.World.{World, Event, after, after_step, configuration_of, of_client, run}
+use Rattle.volume_model.specs.World.{World, Event, after, after_step, configuration_of, groups_joined, of_client, run}
 use Rattle.volume_model.specs.World.Event.{Open, Issue, Deliver, Take}
+use Rattle.volume_model.proofs.Basics.{any_from, put_at-all}
 use Rattle.volume_model.proofs.ClientSteps.{put-same}
 use Rattle.volume_model.proofs.FormulaLaws.{sat-own, sat_more}
 use Rattle.volume_model.proofs.Groups.{group_of-raised, length-raised, raised-keeps}
-use Rattle.volume_model.proofs.Invariant.{HasCut, IsMade, found_of, label, lineage_of, log_of}
+use Rattle.volume_model.proofs.Invariant.{HasCut, IsCopy, IsMade, found_of, label, lineage_of, log_of}
+use Rattle.volume_model.proofs.Kept.{IsWhole}
 use Rattle.volume_model.proofs.Logs.{IsChain, at_most_of_up_to}
 use Rattle.volume_model.proofs.Points.{group_point_is_greatest}
+use Rattle.volume_model.proofs.Ordered.{of_group-ordered, same_set}
+use Rattle.volume_model.proofs.Records.{of_group-from, of_group-has, with_record-from, with_record-has, with_record-keeps}
 use Rattle.volume_model.proofs.Renewed.{IsKeptWorld}
 use Rattle.volume_model.proofs.Run.{event_kept}
 use Rattle.volume_model.proofs.Sound.{facts, is_sound}
 use Rattle.progress.specs.Onward.{HasWriteSets}
-use Rattle.progress.proofs.Readable.{Reaches, every_below_true, reach_one}
+use Rattle.progress.proofs.Readable.{IsIn-kept, Reaches, delivered, every_below_true, has_number, reach_one, some_below_true}
+use Rattle.progress.proofs.Chained.{complete_up_to}
 use Rattle.progress.proofs.Counts.{reaching-lower}
 use Rattle.progress.proofs.Installing.{IsCounted, IsInstalled, IsReady, IsRecovering, at, epoch_at, is_member, place_at}
 
@@ -53,6 +59,13 @@ raised_are plan certified groups within there g n l h =
     let most : n ≤ is.number_written = is.greatest.at_least_each n h' in
     let p : (raised_group plan g (group_of groups g)).group_point ≡ max (group_of groups g).group_point is.number_written = is.point in
     subst (λ (k : ClientGroup). n ≤ k.group_point) (sym e) (subst (λ k. n ≤ k) (sym p) (omega arith))
+
+same_numbers-refl : (xs : List ℕ) → same_numbers xs xs ≡ true
+same_numbers-refl [] = refl
+same_numbers-refl (x ∷ xs) = and_from (x == x) (same_numbers xs xs) (eq-eqb x x refl) (same_numbers-refl xs)
+
+is_same-refl : (r : Redo) → is_same r r ≡ true
+is_same-refl r = same_numbers-refl (spelling r)
 
 -- the records up to a number have no greater one
 last_within : (n : ℕ) (log : List Redo) → IsChain log → last_lsn (up_to n log) ≤ n
@@ -163,3 +176,136 @@ module _ (plan : Plan) (claims : KeepsClaims plan) (certified : IsCertified plan
           let p : 0 < plan.born = certified.born_there in
           let e : length u.authority.configurations ≡ length now = ap length same in
           omega arith
+
+  -- ---- the first record
+
+  -- the record of the first change
+  abbrev pub first_record : Redo
+  first_record = record_of v (last_start line) records first_change true
+
+  -- the recovery has issued its first record, and the Write was made
+  pub record IsWriting (u : World) : Type 0 where
+    pub committing : IsCommitting u
+    pub log : (u.clients v).log ≡ first_record ∷ records
+    pub written : IsMade u (Write 0 (label v (epoch_at plan v now line records 0)) first_record)
+
+  issues : (u : World) → IsCommitting u → (u.clients v).log ≡ records → last_start line < 2 ^ 62 → 0 < length now
+      → (later : World) × Reaches plan u later × IsWriting later
+  issues u r log left first =
+      let client : Client = u.clients v in
+      let w : Place = place_at plan v now line records 0 in
+      let cut : HasCut u v = ap has_cut r.stage in
+      let within : last_lsn records ≤ last_start line =
+      subst (λ (c : List Redo). last_lsn c ≤ last_start line) r.found (subst (λ (c : Lineage). last_lsn client.found ≤ last_start c) r.lineage (found_within plan certified u r.in_run v cut)) in
+      let lal : 1 ≤ plan.lal = certified.lal_positive in
+      let many : 0 < length client.groups = (let g : length client.groups ≡ length now = r.groups in omega arith) in
+      let next : Client = record client { log = first_record ∷ records } in
+      let made : List Message = Write 0 (label v (epoch_at plan v now line records 0)) first_record ∷ [] in
+      let spent : nat_lt (2 ^ 62) (max (last_lsn records) (last_start line) + 1) ≡ false = le-ltb (2 ^ 62) (max (last_lsn records) (last_start line) + 1) (omega arith) in
+      let durable : ℕ = consistency_point_below (complete_of (group_point_of client.groups) records) records in
+      let limit : nat_lt (max durable (last_start line) + plan.lal) (max (last_lsn records) (last_start line) + 1) ≡ false =
+      le-ltb (max durable (last_start line) + plan.lal) (max (last_lsn records) (last_start line) + 1) (omega arith) in
+      let is : ◌≡◌ {A = ClientAnswer} (issued plan v client (first_change ∷ [])) (Ok (record { made = made; client = next })) =
+      rw (r.stage, r.lineage, log, lt-ltb 0 (length client.groups) many, r.joined 0 first, spent, limit, r.places 0 first) refl in
+      let e : after plan u (Issue v (first_change ∷ [])) ≡ record u { clients = put u.clients v next; messages = added made u.messages } = ap (λ a. after_step u (of_client u v a)) is in
+      let run_on : IsKeptWorld plan (after plan u (Issue v (first_change ∷ []))) = event_kept plan certified u r.in_run.kept (Issue v (first_change ∷ [])) in
+      let here : next ≡ put u.clients v next v = sym (put-same u.clients v next) in (
+        after plan u (Issue v (first_change ∷ [])),
+        reach_one plan u (Issue v (first_change ∷ [])),
+        subst IsWriting (sym e) (record {
+          committing = record {
+            in_run = subst (IsKeptWorld plan) e run_on;
+            configurations = r.configurations;
+            stage = ap (λ (c : Client). c.stage) (sym here) ∙ r.stage;
+            groups = ap (λ (c : Client). length c.groups) (sym here) ∙ r.groups;
+            places = λ g l. ap (λ (c : Client). place_of c.groups g) (sym here) ∙ r.places g l;
+            lineage = ap (λ (c : Client). c.lineage) (sym here) ∙ r.lineage;
+            found = ap (λ (c : Client). c.found) (sym here) ∙ r.found;
+            raised = subst (λ (c : Client). AreRaised plan c.groups) here r.raised;
+            counted = λ g x l member small. subst (λ (c : Client). reaching (counts_of c.groups g) (last_of_group g records) x ≡ true) here (r.counted g x l member small);
+            joined = λ g l. subst (λ (c : Client). (group_of c.groups g).joined ≡ true) here (r.joined g l);
+            installed = λ x member small. (let i : IsInstalled plan v now line records u 0 x = r.installed x member small in record { whole = i.whole; lineage = i.lineage; epoch = i.epoch });
+            volume = r.volume;
+          };
+          log = ap (λ (c : Client). c.log) (sym here);
+          written = inl refl;
+        }),
+      )
+
+  -- ---- one member takes the record, and the recovery counts its acknowledgement
+
+  -- The member acknowledges the record.
+  takes_record : (u : World) → IsWriting u → (x : ℕ) → is_member plan v now line records 0 x ≡ true → x < 64 → 0 < length now
+      → length (of_group 0 records) < most_records
+      → (later : World) × Reaches plan u later × IsWriting later × (later.clients v ≡ u.clients v)
+      × ((s : ℕ) × (first_record.lsn ≤ s) × IsMade later (Ack 0 (label v (epoch_at plan v now line records 0)) x s))
+  takes_record u writing x member small first room =
+      let r : IsCommitting u = writing.committing in
+      let node : Node = u.nodes 0 x in
+      let here : IsInstalled plan v now line records u 0 x = r.installed x member small in
+      let (in_plan, below) = conf_there u r.in_run r.configurations 0 first in
+      let known : IsWhole plan r.in_run.held u 0 x node = (r.in_run.kept.nodes 0 x in_plan).whole here.whole in
+      let copy : IsCopy u 0 node.contents = known.copy in
+      let cut : HasCut u v = ap has_cut r.stage in
+      let inside : (t : Redo) → IsIn t node.contents.records → IsIn t (first_record ∷ records) × (t.group ≡ 0) = λ t i. (
+      let both : IsIn t (log_of u (last_epoch node.contents.lineage)) × (t.group ≡ 0) = copy.records t i in
+      (subst (IsIn t) writing.log (subst (λ k. IsIn t (log_of u k)) here.lineage both.0), both.1)) in
+      let has : (t : Redo) → IsIn t records → t.group ≡ 0 → IsIn t node.contents.records = λ t i g.
+      copy.found t (subst (λ k. IsIn t (found_of u k)) (sym here.lineage) (subst (IsIn t) (sym r.found) i)) g in
+      let full : (not (holds_record first_record node.contents.records) && nat_le most_records (length node.contents.records)) ≡ false =
+      elim (cases_Bool (holds_record first_record node.contents.records)) [
+        | inl held ↦ rw held refl
+        | inr free ↦ (
+            let same : node.contents.records ≡ of_group 0 records = same_set node.contents.records (of_group 0 records) known.ordered (of_group-ordered 0 records)
+            (λ t i. elim (inside t i).0 [
+              | inl p ↦ absurd (true≢false (sym (any_from (is_same first_record) node.contents.records t i (subst (λ z. is_same first_record z ≡ true) (sym p) (is_same-refl first_record))) ∙ free))
+              | inr j ↦ of_group-has 0 records t j (inside t i).1
+            ])
+            (λ t i. (let both : IsIn t records × (t.group ≡ 0) = of_group-from 0 records t i in has t both.0 both.1)) in
+            and_right (not (holds_record first_record node.contents.records)) _ (lt-leb most_records (length node.contents.records) (subst (λ z. length z < most_records) (sym same) room)))
+      ] in
+      let all : List Redo = with_record first_record node.contents.records in
+      let ep : ℕ = epoch_at plan v now line records 0 in
+      let step : NodeStep = record { made = Ack 0 (label v ep) x (scl all) ∷ []; node = record node { contents = record { lineage = node.contents.lineage; records = all } } } in
+      let at_epoch : node.place.epoch ≡ ep = here.epoch in
+      let volume_below : node.volume ≤ v = r.volume x in
+      let is : ◌≡◌ {A = NodeAnswer} (reaction plan 0 x node (Write 0 (label v ep) first_record)) (Ok step) =
+      rw (le-ltb ep node.place.epoch (omega arith), le-ltb node.place.epoch ep (omega arith), here.whole, le-ltb v node.volume volume_below, eq-eqb (lineage_epoch node) v here.lineage, full) refl in
+      let (n, few, numbered_is) = has_number u.messages (Write 0 (label v ep) first_record) writing.written in
+      let there : 0 < groups_joined u.authority = subst (λ (cs : List ℕ). 0 < length cs) (sym r.configurations) first in
+      let named : is_named plan 0 x ≡ true = and_from (nat_lt 0 plan.groups) _ (lt-ltb 0 plan.groups in_plan)
+      (some_below_true (plan.configurations 0) (λ c. has_member (plan.configuration 0 c) x) (at plan v now line records 0) below member) in
+      let e : after plan u (Deliver 0 x n) ≡ record u { nodes = put_at u.nodes 0 x step.node; messages = added step.made u.messages } =
+      delivered plan u 0 x n (Write 0 (label v ep) first_record) step there named numbered_is is in
+      let run_on : IsKeptWorld plan (after plan u (Deliver 0 x n)) = event_kept plan certified u r.in_run.kept (Deliver 0 x n) in
+      let chain : IsChain (first_record ∷ records) = subst IsChain writing.log (facts plan certified u r.in_run.kept v cut).chain in
+      let reaches : first_record.lsn ≤ scl all = complete_up_to 0 all (first_record ∷ records) chain
+      (λ t i. elim (with_record-from first_record node.contents.records t i) [ inl p ↦ inl p | inr j ↦ (inside t j).0 ])
+      (λ t i g. elim i [ inl p ↦ subst (λ z. IsIn z all) (sym p) (with_record-has first_record node.contents.records) | inr j ↦ with_record-keeps first_record node.contents.records t (has t j g) ])
+      first_record (inl refl) refl in
+      let P : ℕ → ℕ → Node → Type 0 = λ k y n. k ≡ 0 → is_member plan v now line records 0 y ≡ true → y < 64 → (n.whole ≡ true) × (lineage_epoch n ≡ v) × (n.place.epoch ≡ ep) in
+      let still : (y : ℕ) → P 0 y (put_at u.nodes 0 x step.node 0 y) = put_at-all P u.nodes 0 x step.node (λ z m s. (here.whole, here.lineage, here.epoch))
+      (λ k y z m s. (let i : IsInstalled plan v now line records u 0 y = r.installed y m s in subst (λ j. ((u.nodes j y).whole ≡ true) × (lineage_epoch (u.nodes j y) ≡ v) × ((u.nodes j y).place.epoch ≡ ep)) (sym z) (i.whole, i.lineage, i.epoch))) 0 in (
+        after plan u (Deliver 0 x n),
+        reach_one plan u (Deliver 0 x n),
+        subst IsWriting (sym e) (record {
+          committing = record {
+            in_run = subst (IsKeptWorld plan) e run_on;
+            configurations = r.configurations;
+            stage = r.stage;
+            groups = r.groups;
+            places = r.places;
+            lineage = r.lineage;
+            found = r.found;
+            raised = r.raised;
+            counted = r.counted;
+            joined = r.joined;
+            installed = λ y m s. (let (w, l, p) = still y refl m s in record { whole = w; lineage = l; epoch = p });
+            volume = λ y. put_at-all (λ k z (n : Node). k ≡ 0 → n.volume ≤ v) u.nodes 0 x step.node (λ z. volume_below) (λ k z q. subst (λ j. (u.nodes j z).volume ≤ v) (sym q) (r.volume z)) 0 y refl;
+          };
+          log = writing.log;
+          written = IsIn-kept step.made u.messages _ writing.written;
+        }),
+        ap (λ (z : World). z.clients v) e,
+        (scl all, reaches, subst (λ z. IsMade z (Ack 0 (label v ep) x (scl all))) (sym e) (inl refl)),
+      )

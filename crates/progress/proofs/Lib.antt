@@ -4,4 +4,5 @@ pub mod Volumes
 pub mod Readable
 pub mod Installing
 pub mod Counts
+pub mod Chained
 pub mod Commits

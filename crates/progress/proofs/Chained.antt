@@ -1,0 +1,63 @@
+-- A segment that holds a group's part of a log is complete up to each record of it.
+use Rattle.std.proofs.Common.{◌≡◌, ℕ, ◌<◌, ◌≤◌, ◌==◌, if◌then◌else◌, ◌⊎◌, List, [], ◌∷◌, refl, sym, ap, ◌∙◌, subst, inl, inr, arith}
+use Rattle.std.proofs.lemmas.Bool.{cases_Bool, eqb-true}
+use Rattle.volume_model.specs.Lists.{IsIn}
+use Rattle.volume_model.specs.Redo.{Redo, last_lsn, last_of_group, scl}
+use Rattle.volume_model.specs.Grounded.{IsGrounded, IsGroundedNumber}
+use Rattle.volume_model.specs.Grounded.IsGrounded.{from_none, from_one}
+use Rattle.volume_model.specs.Greatest.{IsGreatest}
+use Rattle.volume_model.proofs.Grounded.{complete_point_is_greatest}
+use Rattle.volume_model.proofs.Logs.{IsChain, at_most_last}
+
+-- the number of a group's last record is 0, or that of a record of the group
+last_of_group-is : (group : ℕ) (log : List Redo) → (last_of_group group log ≡ 0) ⊎ ((r : Redo) × IsIn r log × (r.group ≡ group) × (last_of_group group log ≡ r.lsn))
+last_of_group-is group [] = inl refl
+last_of_group-is group (r ∷ older) =
+    elim (cases_Bool (r.group == group)) [
+      | inl e ↦ inr (r, inl refl, eqb-true r.group group e, (rw e refl))
+      | inr e ↦ elim (last_of_group-is group older) [
+        | inl z ↦ inl (rw e z)
+        | inr h ↦ inr (h.0, inr h.1, h.2, (rw e h.3))
+      ]
+    ]
+
+-- each record follows a smaller number of its group
+pub prev_group_below : (log : List Redo) → IsChain log → (r : Redo) → IsIn r log → r.prev_group < r.lsn
+prev_group_below [] c r i = absurd i
+prev_group_below (s ∷ older) c r (inr i) = prev_group_below older c.1 r i
+prev_group_below (s ∷ older) c r (inl p) =
+    let above : last_lsn older < s.lsn = c.0.above in
+    let link : s.prev_group ≡ last_of_group s.group older = c.0.group_link in
+    let here : s.prev_group < s.lsn = elim (last_of_group-is s.group older) [
+      | inl z ↦ (let e : s.prev_group ≡ 0 = link ∙ z in omega arith)
+      | inr h ↦ (let e : s.prev_group ≡ h.0.lsn = link ∙ h.3 in let l : h.0.lsn ≤ last_lsn older = at_most_last older c.1 h.0 h.1 in omega arith)
+    ] in
+    subst (λ (t : Redo). t.prev_group < t.lsn) (sym p) here
+
+module _ (group : ℕ) (all : List Redo) where
+  -- each record of the group in a log is grounded where all of them are held
+  grounded_log : (log : List Redo) → IsChain log → ((r : Redo) → IsIn r log → r.group ≡ group → IsIn r all) → (r : Redo) → IsIn r log → r.group ≡ group → IsGrounded all r
+  grounded_log [] c has r i g = absurd i
+  grounded_log (s ∷ older) c has r (inr i) g = grounded_log older c.1 (λ t j. has t (inr j)) r i g
+  grounded_log (s ∷ older) c has r (inl p) g =
+      let link : r.prev_group ≡ last_of_group group older = ap (λ (z : Redo). z.prev_group) p ∙ c.0.group_link ∙ ap (λ k. last_of_group k older) (ap (λ (z : Redo). z.group) (sym p) ∙ g) in
+      elim (last_of_group-is group older) [
+        | inl z ↦ from_none r (has r (inl p) g) (link ∙ z)
+        | inr h ↦ from_one r h.0 (has r (inl p) g) (grounded_log older c.1 (λ t j. has t (inr j)) h.0 h.1 h.2) (sym (link ∙ h.3))
+      ]
+
+  -- so the complete point is at least the LSN of each
+  pub complete_up_to : (log : List Redo) → IsChain log → ((r : Redo) → IsIn r all → IsIn r log) → ((r : Redo) → IsIn r log → r.group ≡ group → IsIn r all)
+      → (r : Redo) → IsIn r log → r.group ≡ group → r.lsn ≤ scl all
+  complete_up_to log c within has r i g =
+      let greatest : IsGreatest (IsGroundedNumber all) (scl all) = complete_point_is_greatest all (λ t j. prev_group_below log c t (within t j)) in
+      greatest.at_least_each r.lsn (r, grounded_log log c has r i g, refl)
+
+  -- and at least that of the last one
+  pub complete_up_to_last : (log : List Redo) → IsChain log → ((r : Redo) → IsIn r all → IsIn r log) → ((r : Redo) → IsIn r log → r.group ≡ group → IsIn r all)
+      → last_of_group group log ≤ scl all
+  complete_up_to_last log c within has =
+      elim (last_of_group-is group log) [
+        | inl z ↦ omega arith
+        | inr h ↦ (let l : h.0.lsn ≤ scl all = complete_up_to log c within has h.0 h.1 h.2 in let e : last_of_group group log ≡ h.0.lsn = h.3 in omega arith)
+      ]
