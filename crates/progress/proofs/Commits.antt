@@ -11,31 +11,34 @@ use Rattle.volume_model.specs.Plan.{Plan, IsCertified, has_member, is_named}
 use Rattle.volume_model.specs.Message.{Place, Message}
 use Rattle.volume_model.specs.Message.Message.{Write, Ack}
 use Rattle.volume_model.specs.Node.{Node, NodeAnswer, NodeStep, lineage_epoch, most_records, reaction}
-use Rattle.volume_model.specs.Client.{Client, ClientAnswer, ClientGroup, ClientStep, Stage, group_of, place_of, counts_of, group_point_of, has_cut, place_configuration}
+use Rattle.volume_model.specs.Client.{Client, ClientAnswer, ClientGroup, ClientStep, Stage, group_of, place_of, counts_of, group_point_of, has_cut, is_open, no_group, place_configuration, stays}
 use Rattle.volume_model.specs.Client.Stage.{Unborn, Reading, Installing, Writing}
-use Rattle.volume_model.specs.ClientPoints.{complete_of, consistency_point_below, counted_by, reaching, raised, raised_group}
+use Rattle.volume_model.specs.ClientPoints.{complete_of, consistency_point_below, counted_by, durable_point, is_consistency_point, reaching, raised, raised_group, with_count}
+use Rattle.volume_model.specs.ClientMessages.{taken}
+use Rattle.volume_model.specs.Headline.{Acknowledges}
 use Rattle.volume_model.specs.ClientWriter.{Change, issued, record_of}
 use Rattle.volume_model.specs.ClientRecovery.{has_installed, opened, writing}
-use Rattle.volume_model.specs.Points.{IsRaised}
+use Rattle.volume_model.specs.Points.{IsRaised, NumbersGrow}
 use Rattle.volume_model.specs.World.{World, Event, after, after_step, configuration_of, groups_joined, of_client, run}
 use Rattle.volume_model.specs.World.Event.{Open, Issue, Deliver, Take}
 use Rattle.volume_model.proofs.Basics.{any_from, put_at-all}
+use Rattle.volume_model.proofs.Chains.{last_of_group-above}
 use Rattle.volume_model.proofs.ClientSteps.{put-same}
 use Rattle.volume_model.proofs.FormulaLaws.{sat-own, sat_more}
-use Rattle.volume_model.proofs.Groups.{group_of-raised, length-raised, raised-keeps}
+use Rattle.volume_model.proofs.Groups.{group_of-raised, length-raised, length-slice_set, raised-keeps, set-all}
 use Rattle.volume_model.proofs.Invariant.{HasCut, IsCopy, IsMade, found_of, label, lineage_of, log_of}
 use Rattle.volume_model.proofs.Kept.{IsWhole}
 use Rattle.volume_model.proofs.Logs.{IsChain, at_most_of_up_to}
-use Rattle.volume_model.proofs.Points.{group_point_is_greatest}
+use Rattle.volume_model.proofs.Points.{all_complete, complete_greatest, group_point_is_greatest, grow_chain, is_point-from}
 use Rattle.volume_model.proofs.Ordered.{of_group-ordered, same_set}
 use Rattle.volume_model.proofs.Records.{of_group-from, of_group-has, with_record-from, with_record-has, with_record-keeps}
 use Rattle.volume_model.proofs.Renewed.{IsKeptWorld}
 use Rattle.volume_model.proofs.Run.{event_kept}
-use Rattle.volume_model.proofs.Sound.{facts, is_sound}
+use Rattle.volume_model.proofs.Sound.{cut_client, facts, is_sound}
 use Rattle.progress.specs.Onward.{HasWriteSets}
-use Rattle.progress.proofs.Readable.{IsIn-kept, Reaches, delivered, every_below_true, has_number, reach_one, some_below_true}
+use Rattle.progress.proofs.Readable.{IsIn-kept, Reaches, delivered, every_below_true, has_number, reach_none, reach_one, reach_then, set-here, some_below_true, took}
 use Rattle.progress.proofs.Chained.{complete_up_to}
-use Rattle.progress.proofs.Counts.{reaching-lower}
+use Rattle.progress.proofs.Counts.{reaching-keeps, reaching-lower, reaching-new}
 use Rattle.progress.proofs.Installing.{IsCounted, IsInstalled, IsReady, IsRecovering, at, epoch_at, is_member, place_at}
 
 -- the change of one byte, in block 0 of the first group
@@ -309,3 +312,155 @@ module _ (plan : Plan) (claims : KeepsClaims plan) (certified : IsCertified plan
         ap (λ (z : World). z.clients v) e,
         (scl all, reaches, subst (λ z. IsMade z (Ack 0 (label v ep) x (scl all))) (sym e) (inl refl)),
       )
+
+  -- The recovery counts the acknowledgement.
+  counts_ack : (u : World) → IsWriting u → (x s : ℕ) → x < 64 → 0 < length now → first_record.lsn ≤ s
+      → IsMade u (Ack 0 (label v (epoch_at plan v now line records 0)) x s)
+      → (later : World) × Reaches plan u later × IsWriting later
+      × ((n y : ℕ) → reaching (counts_of (u.clients v).groups 0) n y ≡ true → reaching (counts_of (later.clients v).groups 0) n y ≡ true)
+      × (reaching (counts_of (later.clients v).groups 0) first_record.lsn x ≡ true)
+  counts_ack u writing x s small first above made =
+      let r : IsCommitting u = writing.committing in
+      let client : Client = u.clients v in
+      let ep : ℕ = epoch_at plan v now line records 0 in
+      let old : ClientGroup = group_of client.groups 0 in
+      let counted : ClientGroup = record old { counts = with_count x s old.counts } in
+      let set : List ClientGroup = slice_set client.groups 0 counted in
+      let next : Client = record client { groups = raised plan set } in
+      let count : length client.groups ≡ length now = r.groups in
+      let inside : 0 < length client.groups = omega arith in
+      let (in_plan, below) = conf_there u r.in_run r.configurations 0 first in
+      let at_epoch : old.place.epoch ≡ ep = ap (λ (p : Place). p.epoch) (r.places 0 first) in
+      let is : ◌≡◌ {A = ClientAnswer} (taken plan v client (Ack 0 (label v ep) x s)) (Ok (stays next)) =
+      rw (eq-eqb v v refl, lt-ltb 0 plan.groups in_plan, lt-ltb x 64 small, r.stage, le-leb ep old.place.epoch (omega arith)) refl in
+      let (n, few, found) = has_number u.messages (Ack 0 (label v ep) x s) made in
+      let e : after plan u (Take v n) ≡ record u { clients = put u.clients v next; messages = u.messages } = took plan u v n (Ack 0 (label v ep) x s) (stays next) found is in
+      let run_on : IsKeptWorld plan (after plan u (Take v n)) = event_kept plan certified u r.in_run.kept (Take v n) in
+      let here : next ≡ put u.clients v next v = sym (put-same u.clients v next) in
+      let long : length set ≡ length client.groups = length-slice_set client.groups 0 counted in
+      let same_place : (k : ℕ) → place_of set k ≡ place_of client.groups k = set-all no_group (λ j group. group.place ≡ place_of client.groups j) client.groups 0 counted refl (λ j. refl) in
+      let keeps : (k n y : ℕ) → reaching (counts_of client.groups k) n y ≡ true → reaching (counts_of set k) n y ≡ true = λ k n y.
+      set-all no_group (λ j group. reaching (counts_of client.groups j) n y ≡ true → reaching group.counts n y ≡ true) client.groups 0 counted (reaching-keeps x s old.counts n y) (λ j h. h) k in
+      let joins : (k : ℕ) → (group_of client.groups k).joined ≡ true → (group_of set k).joined ≡ true =
+      set-all no_group (λ j group. (group_of client.groups j).joined ≡ true → group.joined ≡ true) client.groups 0 counted (λ h. h) (λ j h. h) in
+      let keeps_on : (k n y : ℕ) → reaching (counts_of client.groups k) n y ≡ true → reaching (counts_of next.groups k) n y ≡ true = λ k n y h.
+      subst (λ counts. reaching counts n y ≡ true) (sym (raised-keeps (λ g. g.counts) (λ p j g. refl) plan set k)) (keeps k n y h) in
+      let new : reaching (counts_of next.groups 0) first_record.lsn x ≡ true =
+      subst (λ counts. reaching counts first_record.lsn x ≡ true) (sym (raised-keeps (λ g. g.counts) (λ p j g. refl) plan set 0))
+      (subst (λ (g : ClientGroup). reaching g.counts first_record.lsn x ≡ true) (sym (set-here client.groups 0 counted inside)) (reaching-new x s old.counts first_record.lsn above)) in
+      let w : length u.authority.configurations ≤ plan.groups = r.in_run.kept.authority.within in
+      let many : length u.authority.configurations ≡ length now = ap length r.configurations in
+      let raised_now : AreRaised plan (raised plan set) = raised_are plan certified set (omega arith)
+      (λ g l. (
+      let there : g < length now = omega arith in
+      subst (λ (p : Place). p.configuration < plan.configurations g) (sym (same_place g ∙ r.places g there)) (conf_there u r.in_run r.configurations g there).1)) in (
+        after plan u (Take v n),
+        reach_one plan u (Take v n),
+        subst IsWriting (sym e) (record {
+          committing = record {
+            in_run = subst (IsKeptWorld plan) e run_on;
+            configurations = r.configurations;
+            stage = ap (λ (c : Client). c.stage) (sym here) ∙ r.stage;
+            groups = ap (λ (c : Client). length c.groups) (sym here) ∙ length-raised plan set ∙ long ∙ r.groups;
+            places = λ g l. ap (λ (c : Client). place_of c.groups g) (sym here) ∙ raised-keeps (λ k. k.place) (λ p k g. refl) plan set g ∙ same_place g ∙ r.places g l;
+            lineage = ap (λ (c : Client). c.lineage) (sym here) ∙ r.lineage;
+            found = ap (λ (c : Client). c.found) (sym here) ∙ r.found;
+            raised = subst (λ (c : Client). AreRaised plan c.groups) here raised_now;
+            counted = λ g y l member below. subst (λ (c : Client). reaching (counts_of c.groups g) (last_of_group g records) y ≡ true) here (keeps_on g (last_of_group g records) y (r.counted g y l member below));
+            joined = λ g l. subst (λ (c : Client). (group_of c.groups g).joined ≡ true) here
+                (let within : g < length set = omega arith in
+                subst (λ (k : ClientGroup). k.joined ≡ true) (sym (group_of-raised plan set g within)) (or_left (group_of set g).joined _ (joins g (r.joined g l))));
+            installed = λ y member below. (let i : IsInstalled plan v now line records u 0 y = r.installed y member below in record { whole = i.whole; lineage = i.lineage; epoch = i.epoch });
+            volume = r.volume;
+          };
+          log = ap (λ (c : Client). c.log) (sym here) ∙ writing.log;
+          written = writing.written;
+        }),
+        subst (λ (z : World). (n y : ℕ) → reaching (counts_of client.groups 0) n y ≡ true → reaching (counts_of (z.clients v).groups 0) n y ≡ true) (sym e)
+            (λ m y h. subst (λ (c : Client). reaching (counts_of c.groups 0) m y ≡ true) here (keeps_on 0 m y h)),
+        subst (λ (z : World). reaching (counts_of (z.clients v).groups 0) first_record.lsn x ≡ true) (sym e) (subst (λ (c : Client). reaching (counts_of c.groups 0) first_record.lsn x ≡ true) here new),
+      )
+
+  -- the members of the first group below a number have acknowledged the record
+  abbrev pub HaveAcked : World → ℕ → Type 0
+  HaveAcked u most = (x : ℕ) → x < most → is_member plan v now line records 0 x ≡ true → reaching (counts_of (u.clients v).groups 0) first_record.lsn x ≡ true
+
+  all_ack : (u : World) → IsWriting u → 0 < length now → length (of_group 0 records) < most_records → (most : ℕ) → most ≤ 64
+      → (later : World) × Reaches plan u later × IsWriting later × HaveAcked later most
+  all_ack u writing first room zero few = (u, reach_none plan u, writing, (λ x none m. absurd (omega arith)))
+  all_ack u writing first room (suc most) few =
+      let (a, ua, wa, ha) = all_ack u writing first room most (omega arith) in
+      elim (cases_Bool (is_member plan v now line records 0 most)) [
+        | inl member ↦ (
+            let (b, ab, wb, same, (s, above, made)) = takes_record a wa most member (omega arith) first room in
+            let (c, bc, wc, keeps, new) = counts_ack b wb most s (omega arith) first above made in (
+              c,
+              reach_then plan u b c (reach_then plan u a b ua ab) bc,
+              wc,
+              (λ x l m. elim (cases_lt x most) [
+                | inl lower ↦ keeps first_record.lsn x (subst (λ (k : Client). reaching (counts_of k.groups 0) first_record.lsn x ≡ true) (sym same) (ha x lower m))
+                | inr last ↦ (let e : x ≡ most = omega arith in subst (λ k. reaching (counts_of (c.clients v).groups 0) first_record.lsn k ≡ true) (sym e) new)
+              ]),
+            ))
+        | inr other ↦ (
+          a,
+          ua,
+          wa,
+          (λ x l m. elim (cases_lt x most) [
+            | inl lower ↦ ha x lower m
+            | inr last ↦ (let e : x ≡ most = omega arith in absurd (true≢false (sym m ∙ ap (is_member plan v now line records 0) e ∙ other)))
+          ]),
+        )
+      ]
+
+  -- ---- the commit
+
+  commits : (u : World) → IsWriting u → 0 < length now → HaveAcked u 64 → Acknowledges u v first_record.lsn
+  commits u writing first acked =
+      let r : IsCommitting u = writing.committing in
+      let client : Client = u.clients v in
+      let cut : HasCut u v = ap has_cut r.stage in
+      let count : length client.groups ≡ length now = r.groups in
+      let chain : IsChain (first_record ∷ records) = subst IsChain writing.log (facts plan certified u r.in_run.kept v cut).chain in
+      let point_of : (g n : ℕ) → g < length now → ((x : ℕ) → is_member plan v now line records g x ≡ true → x < 64 → reaching (counts_of client.groups g) n x ≡ true) → n ≤ group_point_of client.groups g = λ g n l h. (
+      let (in_plan, below) = conf_there u r.in_run r.configurations g l in
+      r.raised g n (omega arith) (subst (λ (p : Place). sat (place_configuration plan g p).write (reaching (counts_of client.groups g) n) ≡ true) (sym (r.places g l))
+      (all_write g (at plan v now line records g) in_plan below (reaching (counts_of client.groups g) n) h))) in
+      let first_point : first_record.lsn ≤ group_point_of client.groups 0 = point_of 0 first_record.lsn first (λ x m small. acked x small m) in
+      let covered : (t : Redo) → IsIn t (first_record ∷ records) → t.lsn ≤ group_point_of client.groups t.group = λ t i. elim i [
+        | inl p ↦ subst (λ (z : Redo). z.lsn ≤ group_point_of client.groups z.group) (sym p) first_point
+        | inr j ↦ (
+            let there : t.group < length client.groups = (cut_client plan certified u r.in_run.kept v cut).found_there t (subst (IsIn t) (sym r.found) j) in
+            let l : t.lsn ≤ last_of_group t.group records = last_of_group-above t.group records chain.1 t j refl in
+            let p : last_of_group t.group records ≤ group_point_of client.groups t.group = point_of t.group (last_of_group t.group records) (omega arith) (λ x m small. r.counted t.group x (omega arith) m small) in
+            omega arith)
+      ] in
+      let grows : NumbersGrow (first_record ∷ records) = grow_chain (first_record ∷ records) chain in
+      let complete : complete_of (group_point_of client.groups) (first_record ∷ records) ≡ first_record.lsn =
+      all_complete (group_point_of client.groups) (first_record ∷ records) grows (complete_greatest (group_point_of client.groups) (first_record ∷ records) grows) covered in
+      let point : is_consistency_point first_record.lsn (first_record ∷ records) ≡ true = is_point-from first_record.lsn (first_record ∷ records) first_record (inl refl) refl refl in
+      let durable : consistency_point_below first_record.lsn (first_record ∷ records) ≡ first_record.lsn = rw (le-leb first_record.lsn first_record.lsn (omega arith)) refl in
+      let durable_is : durable_point client ≡ first_record.lsn =
+      ap (λ (log : List Redo). consistency_point_below (complete_of (group_point_of client.groups) log) log) writing.log
+      ∙ ap (λ n. consistency_point_below n (first_record ∷ records)) complete ∙ durable in
+      let is_open_now : is_open client.stage ≡ true = ap is_open r.stage in
+      let point_now : is_consistency_point first_record.lsn client.log ≡ true = subst (λ (log : List Redo). is_consistency_point first_record.lsn log ≡ true) (sym writing.log) point in
+      and_from (is_open client.stage) _ is_open_now
+      (and_from (is_consistency_point first_record.lsn client.log) _ point_now (le-leb first_record.lsn (durable_point client) (omega (arith, durable_is))))
+
+  -- From members that are ready some events lead to a commit above the recovery's start.
+  pub ready_commits : (u : World) → IsRecovering plan v now line records u
+      → ((g x : ℕ) → g < length now → is_member plan v now line records g x ≡ true → x < 64 → IsReady plan v now line records u g x)
+      → last_start line < 2 ^ 62 → length (of_group 0 records) < most_records
+      → (more : List Event) × (n : ℕ) × (last_start line < n) × Acknowledges (run plan u more) v n
+  ready_commits u r ready left room =
+      let first : 0 < length now = (
+      let b : plan.born ≤ length u.authority.configurations = r.in_run.kept.authority.born in
+      let p : 0 < plan.born = certified.born_there in
+      let e : length u.authority.configurations ≡ length now = ap length r.configurations in
+      omega arith) in
+      let (a, ua, ra, log) = opens u r ready in
+      let (b, ab, wb) = issues a ra log left first in
+      let (c, bc, wc, acked) = all_ack b wb first room 64 (omega arith) in
+      let (more, is) = reach_then plan u b c (reach_then plan u a b ua ab) bc in
+      (more, first_record.lsn, omega arith, subst (λ z. Acknowledges z v first_record.lsn) (sym is) (commits c wc first acked))
