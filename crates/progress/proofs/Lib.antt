@@ -6,3 +6,4 @@ pub mod Installing
 pub mod Counts
 pub mod Chained
 pub mod Commits
+pub mod WriteSets
