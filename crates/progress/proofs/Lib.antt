@@ -7,3 +7,5 @@ pub mod Counts
 pub mod Chained
 pub mod Commits
 pub mod WriteSets
+pub mod Members
+pub mod Onward

@@ -1,5 +1,5 @@
 -- A volume whose groups can be read goes on: some events lead the next recovery to a commit of its own.
-use Rattle.std.specs.Prelude.{◌≡◌, ℕ, suc, ◌+◌, ◌^◌, ◌<◌, ◌≤◌, ◌⊎◌, true, List, Err, length}
+use Rattle.std.specs.Prelude.{◌≡◌, ℕ, suc, ◌+◌, ◌*◌, ◌^◌, ◌<◌, ◌≤◌, ◌⊎◌, true, List, Err, length}
 use Rattle.volume_model.specs.Claims.{KeepsClaims}
 use Rattle.volume_model.specs.Formula.{sat}
 use Rattle.volume_model.specs.Redo.{of_group}
@@ -19,13 +19,13 @@ HasWriteSets plan = (group c : ℕ) → group < plan.groups → c < plan.configu
     → sat (plan.configuration group c).write (has_member (plan.configuration group c)) ≡ true
 
 -- What is left to a recovery that has cut: an LSN above its start; room in each group's segments for the log found, and
--- for a record more in those of the first group; and 64 copies that each node may still make.
+-- for a record more in those of the first group; and 64 copies for each group that each node may still make.
 pub record HasRoom (world : World) (volume : ℕ) : Type 0 where
   pub lsn : last_start (world.clients volume).lineage < 2 ^ 62
   pub fits : (group : ℕ) → group < groups_joined world.authority
       → length (of_group group (world.clients volume).found) ≤ most_records
   pub one_more : length (of_group 0 (world.clients volume).found) < most_records
-  pub copies : (group x : ℕ) → (world.nodes group x).copied + 64 ≤ most_copies
+  pub copies : (group x : ℕ) → (world.nodes group x).copied + 64 * groups_joined world.authority ≤ most_copies
 
 -- some events lead the client of a volume epoch to acknowledge a commit of its own
 abbrev pub CommitsLater : Plan → World → ℕ → Type 0
