@@ -3,6 +3,9 @@ pub mod Lost
 pub mod Volumes
 pub mod Readable
 pub mod Installing
+pub mod Asked
+pub mod Copies
+pub mod Hydrating
 pub mod Counts
 pub mod Chained
 pub mod Commits
