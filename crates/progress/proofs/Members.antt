@@ -8,6 +8,7 @@ use Rattle.volume_model.specs.Plan.{Plan, has_member}
 use Rattle.volume_model.specs.Node.{most_copies, most_records}
 use Rattle.volume_model.specs.World.{World}
 use Rattle.progress.proofs.Readable.{Reaches, reach_none, reach_then}
+use Rattle.progress.proofs.Asked.{HasWholeRoots}
 use Rattle.progress.proofs.Installing.{CanCopy, IsInstalling, IsReady, KeepsReady, at, is_member}
 
 module _ (plan : Plan) (v : ℕ) (now : List ℕ) (line : Lineage) (records : List Redo) where
@@ -37,7 +38,7 @@ module _ (plan : Plan) (v : ℕ) (now : List ℕ) (line : Lineage) (records : Li
 
   -- a member that isn't whole becomes whole by the copies of a read set of ready ones
   abbrev pub HydratesOne : Type 0
-  HydratesOne = (u : World) → Installing u → (g x : ℕ) → g < length now → member g x ≡ true → x < 64
+  HydratesOne = (u : World) → Installing u → HasWholeRoots plan u → (g x : ℕ) → g < length now → member g x ≡ true → x < 64
       → (u.nodes g x).whole ≡ false → length (of_group g records) ≤ most_records
       → (S : Members) → ((y : ℕ) → S y ≡ true → (y < 64) × (member g y ≡ true) × Ready u g y)
       → sat (plan.configuration g (at plan v now line records g)).read S ≡ true
@@ -109,29 +110,29 @@ module _ (plan : Plan) (v : ℕ) (now : List ℕ) (line : Lineage) (records : Li
     MembersReady u g most = (x : ℕ) → x < most → member g x ≡ true → Ready u g x
 
     -- one member, whole or not, if the readers of its group are ready
-    one_member : (g : ℕ) → g < length now → (x : ℕ) → x < 64 → member g x ≡ true → (u : World) → Installing u → ReadersReady u g 64 → (n : ℕ) → CanCopy u (suc n)
+    one_member : (g : ℕ) → g < length now → (x : ℕ) → x < 64 → member g x ≡ true → (u : World) → Installing u → HasWholeRoots plan u → ReadersReady u g 64 → (n : ℕ) → CanCopy u (suc n)
         → (later : World) × Reaches plan u later × Installing later × Keeps u later × CanCopy later n × Ready later g x
-    one_member g l x small own u i ready n left =
+    one_member g l x small own u i roots ready n left =
         elim (cases_Bool (u.nodes g x).whole) [
           | inl whole ↦ (
               let (c, uc, ic, kc, cx, rc) = installs u i g x l own small whole (fits g l) in
               (c, uc, ic, kc, (λ h y. (let k : (c.nodes h y).copied + suc n ≤ most_copies = cx (suc n) left h y in omega arith)), rc))
           | inr fresh ↦ (
-              let (a, ua, ia, ka, ca, whole) = hydrates u i g x l own small fresh (fits g l) (readers g)
+              let (a, ua, ia, ka, ca, whole) = hydrates u i roots g x l own small fresh (fits g l) (readers g)
               (λ y h. (let (low, mine, w) = readers_are g y h in (low, mine, ready y low h))) (reads g l) n left in
               let (c, ac, ic, kc, cx, rc) = installs a ia g x l own small whole (fits g l) in
               (c, reach_then plan u a c ua ac, ic, keeps_then u a c ka kc, cx n ca, rc))
         ]
 
-    group_members : (g : ℕ) → g < length now → (most : ℕ) → most ≤ 64 → (u : World) → Installing u → ReadersReady u g 64 → (n : ℕ) → CanCopy u (most + n)
+    group_members : (g : ℕ) → g < length now → (most : ℕ) → most ≤ 64 → (u : World) → Installing u → HasWholeRoots plan u → ReadersReady u g 64 → (n : ℕ) → CanCopy u (most + n)
         → (later : World) × Reaches plan u later × Installing later × Keeps u later × CanCopy later n × MembersReady later g most
-    group_members g l zero few u i ready n left = (u, reach_none plan u, i, keeps_none u, (λ h y. (let k : (u.nodes h y).copied + (0 + n) ≤ most_copies = left h y in omega arith)), (λ x none h. absurd (omega arith)))
-    group_members g l (suc most) few u i ready n left =
-        let (a, ua, ia, ka, ca, ra) = group_members g l most (omega arith) u i ready (suc n)
+    group_members g l zero few u i roots ready n left = (u, reach_none plan u, i, keeps_none u, (λ h y. (let k : (u.nodes h y).copied + (0 + n) ≤ most_copies = left h y in omega arith)), (λ x none h. absurd (omega arith)))
+    group_members g l (suc most) few u i roots ready n left =
+        let (a, ua, ia, ka, ca, ra) = group_members g l most (omega arith) u i roots ready (suc n)
         (λ h y. (let k : (u.nodes h y).copied + (suc most + n) ≤ most_copies = left h y in omega arith)) in
         elim (cases_Bool (member g most)) [
           | inl own ↦ (
-              let (c, ac, ic, kc, cx, rc) = one_member g l most (omega arith) own a ia (λ y low h. ka.ready g y (ready y low h)) n ca in (
+              let (c, ac, ic, kc, cx, rc) = one_member g l most (omega arith) own a ia (λ h y r. ka.whole h y (roots h y r)) (λ y low h. ka.ready g y (ready y low h)) n ca in (
                 c,
                 reach_then plan u a c ua ac,
                 ic,
@@ -155,13 +156,13 @@ module _ (plan : Plan) (v : ℕ) (now : List ℕ) (line : Lineage) (records : Li
           )
         ]
 
-    all_members : (most : ℕ) → most ≤ length now → (u : World) → Installing u → ((g : ℕ) → g < length now → ReadersReady u g 64) → (n : ℕ) → CanCopy u (64 * most + n)
+    all_members : (most : ℕ) → most ≤ length now → (u : World) → Installing u → HasWholeRoots plan u → ((g : ℕ) → g < length now → ReadersReady u g 64) → (n : ℕ) → CanCopy u (64 * most + n)
         → (later : World) × Reaches plan u later × Installing later × Keeps u later × CanCopy later n × ((g : ℕ) → g < most → MembersReady later g 64)
-    all_members zero few u i ready n left = (u, reach_none plan u, i, keeps_none u, (λ h y. (let k : (u.nodes h y).copied + (64 * 0 + n) ≤ most_copies = left h y in omega arith)), (λ g none. absurd (omega arith)))
-    all_members (suc most) few u i ready n left =
-        let (a, ua, ia, ka, ca, ra) = all_members most (omega arith) u i ready (64 + n)
+    all_members zero few u i roots ready n left = (u, reach_none plan u, i, keeps_none u, (λ h y. (let k : (u.nodes h y).copied + (64 * 0 + n) ≤ most_copies = left h y in omega arith)), (λ g none. absurd (omega arith)))
+    all_members (suc most) few u i roots ready n left =
+        let (a, ua, ia, ka, ca, ra) = all_members most (omega arith) u i roots ready (64 + n)
         (λ h y. (let k : (u.nodes h y).copied + (64 * suc most + n) ≤ most_copies = left h y in omega arith)) in
-        let (c, ac, ic, kc, cx, rc) = group_members most (omega arith) 64 (omega arith) a ia (λ y low h. ka.ready most y (ready most (omega arith) y low h)) n ca in (
+        let (c, ac, ic, kc, cx, rc) = group_members most (omega arith) 64 (omega arith) a ia (λ h y r. ka.whole h y (roots h y r)) (λ y low h. ka.ready most y (ready most (omega arith) y low h)) n ca in (
           c,
           reach_then plan u a c ua ac,
           ic,
@@ -174,10 +175,10 @@ module _ (plan : Plan) (v : ℕ) (now : List ℕ) (line : Lineage) (records : Li
         )
 
     -- From a world that keeps what b had, each member of each group is made ready.
-    pub everyone_ready : Installing b → CanCopy b (64 * length now)
+    pub everyone_ready : Installing b → HasWholeRoots plan b → CanCopy b (64 * length now)
         → (later : World) × Reaches plan b later × Installing later × ((g x : ℕ) → g < length now → member g x ≡ true → x < 64 → Ready later g x)
-    everyone_ready i left =
+    everyone_ready i roots left =
         let (a, ba, ia, ka, ca, ra) = all_readers (length now) (omega arith) b i (keeps_none b) in
-        let (c, ac, ic, kc, cx, rc) = all_members (length now) (omega arith) a ia (λ g l. ra g l) 0
+        let (c, ac, ic, kc, cx, rc) = all_members (length now) (omega arith) a ia (λ h y r. ka.whole h y (roots h y r)) (λ g l. ra g l) 0
         (λ h y. (let k : (a.nodes h y).copied + 64 * length now ≤ most_copies = ca (64 * length now) left h y in omega arith)) in
         (c, reach_then plan b a c ba ac, ic, (λ g x l own small. rc g l x small own))

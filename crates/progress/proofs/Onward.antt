@@ -1,6 +1,6 @@
 -- A volume whose groups can be read goes on.
-use Rattle.std.proofs.Common.{◌≡◌, ℕ, suc, ◌+◌, ◌*◌, ◌<◌, ◌≤◌, ◌^◌, Bool, true, false, ◌&&◌, nat_lt, List, [], ◌∷◌, ◌++◌, Ok, Err, length, refl, sym, ap, ◌∙◌, subst, inl, inr, arith}
-use Rattle.std.proofs.lemmas.Bool.{and_parts, ltb-true}
+use Rattle.std.proofs.Common.{◌≡◌, ℕ, suc, ◌+◌, ◌*◌, ◌<◌, ◌≤◌, ◌^◌, Bool, true, false, ◌&&◌, ◌==◌, nat_lt, List, [], ◌∷◌, ◌++◌, Ok, Err, length, refl, sym, ap, ◌∙◌, subst, inl, inr, arith}
+use Rattle.std.proofs.lemmas.Bool.{cases_Bool, and_parts, eqb-false, eqb-true, ltb-true}
 use Rattle.volume_model.specs.Claims.{KeepsClaims}
 use Rattle.volume_model.specs.Formula.{Members, sat}
 use Rattle.volume_model.specs.Redo.{Redo, of_group}
@@ -20,9 +20,29 @@ use Rattle.progress.specs.Waiting.{CanBeRead, whole_in}
 use Rattle.progress.specs.Onward.{CommitsLater, GoesOn, HasRoom, HasWriteSets}
 use Rattle.progress.proofs.Volumes.{VolumesKnown}
 use Rattle.progress.proofs.Readable.{HasPlace, HasStep, IsReading, Reaches, all_heard, begins, can_cut, reach_one, reach_then, reads_members}
+use Rattle.progress.proofs.Asked.{HasWholeRoots}
 use Rattle.progress.proofs.Installing.{CanCopy, IsInstalling, IsRecovering}
+use Rattle.progress.proofs.Hydrating.{hydrated_from}
 use Rattle.progress.proofs.Members.{HydratesOne, InstallsOne, everyone_ready}
 use Rattle.progress.proofs.Commits.{ready_commits}
+
+-- A member that isn't whole becomes whole, and one copy of each node is used up.
+hydrates_one : (plan : Plan) → IsCertified plan → (v : ℕ) (now : List ℕ) (line : Lineage) (records : List Redo) → last_epoch line ≡ v → HydratesOne plan v now line records
+hydrates_one plan certified v now line records head u i roots g x l own small fresh fits readers ready reads n left =
+    let (later, reached, installing, keeps, here, elsewhere, is) = hydrated_from plan certified v now line records head u i roots g x l own fresh fits readers ready reads n (left g) in (
+      later,
+      reached,
+      installing,
+      keeps,
+      (λ h y. elim (cases_Bool (h == g)) [
+        | inl same ↦ subst (λ k. (later.nodes k y).copied + n ≤ most_copies) (sym (eqb-true h g same)) (here y)
+        | inr other ↦ (
+            let e : (later.nodes h y).copied ≡ (u.nodes h y).copied = elsewhere h y (eqb-false h g other) in
+            let s : (u.nodes h y).copied + suc n ≤ most_copies = left h y in
+            omega arith)
+      ]),
+      is.whole,
+    )
 
 module _ (plan : Plan) (claims : KeepsClaims plan) (certified : IsCertified plan) (writes : HasWriteSets plan) (world : World) (known : IsKeptWorld plan world) (volumes : VolumesKnown world)
     (placed : (g x : ℕ) → HasPlace g x (world.nodes g x)) (steps : (g : ℕ) → HasStep plan world g) (left : world.authority.last_volume < 4294967295) where
@@ -44,8 +64,7 @@ module _ (plan : Plan) (claims : KeepsClaims plan) (certified : IsCertified plan
   CutsInto = (u : World) → IsReading plan certified world known volumes placed steps left u → Reaches plan world u → (step : ClientStep)
       → ◌≡◌ {A = ClientAnswer} (cut_client plan v (u.clients v)) (Ok step) → IsCutOf u
 
-  module _ (cuts : CutsInto) (installs : (line : Lineage) (records : List Redo) → last_epoch line ≡ v → InstallsOne plan v now line records)
-      (hydrates : (line : Lineage) (records : List Redo) → last_epoch line ≡ v → HydratesOne plan v now line records)
+  module _ (roots : HasWholeRoots plan world) (cuts : CutsInto) (installs : (line : Lineage) (records : List Redo) → last_epoch line ≡ v → InstallsOne plan v now line records)
       (readable : (g : ℕ) → g < groups_joined world.authority → CanBeRead plan world g) where
     -- the group's whole members, as far as its configuration has them
     abbrev readers : ℕ → Members
@@ -65,10 +84,10 @@ module _ (plan : Plan) (claims : KeepsClaims plan) (certified : IsCertified plan
         let (m, s) = and_parts (has_member (plan.configuration g (configuration_of world.authority g)) y) (nat_lt y 64) rest in
         (w, m, s)) in
         let copies : CanCopy b (64 * length now) = λ g x. subst (λ k. (b.nodes g x).copied + 64 * k ≤ most_copies) long (room.copies g x) in
-        let (c, bc, ic, ready) = everyone_ready plan v now cut.line cut.records (installs cut.line cut.records cut.head) (hydrates cut.line cut.records cut.head) fits b readers
+        let (c, bc, ic, ready) = everyone_ready plan v now cut.line cut.records (installs cut.line cut.records cut.head) (hydrates_one plan certified v now cut.line cut.records cut.head) fits b readers
         (λ g y h. (let (w, m, s) = parts g y h in (ltb-true y 64 s, m, ap (λ (n : Node). n.whole) (cut.nodes g y) ∙ r.whole g y w)))
         (λ g l. reads_members plan claims g (configuration_of world.authority g) (whole_in world g) (in_plan g l) (known.kept.authority.there g (in_plan g l)) (readable g l))
-        cut.installing copies in
+        cut.installing (λ g y h. ap (λ (n : Node). n.whole) (cut.nodes g y) ∙ r.whole g y (roots g y h)) copies in
         let (more, n, above, acknowledged) = ready_commits plan claims certified writes v now cut.line cut.records c ic.recovering ready
         (subst (λ (z : Lineage). last_start z < 2 ^ 62) i.lineage room.lsn) (subst (λ z. length (of_group 0 z) < most_records) i.found room.one_more) in
         let (all, is) = reach_then plan b c (run plan c more) bc (more, refl) in
