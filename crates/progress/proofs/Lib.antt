@@ -12,3 +12,6 @@ pub mod Commits
 pub mod WriteSets
 pub mod Members
 pub mod Onward
+pub mod Started
+pub mod Installs
+pub mod Cutting
