@@ -44,6 +44,7 @@ module _ (q : Contents) (of v : ℕ) where
   first_kept zero = []
   first_kept (suc k) = first_kept k ++ record { number = k; contents = piece_of q k } ∷ []
 
+  -- the first k pieces, as those of series v
   abbrev pub first_pieces : ℕ → Pieces
   first_pieces k = record { series = v; of = of; kept = first_kept k }
 
@@ -162,6 +163,7 @@ module _ (plan : Plan) (certified : IsCertified plan) (v : ℕ) (now : List ℕ)
   abbrev epoch : ℕ → ℕ
   epoch g = epoch_at plan v now line records g
 
+  -- a group that has joined is one of the plan
   in_plan : (u : World) → IsRecovering plan v now line records u → (g : ℕ) → g < length now → g < plan.groups
   in_plan u r g l =
       let w : groups_joined u.authority ≤ plan.groups = r.in_run.kept.authority.within in
@@ -186,6 +188,7 @@ module _ (plan : Plan) (certified : IsCertified plan) (v : ℕ) (now : List ℕ)
     nodes : (h y : ℕ) → w.nodes h y ≡ put_at u.nodes g x (w.nodes g x) h y
     copied : (w.nodes g x).copied ≡ (u.nodes g x).copied
 
+  -- no delivery changes nothing
   changes_none : (u : World) → IsRecovering plan v now line records u → (g x : ℕ) → Changes u u g x
   changes_none u r g x = record {
     reach = reach_none plan u;
@@ -270,6 +273,7 @@ module _ (plan : Plan) (certified : IsCertified plan) (v : ℕ) (now : List ℕ)
   abbrev whole_log : ℕ → Contents
   whole_log g = to_install line records g
 
+  -- the number of its pieces
   abbrev pieces_at : ℕ → ℕ
   pieces_at g = pieces_of (length (of_group g records))
 
@@ -317,6 +321,7 @@ module _ (plan : Plan) (certified : IsCertified plan) (v : ℕ) (now : List ℕ)
     unstarted : IsUnstarted plan v now line records (w.nodes g x)
     acked : IsMade w (Ack g (label v (epoch g)) x (scl (w.nodes g x).contents.records))
 
+  -- a node that keeps no install keeps no piece of the recovery's
   none_kept : (node : Node) → node.install ≡ None → IsUnstarted plan v now line records node
   none_kept node none pieces is series = absurd (differ (sym none ∙ is))
     where

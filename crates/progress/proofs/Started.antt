@@ -35,6 +35,7 @@ with_piece-some pieces piece c =
       | inr lacks ↦ rw lacks (record { number = piece.number; contents = c }, IsIn-append_right pieces.kept (record { number = piece.number; contents = c } ∷ []) (record { number = piece.number; contents = c }) (inl refl))
     ]
 
+-- the same of an install with the piece that came last
 with_install-some : (old : Option Pieces) (volume : ℕ) (piece : Piece) (c : Contents) → HasPiece (with_install old volume piece c)
 with_install-some None volume piece c = (record { number = piece.number; contents = c }, inl refl)
 with_install-some (Some pieces) volume piece c =
@@ -43,9 +44,11 @@ with_install-some (Some pieces) volume piece c =
       | inr differ ↦ rw differ (record { number = piece.number; contents = c }, inl refl)
     ]
 
+-- a node that keeps none keeps no pieces
 none_is_not : (pieces : Pieces) → ◌≡◌ {A = Option Pieces} None (Some pieces) → ⊥
 none_is_not pieces e = cc
 
+-- two nodes that keep the same keep the same pieces
 some_is : (a b : Pieces) → ◌≡◌ {A = Option Pieces} (Some a) (Some b) → a ≡ b
 some_is a b e = cc
 
@@ -62,6 +65,7 @@ module _ (plan : Plan) (group x : ℕ) (node : Node) where
   same_on : (step : NodeStep) → step.node.install ≡ node.install → step.node.place.epoch ≡ node.place.epoch → KeepsOn step
   same_on step install place = record { install = λ pieces k. inl (sym install ∙ k); place = inl place }
 
+  -- a label that passes its tests leaves the rest
   passed : (l : Label) (rest : NodeAnswer) (step : NodeStep) → label_checks node l rest ≡ Ok step → rest ≡ Ok step
   passed l rest step h =
       let (a, h1) = refuse_if-ok (nat_lt l.member node.place.epoch) StaleMember _ step h in
@@ -70,6 +74,7 @@ module _ (plan : Plan) (group x : ℕ) (node : Node) where
       let (d, h4) = refuse_if-ok (nat_lt l.volume node.volume) StaleVolume _ step h3 in
       h4
 
+  -- a Write or a Gossip
   record_keeps : (l : Label) (r : Redo) (step : NodeStep) → take_record group x node l r ≡ Ok step → KeepsOn step
   record_keeps l r step h =
       let h1 = passed l _ step h in
@@ -77,6 +82,7 @@ module _ (plan : Plan) (group x : ℕ) (node : Node) where
       let (b, h3) = refuse_if-ok (not (holds_record r node.contents.records) && nat_le most_records (length node.contents.records)) Full _ step h2 in
       subst KeepsOn (Ok-node _ step h3) (same_on _ refl refl)
 
+  -- an Install
   installed_keeps : (l : Label) (piece : Piece) (c : Contents) → KeepsOn (installed group x node l piece c)
   unfolding installed
   installed_keeps l piece c =
@@ -88,6 +94,7 @@ module _ (plan : Plan) (group x : ℕ) (node : Node) where
         ]
       ]
 
+  -- each message
   reaction_keeps : (m : Message) (step : NodeStep) → reaction plan group x node m ≡ Ok step → KeepsOn step
   reaction_keeps (Fence to l) step h =
       let (a, h1) = refuse_if-ok (not (to == group)) NotAddressed _ step h in
@@ -131,18 +138,22 @@ module _ (plan : Plan) (group x : ℕ) (node : Node) where
   reaction_keeps (Ack to l from s) step h = cc
   reaction_keeps (Page to l from block point bytes) step h = cc
 
+  -- a delivery
   pub deliver_keeps : (found : Option Message) (step : NodeStep) → deliver plan group x node found ≡ Ok step → KeepsOn step
   deliver_keeps None step h = cc
   deliver_keeps (Some m) step h = reaction_keeps m step h
 
+  -- a hydration
   pub hydrate_keeps : (step : NodeStep) → hydrated plan group x node ≡ Ok step → KeepsOn step
   hydrate_keeps step h =
       let (w, own, reads, is) = hydrated-ok plan group x node step h in
       subst KeepsOn (sym is) (same_on _ refl refl)
 
+  -- a restart
   pub restart_keeps : (step : NodeStep) → ◌≡◌ {A = NodeAnswer} (Ok (record { made = []; node = restarted node })) (Ok step) → KeepsOn step
   restart_keeps step h = subst KeepsOn (Ok-node _ step h) (record { install = λ pieces k. absurd (none_is_not pieces k); place = inl refl })
 
+  -- an offer
   pub offer_keeps : (lsn : ℕ) (step : NodeStep) → offered group node lsn ≡ Ok step → KeepsOn step
   offer_keeps lsn step h =
       let (a, h1) = refuse_if-ok (not node.whole) NotWhole _ step h in
@@ -165,9 +176,11 @@ module _ (plan : Plan) (certified : IsCertified plan) where
     one_step : (g x : ℕ) → g < plan.groups → (step : NodeStep) → KeepsOn plan g x (world.nodes g x) step → HasStarted plan g step.node
     one_step g x there step keeps pieces k = elim (keeps.install pieces k) [ inl before ↦ old g x pieces before | inr has ↦ (there, has) ]
 
+    -- the same as a property of the node of each group and member
     abbrev Starts : ℕ → ℕ → Node → Type 0
     Starts g y node = HasStarted plan g node
 
+    -- it stays so after each event
     started_on : (event : Event) (g y : ℕ) → HasStarted plan g ((after plan world event).nodes g y)
     started_on Assign = authority_on plan certified world known Starts old (assigned plan world.authority)
     started_on (Advance group c) = authority_on plan certified world known Starts old (advanced plan world.authority group c)
@@ -193,6 +206,7 @@ module _ (plan : Plan) (certified : IsCertified plan) where
   run_started [] world known old = old
   run_started (event ∷ events) world known old = run_started events (after plan world event) (event_kept plan certified world known.kept event) (started_on world known old event)
 
+  -- a new node keeps nothing
   born_started : (g x : ℕ) → HasStarted plan g (born_node plan g x)
   born_started g x =
       elim (cases_Bool (has_member (plan.configuration g 0) x)) [
@@ -251,6 +265,7 @@ module _ (plan : Plan) (certified : IsCertified plan) where
     still : (event : Event) (g y : ℕ) → HasAsked (after plan world event) g (world.nodes g y)
     still event g y w k = made_on plan certified world known event _ (old g y w k)
 
+    -- it stays so after each event
     asked_on : (event : Event) (g y : ℕ) → HasAsked (after plan world event) g ((after plan world event).nodes g y)
     asked_on Assign = authority_on plan certified world known (λ g y node. HasAsked (after plan world Assign) g node) (still Assign) (assigned plan world.authority)
     asked_on (Advance group c) = authority_on plan certified world known (λ g y node. HasAsked (after plan world (Advance group c)) g node) (still (Advance group c)) (advanced plan world.authority group c)
@@ -284,6 +299,7 @@ module _ (plan : Plan) (certified : IsCertified plan) where
   run_asked [] world known old = old
   run_asked (event ∷ events) world known old = run_asked events (after plan world event) (event_kept plan certified world known.kept event) (asked_on world known old event)
 
+  -- a new node that isn't whole has no place
   born_asked : (g x : ℕ) → HasAsked (opening plan) g (born_node plan g x)
   born_asked g x =
       elim (cases_Bool (has_member (plan.configuration g 0) x)) [
