@@ -22,7 +22,7 @@ use Rattle.volume_model.proofs.Run.{event_kept}
 use Rattle.volume_model.specs.declared.fault.Fault.TheVariants.{AlreadyDone, LsnSpent, NoActor, NotReady}
 use Rattle.progress.proofs.Installing.{IsInstalling, IsRecovering}
 use Rattle.progress.proofs.Readable.{Reaches, HasPlace, HasStep, IsIn-kept, IsIn-new, IsReading, each_has}
-use Rattle.progress.proofs.Started.{HasAsked, HasStarted, kept_from_cut, run_asked, run_started}
+use Rattle.progress.proofs.Started.{HasStarted, kept_from_cut}
 use Rattle.progress.proofs.Volumes.{VolumesKnown}
 
 -- what a list of lists has
@@ -126,15 +126,3 @@ module _ (plan : Plan) (certified : IsCertified plan) (world : World) (known : I
         nodes_same,
         ap (λ (z : World). z.authority) e,
       )
-
-  -- The same of a world that events lead to, if what the hypotheses say was so before them.
-  pub cut_reached : ((g x : ℕ) → HasAsked world g (world.nodes g x)) → ((g x : ℕ) → HasStarted plan g (world.nodes g x))
-      → (u : World) → IsReading plan certified world known volumes placed steps left u → Reaches plan world u
-      → (step : ClientStep) → ◌≡◌ {A = ClientAnswer} (cut_client plan v (u.clients v)) (Ok step)
-      → (line : Lineage) × (records : List Redo) × IsInstalling plan v world.authority.configurations line records (after plan u (Cut v))
-      × (last_epoch line ≡ v) × (last_start line ≤ 2 ^ 62)
-      × ((after plan u (Cut v)).nodes ≡ u.nodes) × ((after plan u (Cut v)).authority ≡ u.authority)
-  cut_reached asked started u r (events, is) step h =
-      cut_installing u r step h
-      (subst (λ (z : World). (g x : ℕ) → HasAsked z g (z.nodes g x)) is (run_asked plan certified events world known asked))
-      (subst (λ (z : World). (g x : ℕ) → HasStarted plan g (z.nodes g x)) is (run_started plan certified events world known started))

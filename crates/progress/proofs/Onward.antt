@@ -10,20 +10,24 @@ use Rattle.volume_model.specs.Message.Message.{CopyAsk}
 use Rattle.volume_model.specs.Node.{Node, most_copies, most_records}
 use Rattle.volume_model.specs.Client.{ClientAnswer, ClientStep, has_cut}
 use Rattle.volume_model.specs.ClientRecovery.{cut_client}
-use Rattle.volume_model.specs.World.{World, Event, after, configuration_of, groups_joined, run}
+use Rattle.volume_model.specs.World.{World, Event, after, configuration_of, groups_joined, opening, run}
 use Rattle.volume_model.specs.World.Event.{Cut}
 use Rattle.volume_model.specs.Headline.{Acknowledges}
-use Rattle.volume_model.proofs.Invariant.{IsMade}
+use Rattle.volume_model.proofs.Claims.{claims_certify}
+use Rattle.volume_model.proofs.Run.{opening_kept, run_kept}
 use Rattle.volume_model.proofs.Renewed.{IsKeptWorld}
 use Rattle.volume_model.specs.declared.fault.Fault.TheVariants.{LsnSpent}
 use Rattle.progress.specs.Waiting.{CanBeRead, whole_in}
-use Rattle.progress.specs.Onward.{CommitsLater, GoesOn, HasRoom, HasWriteSets}
-use Rattle.progress.proofs.Volumes.{VolumesKnown}
-use Rattle.progress.proofs.Readable.{HasPlace, HasStep, IsReading, Reaches, all_heard, begins, can_cut, reach_one, reach_then, reads_members}
-use Rattle.progress.proofs.Asked.{HasWholeRoots}
+use Rattle.progress.specs.Onward.{CommitsLater, GoesOn, HasRoom, HasWriteSets, ReadableVolumesCommit}
+use Rattle.progress.proofs.Volumes.{VolumesKnown, volumes_known}
+use Rattle.progress.proofs.Readable.{HasPlace, HasStep, IsReading, Reaches, all_heard, begins, can_cut, reach_one, reach_then, reads_members, steps_known}
+use Rattle.progress.proofs.Asked.{HasAsked, HasWholeRoots, asked_known, roots_known, run_asked}
+use Rattle.progress.proofs.Cutting.{cut_installing}
 use Rattle.progress.proofs.Installing.{CanCopy, IsInstalling, IsRecovering}
 use Rattle.progress.proofs.Hydrating.{hydrated_from}
-use Rattle.progress.proofs.Members.{HydratesOne, InstallsOne, everyone_ready}
+use Rattle.progress.proofs.Installs.{installed_one}
+use Rattle.progress.proofs.Members.{HydratesOne, everyone_ready}
+use Rattle.progress.proofs.Started.{HasStarted, run_started, starts_known}
 use Rattle.progress.proofs.Commits.{ready_commits}
 
 -- A member that isn't whole becomes whole, and one copy of each node is used up.
@@ -60,12 +64,18 @@ module _ (plan : Plan) (claims : KeepsClaims plan) (certified : IsCertified plan
     pub head : last_epoch line ≡ v
     pub nodes : (g x : ℕ) → (after plan u (Cut v)).nodes g x ≡ u.nodes g x
 
-  abbrev pub CutsInto : Type 0
-  CutsInto = (u : World) → IsReading plan certified world known volumes placed steps left u → Reaches plan world u → (step : ClientStep)
-      → ◌≡◌ {A = ClientAnswer} (cut_client plan v (u.clients v)) (Ok step) → IsCutOf u
-
-  module _ (roots : HasWholeRoots plan world) (cuts : CutsInto) (installs : (line : Lineage) (records : List Redo) → last_epoch line ≡ v → InstallsOne plan v now line records)
+  module _ (asked : HasAsked world) (roots : HasWholeRoots plan world) (started : (g x : ℕ) → HasStarted plan g (world.nodes g x))
       (readable : (g : ℕ) → g < groups_joined world.authority → CanBeRead plan world g) where
+    -- a recovery that has read cuts, and installs its log
+    cuts : (u : World) → IsReading plan certified world known volumes placed steps left u → Reaches plan world u → (step : ClientStep)
+        → ◌≡◌ {A = ClientAnswer} (cut_client plan v (u.clients v)) (Ok step) → IsCutOf u
+    cuts u r (events, is) step h =
+        let asked_then : HasAsked u = subst HasAsked is (run_asked plan certified events world known asked roots).0 in
+        let started_then : (g x : ℕ) → HasStarted plan g (u.nodes g x) =
+        subst (λ (z : World). (g x : ℕ) → HasStarted plan g (z.nodes g x)) is (run_started plan certified events world known started) in
+        let (line, records, installing, head, few, nodes, authority) = cut_installing plan certified world known volumes placed steps left u r step h asked_then started_then in
+        record { line = line; records = records; installing = installing; head = head; nodes = λ g x. ap (λ (f : ℕ → ℕ → Node). f g x) nodes }
+
     -- the group's whole members, as far as its configuration has them
     abbrev readers : ℕ → Members
     readers g y = whole_in world g y && (has_member (plan.configuration g (configuration_of world.authority g)) y && nat_lt y 64)
@@ -84,7 +94,7 @@ module _ (plan : Plan) (claims : KeepsClaims plan) (certified : IsCertified plan
         let (m, s) = and_parts (has_member (plan.configuration g (configuration_of world.authority g)) y) (nat_lt y 64) rest in
         (w, m, s)) in
         let copies : CanCopy b (64 * length now) = λ g x. subst (λ k. (b.nodes g x).copied + 64 * k ≤ most_copies) long (room.copies g x) in
-        let (c, bc, ic, ready) = everyone_ready plan v now cut.line cut.records (installs cut.line cut.records cut.head) (hydrates_one plan certified v now cut.line cut.records cut.head) fits b readers
+        let (c, bc, ic, ready) = everyone_ready plan v now cut.line cut.records (installed_one plan certified v now cut.line cut.records cut.head) (hydrates_one plan certified v now cut.line cut.records cut.head) fits b readers
         (λ g y h. (let (w, m, s) = parts g y h in (ltb-true y 64 s, m, ap (λ (n : Node). n.whole) (cut.nodes g y) ∙ r.whole g y w)))
         (λ g l. reads_members plan claims g (configuration_of world.authority g) (whole_in world g) (in_plan g l) (known.kept.authority.there g (in_plan g l)) (readable g l))
         cut.installing (λ g y h. ap (λ (n : Node). n.whole) (cut.nodes g y) ∙ r.whole g y (roots g y h)) copies in
@@ -105,3 +115,12 @@ module _ (plan : Plan) (claims : KeepsClaims plan) (certified : IsCertified plan
               (more, subst (λ z. GoesOn plan z v) (sym is) (inr (ap has_cut cut.installing.recovering.stage, from_cut end re cut))))
           | inr spent ↦ (let (more, is) = to_end in (more, subst (λ z. GoesOn plan z v) (sym is) (inl spent)))
         ]
+
+pub readable_volumes_commit : ReadableVolumesCommit
+readable_volumes_commit plan claims writes events readable left =
+    let certified : IsCertified plan = claims_certify plan claims in
+    let world : World = run plan (opening plan) events in
+    let known : IsKeptWorld plan world = run_kept plan certified events (opening plan) (opening_kept plan certified) in
+    let (placed, steps) = steps_known plan certified events in
+    goes_on plan claims certified writes world known (volumes_known plan certified events) placed steps left (asked_known plan certified events) (roots_known plan certified events)
+    (starts_known plan certified events) readable
