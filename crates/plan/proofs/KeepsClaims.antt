@@ -12,7 +12,7 @@ use Rattle.volume_model.specs.Sets.{listed}
 use Rattle.volume_model.specs.Meets.{Meets}
 use Rattle.volume_model.specs.Plan.{has_member, is_fresh, IsAbove, IsCertified}
 use Rattle.volume_model.specs.Plan.StandsAbove.{by_parent as is_parent, by_ancestor as is_ancestor}
-use Rattle.volume_model.specs.Claims.{KeepsClaim, KeepsStepClaim, ClaimsCertify}
+use Rattle.volume_model.specs.Claims.{KeepsClaim, KeepsClaims, KeepsStepClaim, ClaimsCertify}
 use Rattle.quorum_expr.specs.MemberSet.{all_members}
 use Rattle.quorum_expr.proofs.MemberSetLaws.{contains-all_members}
 use Rattle.quorum_expr.specs.Valid.{expression_fault}
@@ -29,6 +29,8 @@ use Rattle.plan.specs.declared.fault.PlanFault.TheVariants.{BadParent}
 use Rattle.plan.specs.PlanData.{ConfigurationData, PlanData, configuration_at, group_at, by_parent, epoch_at, or_zero, shown, model_of, names_only, each_names_only}
 use Rattle.plan.specs.Plan.{configuration_data, group_data, plan_data}
 use Rattle.plan.specs.PlanFaults.{or_then, first_below, is_good_parent, parent_fault, fresh_at, reused_member, reuse_fault, certificate_fault, claim_fault, meets_claim, step_claim, meets_fault, step_fault, shape_fault, configuration_fault, group_fault, plan_fault}
+use Rattle.plan.specs.CheckedModel.{HasWriteSets}
+use Rattle.plan.proofs.WriteSets.{sat_all}
 use Rattle.plan.proofs.Lookups.{any-listed}
 use Rattle.plan.proofs.Named.{root-of}
 use Rattle.plan.proofs.Epochs.{epoch-next}
@@ -231,8 +233,9 @@ module _ (certify : ClaimsCertify) (refutes : (rule : Rule) (state : State) → 
       meets = subst (λ q. Meets x.read (dual_of (configuration_at group q).read) (intersection fresh all_members)) (sym parent-is) (clear-of-all fresh x.read (dual_of (configuration_at group parent.0).read) step-meets);
     }
 
-  pub certified : IsCertified (model_of (plan_data plan))
-  certified = certify (model_of (plan_data plan)) (record {
+  -- the claims of a plan without a fault hold
+  pub keeps-claims : KeepsClaims (model_of (plan_data plan))
+  keeps-claims = record {
     lal_positive = plan.lal_some;
     born_there = plan.born_some;
     born_within = omega (arith, plan.born_within, length-map plan.groups.items group_data);
@@ -240,4 +243,15 @@ module _ (certify : ClaimsCertify) (refutes : (rule : Rule) (state : State) → 
     root_epoch = λ g there. refl;
     quorums = keeps-claim;
     step = λ g c there below low. keeps-step g c there below low;
-  })
+  }
+
+  pub certified : IsCertified (model_of (plan_data plan))
+  certified = certify (model_of (plan_data plan)) keeps-claims
+
+  -- the members of each configuration satisfy its write expression
+  pub write-sets : HasWriteSets (model_of (plan_data plan))
+  write-sets g c there below =
+      let x : ConfigurationData = configuration_at (group_at (plan_data plan) g) c in
+      let good : IsGood x = good-in plan.groups.items g c below in
+      sat_all x.write (λ y. any (λ z. z == y) (listed x.members)) (HasCounts-from x.write good.write_valid)
+      (own x.write x.members good.write_own (SpeaksOf-from x.write good.write_valid))

@@ -5,6 +5,7 @@ pub mod Reused
 pub mod Lookups
 pub mod Named
 pub mod Shown
+pub mod WriteSets
 pub mod KeepsClaims
 pub mod BothWays
 pub mod OwnMembers

@@ -1,7 +1,9 @@
 -- The plan of the model for a checked plan.
-use Rattle.std.specs.Prelude.{◌≡◌, ◌≢◌, ℕ, ◌<◌, Option, Some, None, Result, Ok, Err}
+use Rattle.std.specs.Prelude.{◌≡◌, ◌≢◌, ℕ, ◌<◌, true, Option, Some, None, Result, Ok, Err}
 use Rattle.std.specs.Borrow.{Bor}
+use Rattle.volume_model.specs.Formula.{sat}
 use Rattle.volume_model.specs.Plan as model
+use Rattle.volume_model.specs.Plan.{has_member}
 use Rattle.volume_model.specs.Sets.{listed}
 use Rattle.quorum_expr.specs.Expr.{formula_of}
 use Rattle.plan.specs.declared.configurations.Configuration.{Configuration}
@@ -36,3 +38,8 @@ ShowsConfiguration (Some x) plan g c = (g < plan.groups) × (c < plan.configurat
 abbrev pub ChecksTo : Result CheckedPlan (PlanFault × Plan) → Plan → Type 0
 ChecksTo (Ok checked) plan = (checked.plan ≡ plan) × (plan_fault (plan_data plan) ≡ None)
 ChecksTo (Err (fault, back)) plan = (back ≡ plan) × (fault ≢ Text NoMemory → plan_fault (plan_data plan) ≡ Some fault)
+
+-- the members of each configuration satisfy its write expression
+abbrev pub HasWriteSets : model.Plan → Type 0
+HasWriteSets plan = (group c : ℕ) → group < plan.groups → c < plan.configurations group
+    → sat (plan.configuration group c).write (has_member (plan.configuration group c)) ≡ true

@@ -20,7 +20,8 @@ impl CheckedPlan {
     ghost use Rattle.plan.specs.Plan.{group_data};
     ghost use Rattle.plan.specs.PlanData.{group_at};
     ghost use Rattle.volume_model.specs.Plan.{IsCertified, has_member, is_full, is_named};
-    ghost use Rattle.plan.specs.CheckedModel.{checked_model, ShowsConfiguration};
+    ghost use Rattle.volume_model.specs.Claims.{KeepsClaims};
+    ghost use Rattle.plan.specs.CheckedModel.{checked_model, HasWriteSets, ShowsConfiguration};
 
     /// Wraps a plan that was found to have no fault.
     pub(crate) fn trusted(plan: Plan) -> CheckedPlan
@@ -119,6 +120,17 @@ impl CheckedPlan {
             Some(root) => root.members.contains(member),
             None => false,
         }
+    }
+
+    /// Proves that all claims of a checked plan hold, and that the members of each configuration satisfy its write
+    /// expression.
+    pub fn keeps_claims(&self)
+        ensures claims { KeepsClaims (checked_model self.now) }
+        ensures write_sets { HasWriteSets (checked_model self.now) }
+    {
+        claims_certify();
+        no_fault_refutes();
+        refuted_claim_meets();
     }
 
     /// Proves that a checked plan is certified: in each configuration each read set shares a member with each write

@@ -35,7 +35,7 @@ use Rattle.volume_model.proofs.Records.{of_group-from, of_group-has, with_record
 use Rattle.volume_model.proofs.Renewed.{IsKeptWorld}
 use Rattle.volume_model.proofs.Run.{event_kept}
 use Rattle.volume_model.proofs.Sound.{cut_client, facts, is_sound}
-use Rattle.progress.specs.Onward.{HasWriteSets}
+use Rattle.plan.specs.CheckedModel.{HasWriteSets}
 use Rattle.progress.proofs.Readable.{IsIn-kept, Reaches, delivered, every_below_true, has_number, reach_none, reach_one, reach_then, set-here, some_below_true, took}
 use Rattle.progress.proofs.Chained.{complete_up_to}
 use Rattle.progress.proofs.Counts.{reaching-keeps, reaching-lower, reaching-new}

@@ -9,7 +9,6 @@ pub mod Hydrating
 pub mod Counts
 pub mod Chained
 pub mod Commits
-pub mod WriteSets
 pub mod Members
 pub mod Onward
 pub mod Started

@@ -17,8 +17,9 @@ use Rattle.volume_model.proofs.Claims.{claims_certify}
 use Rattle.volume_model.proofs.Run.{opening_kept, run_kept}
 use Rattle.volume_model.proofs.Renewed.{IsKeptWorld}
 use Rattle.volume_model.specs.declared.fault.Fault.TheVariants.{LsnSpent}
+use Rattle.plan.specs.CheckedModel.{HasWriteSets}
 use Rattle.progress.specs.Waiting.{CanBeRead, whole_in}
-use Rattle.progress.specs.Onward.{CommitsLater, GoesOn, HasRoom, HasWriteSets, ReadableVolumesCommit}
+use Rattle.progress.specs.Onward.{CommitsLater, GoesOn, HasRoom, ReadableVolumesCommit}
 use Rattle.progress.proofs.Volumes.{VolumesKnown, volumes_known}
 use Rattle.progress.proofs.Readable.{HasPlace, HasStep, IsReading, Reaches, all_heard, begins, can_cut, reach_one, reach_then, reads_members, steps_known}
 use Rattle.progress.proofs.Asked.{HasAsked, HasWholeRoots, asked_known, roots_known, run_asked}

@@ -13,6 +13,7 @@ use Rattle.volume_model.specs.Opens.{IsAtItsCut}
 use Rattle.volume_model.specs.Orderly.{IsOrderly}
 use Rattle.volume_model.specs.Outcome as model
 use Rattle.volume_model.specs.Outcome.{writers_in, finds_in}
+use Rattle.progress.specs.Onward.{VolumeGoesOn}
 use Rattle.writer_core.specs.Log.{log_in}
 use Rattle.writer_core.specs.Logs.{log_of_set}
 use Rattle.lineage.specs.Lineage.{lineage_of}
@@ -92,6 +93,8 @@ pub record KeepsPromises (plan : Plan) (events : List Event) : Type 0 where
   pub opens_at_its_cut : OpenAtTheirCuts plan events
   -- the epochs of each lineage grow, and the links of each record lead to smaller LSNs
   pub orderly : IsOrderly (run plan (opening plan) events)
+  -- if each group can be read, some events lead the next recovery to a commit of its own
+  pub goes_on : VolumeGoesOn plan events
 
 -- the same for every list of events
 abbrev pub PromisesRuns : Plan → Type 0

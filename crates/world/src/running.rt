@@ -12,6 +12,7 @@ use crate::event::{Event, Order};
 use crate::orders::follow;
 use crate::outcome::Outcome;
 use plan::CheckedPlan;
+use progress::volumes_go_on;
 use std::alloc::Global;
 use std::sync::Arc;
 use volume_model::{
@@ -56,6 +57,7 @@ pub fn promised(plan: &CheckedPlan)
     one_lineage_an_epoch();
     opens_at_its_cut();
     runs_are_orderly();
+    volumes_go_on(plan);
 }
 
 /// Returns the number of messages that an event usually makes.

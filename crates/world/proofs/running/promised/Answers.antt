@@ -15,4 +15,5 @@ returns c events =
       one_lineage_an_epoch = c.one_lineage_an_epoch.ensures plan certified events;
       opens_at_its_cut = λ earlier later volume opened is opens. c.opens_at_its_cut.ensures plan certified earlier volume opened opens;
       orderly = c.runs_are_orderly.ensures plan certified events;
+      goes_on = c.volumes_go_on.ensures.goes_on events;
     }
