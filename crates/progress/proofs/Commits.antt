@@ -452,7 +452,7 @@ module _ (plan : Plan) (claims : KeepsClaims plan) (certified : IsCertified plan
   pub ready_commits : (u : World) → IsRecovering plan v now line records u
       → ((g x : ℕ) → g < length now → is_member plan v now line records g x ≡ true → x < 64 → IsReady plan v now line records u g x)
       → last_start line < 2 ^ 62 → length (of_group 0 records) < most_records
-      → (more : List Event) × (n : ℕ) × (last_start line < n) × Acknowledges (run plan u more) v n
+      → (more : List Event) × (n : ℕ) × (last_start line < n) × Acknowledges (run plan u more) v n × (((run plan u more).clients v).lineage ≡ line)
   ready_commits u r ready left room =
       let first : 0 < length now = (
       let b : plan.born ≤ length u.authority.configurations = r.in_run.kept.authority.born in
@@ -463,4 +463,4 @@ module _ (plan : Plan) (claims : KeepsClaims plan) (certified : IsCertified plan
       let (b, ab, wb) = issues a ra log left first in
       let (c, bc, wc, acked) = all_ack b wb first room 64 (omega arith) in
       let (more, is) = reach_then plan u b c (reach_then plan u a b ua ab) bc in
-      (more, first_record.lsn, omega arith, subst (λ z. Acknowledges z v first_record.lsn) (sym is) (commits c wc first acked))
+      (more, first_record.lsn, omega arith, subst (λ z. Acknowledges z v first_record.lsn) (sym is) (commits c wc first acked), ap (λ (z : World). (z.clients v).lineage) is ∙ wc.committing.lineage)

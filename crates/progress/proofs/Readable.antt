@@ -19,7 +19,7 @@ use Rattle.volume_model.specs.ClientRecovery.{born_client, cut_client, cut_step,
 use Rattle.volume_model.specs.ClientMessages.{are_places, is_for, taken}
 use Rattle.volume_model.specs.World.{AuthorityStep, World, Event, advance_step, advanced, after, after_step, assigned, configuration_of, deliver, groups_joined, grown, if_there, of_authority, of_client, of_node, opening, place_now, places_now, refreshed, run, take}
 use Rattle.volume_model.specs.World.Event.{Assign, Advance, Refresh, Grow, Issue, Take, Cut, Open, Resend, Read, Deliver, Hydrate, Restart, Offer}
-use Rattle.volume_model.proofs.Basics.{IsIn-append_left, IsIn-append_right, any_from, any_passes, put_at-all}
+use Rattle.volume_model.proofs.Basics.{IsIn-append_left, IsIn-append_right, any_from, any_passes, put-all, put_at-all}
 use Rattle.volume_model.proofs.Groups.{group_of-new, index-zero_more, length-slice_set, set-all}
 use Rattle.volume_model.proofs.Growing.{keeps_after}
 use Rattle.volume_model.proofs.ClientSteps.{put-same}
@@ -310,6 +310,8 @@ module _ (plan : Plan) (certified : IsCertified plan) (world : World) (known : I
     pub volume : (g x : ℕ) → (u.nodes g x).volume ≤ v
     pub placed_on : (g x : ℕ) → HasPlace g x (u.nodes g x)
     pub whole : (g x : ℕ) → whole_in world g x ≡ true → whole_in u g x ≡ true
+    pub copied : (g x : ℕ) → (u.nodes g x).copied ≡ (world.nodes g x).copied
+    pub others : (k : ℕ) → (k ≡ v → ⊥) → u.clients k ≡ world.clients k
 
   -- the recovery keeps each report that it had
   abbrev pub Keeps : World → World → Type 0
@@ -318,9 +320,9 @@ module _ (plan : Plan) (certified : IsCertified plan) (world : World) (known : I
   -- a delivery that leaves all this
   pub delivered_on : (u : World) → IsReading u → (g x n : ℕ) (m : Message) (step : NodeStep) → g < joined → is_named plan g x ≡ true → numbered u.messages n ≡ Some m
       → ◌≡◌ {A = NodeAnswer} (reaction plan g x (u.nodes g x) m) (Ok step)
-      → step.node.volume ≤ v → HasPlace g x step.node → ((u.nodes g x).whole ≡ true → step.node.whole ≡ true)
+      → step.node.volume ≤ v → HasPlace g x step.node → ((u.nodes g x).whole ≡ true → step.node.whole ≡ true) → step.node.copied ≡ (u.nodes g x).copied
       → IsReading (after plan u (Deliver g x n)) × Keeps u (after plan u (Deliver g x n)) × ((after plan u (Deliver g x n)) ≡ record u { nodes = put_at u.nodes g x step.node; messages = added step.made u.messages })
-  delivered_on u r g x n m step l named found is volume placed_after whole_after =
+  delivered_on u r g x n m step l named found is volume placed_after whole_after copied_same =
       let there : g < groups_joined u.authority = subst (λ (cs : List ℕ). g < length cs) (sym r.configurations) l in
       let e : after plan u (Deliver g x n) ≡ record u { nodes = put_at u.nodes g x step.node; messages = added step.made u.messages } = delivered plan u g x n m step there named found is in
       let run_on : IsKeptWorld plan (after plan u (Deliver g x n)) = event_kept plan certified u r.in_run.kept (Deliver g x n) in (
@@ -336,6 +338,8 @@ module _ (plan : Plan) (certified : IsCertified plan) (world : World) (known : I
           volume = put_at-all (λ k y node. node.volume ≤ v) u.nodes g x step.node volume r.volume;
           placed_on = put_at-all HasPlace u.nodes g x step.node placed_after r.placed_on;
           whole = λ k y w. put_at-all (λ k y node. (u.nodes k y).whole ≡ true → node.whole ≡ true) u.nodes g x step.node whole_after (λ k y h. h) k y (r.whole k y w);
+          copied = put_at-all (λ k y (node : Node). node.copied ≡ (world.nodes k y).copied) u.nodes g x step.node (copied_same ∙ r.copied g x) r.copied;
+          others = r.others;
         }),
         subst (λ z. Keeps u z) (sym e) (λ k y h. h),
         e,
@@ -364,7 +368,7 @@ module _ (plan : Plan) (certified : IsCertified plan) (world : World) (known : I
                 let there : configuration_of world.authority g < plan.configurations g = known.kept.authority.there g (in_plan g l) in
                 let is : ◌≡◌ {A = NodeAnswer} (reaction plan g x node (StepTo g (place g))) (Ok step) =
                 rw (eq-eqb g g refl, lt-leb (epoch g) node.place.epoch lower, lt-ltb (configuration_of world.authority g) (plan.configurations g) there, eq-eqb (epoch g) (epoch g) refl) refl in
-                let (reading, keeps, same) = delivered_on u r g x n (StepTo g (place g)) step l named found is (r.volume g x) (λ h. omega arith) (λ h. h) in
+                let (reading, keeps, same) = delivered_on u r g x n (StepTo g (place g)) step l named found is (r.volume g x) (λ h. omega arith) (λ h. h) refl in
                 (after plan u (Deliver g x n), reach_one plan u (Deliver g x n), reading, keeps, ap (λ (z : World). (z.nodes g x).place.epoch) same ∙ ap (λ (z : Node). z.place.epoch) (put_at-same u.nodes g x step.node)))
           ]
           | inr upper ↦ (u, reach_none plan u, r, (λ k y h. h), omega arith)
@@ -380,7 +384,7 @@ module _ (plan : Plan) (certified : IsCertified plan) (world : World) (known : I
         let step : NodeStep = record { made = Report g (label v (epoch g)) x node.contents ∷ []; node = record node { volume = v } } in
         let is : ◌≡◌ {A = NodeAnswer} (reaction plan g x node (Fence g (label v (epoch g)))) (Ok step) =
         rw (eq-eqb g g refl, le-ltb (epoch g) node.place.epoch (omega arith), le-ltb node.place.epoch (epoch g) (omega arith), w, le-ltb v node.volume below) refl in
-        let (reading, keeps, same) = delivered_on u r g x n (Fence g (label v (epoch g))) step l named found is (omega arith) (λ h. r.placed_on g x w) (λ h. h) in
+        let (reading, keeps, same) = delivered_on u r g x n (Fence g (label v (epoch g))) step l named found is (omega arith) (λ h. r.placed_on g x w) (λ h. h) refl in
         (after plan u (Deliver g x n), reach_one plan u (Deliver g x n), reading, keeps, subst (λ (z : World). IsMade z (Report g (label v (epoch g)) x node.contents)) (sym same) (inl refl))
 
     -- the recovery takes the report
@@ -435,6 +439,8 @@ module _ (plan : Plan) (certified : IsCertified plan) (world : World) (known : I
             volume = r.volume;
             placed_on = r.placed_on;
             whole = r.whole;
+            copied = r.copied;
+            others = put-all (λ k (c : Client). (k ≡ v → ⊥) → c ≡ world.clients k) u.clients v next (λ other. absurd (other refl)) r.others;
           }),
           subst (λ z. Keeps u z) (sym e) (λ k y h. subst (λ (c : Client). senders (reports_of c.groups k) y ≡ true) here (grows k y h)),
           subst (λ (z : World). senders (reports_of (z.clients v).groups g) x ≡ true) (sym e) (subst (λ (c : Client). senders (reports_of c.groups g) x ≡ true) here has),
@@ -501,8 +507,9 @@ module _ (plan : Plan) (certified : IsCertified plan) (world : World) (known : I
 
   -- ---- the cut
 
-  pub can_cut : ReadsMembers plan → ((g : ℕ) → g < joined → CanBeRead plan world g) → (u : World) → IsReading u → ((g : ℕ) → g < joined → Heard u g 64) → CanCut plan u v
-  can_cut members readable u r heard_all =
+  -- the recovery has read a read set of each group
+  pub has_read_all : ReadsMembers plan → ((g : ℕ) → g < joined → CanBeRead plan world g) → (u : World) → IsReading u → ((g : ℕ) → g < joined → Heard u g 64) → has_read plan (u.clients v) ≡ true
+  has_read_all members readable u r heard_all =
       let client : Client = u.clients v in
       let read_one : (g : ℕ) → g < length client.groups → sat (place_configuration plan g (place_of client.groups g)).read (senders (reports_of client.groups g)) ≡ true = λ g small. (
       let l : g < joined = (let s : length client.groups ≡ joined = r.groups in omega arith) in
@@ -516,7 +523,12 @@ module _ (plan : Plan) (certified : IsCertified plan) (world : World) (known : I
       let both : (has_member (plan.configuration g c) x ≡ true) × (nat_lt x 64 ≡ true) = and_parts (has_member (plan.configuration g c) x) (nat_lt x 64) parts.1 in
       heard_all g l x (ltb-true x 64 both.1) parts.0 both.0)) own in
       subst (λ (p : Place). sat (place_configuration plan g p).read (senders (reports_of client.groups g)) ≡ true) (sym (r.places g l)) now) in
-      let read : has_read plan client ≡ true = every_below_true (length client.groups) (λ g. sat (place_configuration plan g (place_of client.groups g)).read (senders (reports_of client.groups g))) read_one in
+      every_below_true (length client.groups) (λ g. sat (place_configuration plan g (place_of client.groups g)).read (senders (reports_of client.groups g))) read_one
+
+  pub can_cut : ReadsMembers plan → ((g : ℕ) → g < joined → CanBeRead plan world g) → (u : World) → IsReading u → ((g : ℕ) → g < joined → Heard u g 64) → CanCut plan u v
+  can_cut members readable u r heard_all =
+      let client : Client = u.clients v in
+      let read : has_read plan client ≡ true = has_read_all members readable u r heard_all in
       let born : is_born client.stage ≡ true = ap is_born r.stage in
       let uncut : has_cut client.stage ≡ false = ap has_cut r.stage in
       let parent : Lineage = newest (reported client) in
@@ -591,6 +603,8 @@ module _ (plan : Plan) (certified : IsCertified plan) (world : World) (known : I
           volume = λ g x. (let b : (world.nodes g x).volume ≤ world.authority.last_volume = volumes.nodes g x in omega arith);
           placed_on = placed;
           whole = λ g x w. w;
+          copied = λ g x. refl;
+          others = put-all (λ k (c : Client). (k ≡ v → ⊥) → c ≡ world.clients k) world.clients v first_step.client (λ other. absurd (other refl)) (λ k other. refl);
         },
       )
 
