@@ -42,6 +42,9 @@ pub trait ScriptRunner {
     /// # Errors
     /// That the script can't be run, or that memory ran out.
     fn run(&self, alloc: Global, script: &str) -> Result<ScriptRun, Broken>;
+
+    /// Learns how many runs of a simulation have ended.
+    fn ended(&self, _runs: u32) {}
 }
 
 /// What the runs showed: an exit status, 1 if a promise is broken, and a text.
@@ -165,7 +168,7 @@ pub fn simulate<R: ScriptRunner>(
         let seed = simulation.seed.wrapping_add(u64::from(run));
         let scenario = Scenario::new(alloc, plan.clone()?, Rng::new(seed), simulation.events)?;
         match try_run(alloc, runner, &scenario, &mut counts) {
-            Ok(()) => {}
+            Ok(()) => runner.ended(run.saturating_add(1)),
             Err(broken) if broken.is_memory() => return Err(AllocError),
             Err(broken) => {
                 let text = broken_text(alloc, runner, seed, scenario, broken)?;
