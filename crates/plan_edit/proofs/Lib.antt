@@ -3,3 +3,4 @@ pub mod Sets
 pub mod Behind
 pub mod Rooted
 pub mod Spans
+pub mod WeightLaws

@@ -11,7 +11,7 @@ use Rattle.plan_edit.specs.Words.IsSpan.{number, range}
 use Rattle.plan_edit.specs.Words.Names.{first_word, later_word}
 
 -- a text is one number only
-same_number : (text : List ℕ) (m n : ℕ) → IsSpelled text m → IsSpelled text n → m ≡ n
+pub same_number : (text : List ℕ) (m n : ℕ) → IsSpelled text m → IsSpelled text n → m ≡ n
 same_number text m n one two = one.1 ∙ sym two.1
 
 -- a word is one span only
@@ -43,10 +43,10 @@ one_more s n m is = elim (or_cases (nat_eq m n) (contains s m) (sym (contains-pu
   | inr old ↦ inr old
 ]
 
-has_new : (s : FinSet nat_cmp) (n m : ℕ) → m ≡ n → contains (insert s n) m ≡ true
+pub has_new : (s : FinSet nat_cmp) (n m : ℕ) → m ≡ n → contains (insert s n) m ≡ true
 has_new s n m same = contains-put s n m ∙ or_left (nat_eq m n) (contains s m) (eq-eqb m n same)
 
-has_old : (s : FinSet nat_cmp) (n m : ℕ) → contains s m ≡ true → contains (insert s n) m ≡ true
+pub has_old : (s : FinSet nat_cmp) (n m : ℕ) → contains s m ≡ true → contains (insert s n) m ≡ true
 has_old s n m is = contains-put s n m ∙ or_right (nat_eq m n) (contains s m) is
 
 -- one more number, which is added

@@ -5,3 +5,4 @@ pub mod Edited
 pub mod NewPlans
 pub mod Requests
 pub mod Words
+pub mod Survivals

@@ -8,6 +8,7 @@ use Rattle.quorum_checker.specs.Tolerance.{all_of, taken, left_by}
 use Rattle.plan.specs.PlanData.{ConfigurationData, PlanData, group_at, configuration_at}
 use Rattle.plan.specs.PlanText.{plan_of}
 use Rattle.plan.specs.PlanFaults.{plan_fault}
+use Rattle.plan_edit.specs.Renamed.{two_of}
 use Rattle.plan_edit.specs.declared.plan_words.PlanWords.{PlanWords}
 use Rattle.plan_edit.specs.declared.plan_words.Quorums.{Quorums}
 use Rattle.plan_edit.specs.declared.plan_words.Quorums.TheVariants.{Counted, FullAndTail, Surviving, Zones}
@@ -20,6 +21,14 @@ weighing weights (x ∷ xs) = child (get_or weights x 1) (member x) (weighing we
 -- the members weigh at least k together
 abbrev pub counted : ℕ → List ℕ → FinSet nat_cmp → Formula
 counted k weights members = at_least k (weighing weights (listed members))
+
+-- Aurora's full and tail form: a read set has that many of all members, and a full one
+abbrev pub tail_read : ℕ → FinSet nat_cmp → FinSet nat_cmp → Formula
+tail_read k members full = two_of 2 (counted k [] members) (counted 1 [] full)
+
+-- a write set has that many of all members, or all full ones
+abbrev pub tail_write : ℕ → FinSet nat_cmp → FinSet nat_cmp → Formula
+tail_write k members full = two_of 1 (counted k [] members) (counted (length (listed full)) [] full)
 
 -- the formula survives any loss of at most n members
 abbrev pub Outlasts : ℕ → Formula → FinSet nat_cmp → Type 0
@@ -48,7 +57,8 @@ ReadsOutlast true zones c = OutlastsZonesAndOne zones c.read c.members
 abbrev pub IsAsked : Quorums → ConfigurationData → Type 0
 IsAsked (Counted read write weights) c = (c.read ≡ counted read weights.now c.members)
     × (c.write ≡ counted write weights.now c.members)
-IsAsked (FullAndTail read write) c = Unit {0}
+IsAsked (FullAndTail read write) c = (c.read ≡ tail_read read c.members c.full)
+    × (c.write ≡ tail_write write c.members c.full)
 IsAsked (Surviving n) c = Outlasts n c.read c.members × Outlasts n c.write c.members
 IsAsked (Zones zones is_one_more) c = ReadsOutlast is_one_more zones.now c
     × OutlastsZones zones.now c.write c.members

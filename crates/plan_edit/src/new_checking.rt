@@ -1,11 +1,13 @@
 //! Checks that a new plan is the one that was asked for.
 
-ghost use Rattle.std.specs.Prelude.{◌≡◌, IfOk, OnOk, get_or, map, true};
-ghost use Rattle.volume_model.specs.Formula.{at_least};
+ghost use Rattle.std.specs.Prelude.{◌≡◌, [], IfOk, OnOk, get_or, length, map, true};
+ghost use Rattle.volume_model.specs.Formula.{at_least, child, no_child};
 ghost use Rattle.volume_model.specs.Sets.{listed};
 ghost use Rattle.quorum_expr.specs.Expr.{formula_of, weighed};
 ghost use Rattle.plan.specs.Plan.{configuration_data, plan_data};
 ghost use Rattle.plan_edit.specs.NewPlans.{counted, weighing, HasRoot, IsAsked, IsNew, IsRoot, IsWanted, Outlasts, OutlastsOne, OutlastsZones, OutlastsZonesAndOne};
+ghost use Rattle.plan_edit.specs.NewPlans.{tail_read, tail_write};
+ghost use Rattle.plan_edit.specs.Renamed.{two_of};
 
 use crate::comparing::is_same_set;
 use crate::new_refusal::NewRefusal;
@@ -143,6 +145,72 @@ fn are_counted(
     Ok(is_counted(&configuration.write, write, weights, &list))
 }
 
+/// Returns whether children are two thresholds over members: `first` of all members, and `second` of the full ones.
+fn are_two(of: &[(u8, Expr<Global>)], first: u16, all: &[u8], second: u16, full: &[u8]) -> bool
+    ensures { result ≡ true → weighed formula_of of.now ≡ child 1 (at_least first (weighing [] all.now))
+        (child 1 (at_least second (weighing [] full.now)) no_child) }
+{
+    if of.len() != 2 {
+        return false;
+    }
+    let (one, other) = (&of[0], &of[1]);
+    if one.0 != 1 || other.0 != 1 {
+        return false;
+    }
+    if !is_counted(&one.1, first, &[], all) {
+        return false;
+    }
+    is_counted(&other.1, second, &[], full)
+}
+
+/// Returns whether an expression asks for `wanted` of two thresholds over members.
+fn is_pair(
+    expr: &Expr<Global>,
+    wanted: u16,
+    first: u16,
+    all: &[u8],
+    second: u16,
+    full: &[u8],
+) -> bool
+    ensures { result ≡ true → formula_of expr.now ≡ two_of wanted (at_least first (weighing [] all.now))
+        (at_least second (weighing [] full.now)) }
+{
+    match expr {
+        Expr::Member(_) => false,
+        Expr::KOf { k, of } => {
+            if *k != wanted {
+                return false;
+            }
+            are_two(of, first, all, second, full)
+        }
+    }
+}
+
+/// Returns whether the expressions of a configuration have Aurora's full and tail form.
+fn are_full_and_tail(
+    alloc: Global,
+    configuration: &Configuration,
+    read: u16,
+    write: u16,
+) -> Result<bool, Fault>
+    ensures read { IfOk result (λ b. b ≡ true → (configuration_data configuration.now).read
+        ≡ tail_read read (configuration_data configuration.now).members
+        (configuration_data configuration.now).full) }
+    ensures write { IfOk result (λ b. b ≡ true → (configuration_data configuration.now).write
+        ≡ tail_write write (configuration_data configuration.now).members
+        (configuration_data configuration.now).full) }
+{
+    let all = list_of(alloc, configuration.members)?;
+    let full = list_of(alloc, configuration.full)?;
+    let Ok(count) = u16::try_from(full.len()) else {
+        return Ok(false);
+    };
+    if !is_pair(&configuration.read, 2, read, &all, 1, &full) {
+        return Ok(false);
+    }
+    Ok(is_pair(&configuration.write, 1, write, &all, count, &full))
+}
+
 /// Returns whether both expressions of a configuration survive any loss of `lost` members.
 fn are_outlasting(alloc: Global, configuration: &Configuration, lost: u8) -> Result<bool, Fault>
     ensures { IfOk result (λ b. b ≡ true → IsAsked (Quorums.Surviving lost)
@@ -189,7 +257,12 @@ fn is_asked(
             write,
             weights,
         } => are_counted(alloc, configuration, read, write, weights),
-        Quorums::FullAndTail { .. } => Ok(true),
+        Quorums::FullAndTail { read, write } => are_full_and_tail(
+            alloc,
+            configuration,
+            read,
+            write,
+        ),
         Quorums::Surviving(lost) => are_outlasting(alloc, configuration, lost),
         Quorums::Zones { zones, is_one_more } => {
             Ok(are_outlasting_zones(configuration, zones, is_one_more))

@@ -1,13 +1,13 @@
 //! Makes a new plan from the words of a command line.
 
-ghost use Rattle.std.specs.Prelude.{◌≡◌, ◌<◌, ◌≤◌, IfOk, IfSome, option_map};
-ghost use Rattle.plan_edit.specs.Requests.{HasThresholds, IsMeant, IsNamedBy, IsNamedIf, IsRead, IsRequested};
+ghost use Rattle.std.specs.Prelude.{◌≡◌, ◌<◌, ◌≤◌, IfOk, IfSome, Some, option_map};
+ghost use Rattle.plan_edit.specs.Requests.{AreWeightsBy, HasKind, HasThresholds, IsMeant, IsNamedBy, IsNamedIf, IsRead, IsRequested};
 
 use crate::making::new_plan;
 use crate::new_refusal::NewRefusal;
 use crate::plan_words::{PlanWords, Quorums};
 use crate::word_reading::{
-    SurvivalWord, Weights, read_members, read_survival, read_weights, read_zones,
+    SurvivalWord, Weights, no_weights, read_members, read_survival, read_weights, read_zones,
 };
 use quorum_expr::{MEMBERS, MemberSet};
 use std::alloc::Global;
@@ -101,12 +101,12 @@ fn tail_of(request: &PlanRequest<'_>, members: MemberSet) -> Result<MemberSet, N
 }
 
 /// Reads the weights of a request.
-fn weights_of(request: &PlanRequest<'_>, members: MemberSet) -> Result<Weights, NewRefusal> {
+fn weights_of(request: &PlanRequest<'_>, members: MemberSet) -> Result<Weights, NewRefusal>
+    ensures { IfOk result
+        (λ weights. AreWeightsBy (option_map (λ text. text.now) request.now.weights) weights.of) }
+{
     let Some(text) = request.weights else {
-        return Ok(Weights {
-            members: MemberSet::empty(),
-            of: [1; 64],
-        });
+        return Ok(no_weights());
     };
     let weights = read_weights(text)?;
     check_members(weights.members, members)?;
@@ -146,7 +146,9 @@ fn surviving<'w>(
     zones: &'w [MemberSet],
     word: &str,
 ) -> Result<Quorums<'w>, NewRefusal>
-    ensures { IfOk result (HasThresholds request.now) }
+    requires { option_map (λ text. text.now) request.now.survive ≡ Some word.now }
+    ensures thresholds { IfOk result (HasThresholds request.now) }
+    ensures kind { IfOk result (HasKind request.now) }
 {
     if request.read.is_some()
         || request.write.is_some()
@@ -190,7 +192,9 @@ fn quorums_of<'w>(
     request: &PlanRequest<'_>,
     words: &'w ReadRequest,
 ) -> Result<Quorums<'w>, NewRefusal>
-    ensures { IfOk result (HasThresholds request.now) }
+    requires { IsRead request.now words.now }
+    ensures thresholds { IfOk result (HasThresholds request.now) }
+    ensures kind { IfOk result (HasKind request.now) }
 {
     if let Some(word) = request.survive {
         return surviving(request, &words.zones, word);

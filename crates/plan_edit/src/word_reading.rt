@@ -1,7 +1,9 @@
 //! Reads the words that describe a new plan.
 
-ghost use Rattle.std.specs.Prelude.{◌<◌, IfOk};
-ghost use Rattle.plan_edit.specs.Words.{AddsNamed, AddsText, AreNamed, IsSpan, IsSpelled};
+ghost use Rattle.std.specs.FinSet.{empty};
+ghost use Rattle.std.specs.Prelude.{◌≡◌, ◌<◌, ℕ, IfOk, get_or, length};
+ghost use Rattle.plan_edit.specs.Survivals.{IsSurvival};
+ghost use Rattle.plan_edit.specs.Words.{AddsNamed, AddsPair, AddsText, AddsWeights, AreNamed, AreWeights, IsPair, IsSpan, IsSpelled};
 
 use quorum_expr::{MEMBERS, MemberSet};
 use std::alloc::{AllocFailed, Global};
@@ -153,20 +155,25 @@ pub fn read_zones(alloc: Global, text: &str) -> Result<Vec<MemberSet>, WordFault
 ///
 /// # Errors
 /// `Survival`.
-pub fn read_survival(text: &str) -> Result<SurvivalWord, WordFault> {
-    match text {
-        "zone" => Ok(SurvivalWord::Zone),
-        "zone+1" => Ok(SurvivalWord::ZoneAndOne),
-        _ => match text.parse::<u8>() {
-            Ok(count) => Ok(SurvivalWord::Members(count)),
-            Err(_) => Err(WordFault::Survival),
-        },
+pub fn read_survival(text: &str) -> Result<SurvivalWord, WordFault>
+    ensures { IfOk result (IsSurvival text.now) }
+{
+    if text == "zone" {
+        return Ok(SurvivalWord::Zone);
+    }
+    if text == "zone+1" {
+        return Ok(SurvivalWord::ZoneAndOne);
+    }
+    match text.parse::<u8>() {
+        Ok(count) => Ok(SurvivalWord::Members(count)),
+        Err(_) => Err(WordFault::Survival),
     }
 }
 
 /// Reads a member and its weight.
 fn weight(word: &str) -> Result<(u8, u8), WordFault>
-    ensures { IfOk result (λ x. x.0 < 64) }
+    ensures below { IfOk result (λ x. x.0 < 64) }
+    ensures pair { IfOk result (λ x. IsPair word.now x.0 x.1) }
 {
     let Some((of, weight)) = word.split_once('=') else {
         return Err(WordFault::Weights);
@@ -185,25 +192,58 @@ pub struct Weights {
     pub members: MemberSet,
     /// The weight of each member by its number; 1 for a member that has none.
     pub of: [u8; 64],
+    ghost whole: { length of ≡ 64 },
+}
+
+/// Adds the weight of a pair.
+fn with_pair(weights: Weights, word: &str) -> Result<Weights, WordFault>
+    ensures { IfOk result (λ new. AddsPair word.now weights.members weights.of new.members new.of) }
+{
+    let (of, weight) = weight(word)?;
+    let Weights {
+        members,
+        of: mut known,
+    } = weights;
+    if members.contains(of) {
+        return Err(WordFault::Repeated);
+    }
+    known[usize::from(of)] = weight;
+    Ok(Weights {
+        members: members.with(of),
+        of: known,
+    })
+}
+
+/// Adds the weights of pairs with commas between them. Each pair adds one, so that there are at most 65 calls.
+fn with_pairs(weights: Weights, text: &str) -> Result<Weights, WordFault>
+    ensures { IfOk result (λ new. AddsWeights text.now weights.members weights.of new.of) }
+{
+    match text.split_once(',') {
+        None => with_pair(weights, text),
+        Some((word, rest)) => {
+            let more = with_pair(weights, word)?;
+            with_pairs(more, rest)
+        }
+    }
 }
 
 /// Reads weights: pairs of a member and its weight with commas between them, each member once. The others weigh 1.
 ///
 /// # Errors
 /// `Weights`, `Members` or `Repeated`, whichever comes first from left to right.
-pub fn read_weights(text: &str) -> Result<Weights, WordFault> {
-    let mut weights = [1; 64];
-    let mut members = MemberSet::empty();
-    for word in text.split(',') {
-        let (of, weight) = weight(word)?;
-        if members.contains(of) {
-            return Err(WordFault::Repeated);
-        }
-        members = members.with(of);
-        weights[usize::from(of)] = weight;
+pub fn read_weights(text: &str) -> Result<Weights, WordFault>
+    ensures { IfOk result (λ weights. AreWeights text.now weights.of) }
+{
+    with_pairs(no_weights(), text)
+}
+
+/// Returns weights of which none is given.
+pub fn no_weights() -> Weights
+    ensures none { result.members ≡ empty }
+    ensures ones { (member : ℕ) → get_or result.of member 1 ≡ 1 }
+{
+    Weights {
+        members: MemberSet::empty(),
+        of: [1; 64],
     }
-    Ok(Weights {
-        members,
-        of: weights,
-    })
 }
