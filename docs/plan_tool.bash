@@ -10,13 +10,13 @@ _plan_tool() {
     check) options="-h --help" ;;
     run) options="-h --help" ;;
     fleet) options="-w --workers -h --help" ;;
-    search) options="-w --workers -h --help" ;;
+    search) options="-w --workers --pretty -o --output -h --help" ;;
     explain) options="--json -h --help" ;;
-    replace) options="-w --workers --out --in -g --group -c --configuration --tail --direct -h --help" ;;
+    replace) options="-w --workers --out --in -g --group -c --configuration --tail --direct --pretty -o --output -h --help" ;;
     steps) options="-g --group -c --configuration -h --help" ;;
     simulate) options="--seed --runs --crash --replace -h --help" ;;
-    new) options="--members --zones --tail --weights --survive --read --write --groups --born --lal -w --workers -h --help" ;;
-    draw) options="-h --help" ;;
+    new) options="--members --zones --tail --weights --survive --read --write --groups --born --lal -w --workers --pretty -o --output -h --help" ;;
+    draw) options="-o --output -h --help" ;;
     help) options="check run fleet search explain replace steps simulate new draw" ;;
     esac
     case $word in

@@ -11,7 +11,7 @@ both_empty [] ys e = (refl, e)
 both_empty (x ∷ xs) ys e = absurd cc
 
 -- two texts, one after the other
-gets_both : {W : Type 0} (contents : W → Option (List ℕ)) (old mid new : Output W) (xs ys : List ℕ) → Gets contents old mid xs → Gets contents mid new ys → Gets contents old new (xs ++ ys)
+pub gets_both : {W : Type 0} (contents : W → Option (List ℕ)) (old mid new : Output W) (xs ys : List ℕ) → Gets contents old mid xs → Gets contents mid new ys → Gets contents old new (xs ++ ys)
 gets_both contents old mid new xs ys g h = record {
   added = Appends-trans (contents (writer_of old)) (contents (writer_of mid)) (contents (writer_of new)) xs ys g.added h.added;
   whole = h.whole ∙ g.whole;

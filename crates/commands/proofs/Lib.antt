@@ -16,3 +16,5 @@ pub mod Searching
 pub mod Printing
 pub mod Edits
 pub mod Drawn
+pub mod Layouts
+pub mod Placed

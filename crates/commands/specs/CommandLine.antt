@@ -30,6 +30,15 @@ workers_rule = record (new_rule (codes "workers")) {
 abbrev pub workers_leaf : Text → App
 workers_leaf name = with_rule (file_leaf name) workers_rule
 
+-- the file that the printed text goes to: -o FILE or --output FILE
+abbrev pub output_rule : Rule
+output_rule = record (new_rule (codes "output")) {
+  long = Some (codes "output");
+  short = Some 111;
+  value_names = 1;
+  action = Some Set;
+}
+
 -- a subcommand of a plan, a script and a number of workers
 abbrev pub fleet_leaf : Text → App
 fleet_leaf name = with_rule (script_leaf name) workers_rule
@@ -50,6 +59,14 @@ program = on_top (λ s. record s { has_version = true; subcommand_required = tru
 -- an option without a value: --ID
 abbrev pub flag_rule : Text → Rule
 flag_rule id = record (new_rule id) { long = Some id; action = Some SetTrue }
+
+-- a subcommand that prints a plan, which may be laid out and go to a file
+abbrev pub with_options : App → App
+with_options command = with_rule (with_rule command (flag_rule (codes "pretty"))) output_rule
+
+-- a subcommand of a plan's file and a number of workers that prints a plan
+abbrev pub search_leaf : Text → App
+search_leaf name = with_options (workers_leaf name)
 
 -- a subcommand of a plan's file, and of a script's if it is named, that may write JSON
 abbrev pub json_leaf : Text → App
@@ -83,7 +100,8 @@ abbrev pub places_leaf : Text → App
 places_leaf name = with_rule (with_rule (members_leaf name) group_rule) configuration_rule
 
 abbrev pub replace_leaf : Text → App
-replace_leaf name = with_rule (with_rule (places_leaf name) (flag_rule (codes "tail"))) (flag_rule (codes "direct"))
+replace_leaf name =
+    with_options (with_rule (with_rule (places_leaf name) (flag_rule (codes "tail"))) (flag_rule (codes "direct")))
 
 -- the number of the configuration to which a step leads, which must be given
 abbrev pub target_rule : Rule
@@ -147,22 +165,23 @@ groups_leaf name = with_rule (with_rule (quorums_leaf name) (count_rule (codes "
 
 -- all options of a new plan
 abbrev pub new_leaf : Text → App
-new_leaf name = with_rule (with_rule (groups_leaf name) (count_rule (codes "lal") 1 10000000 (codes "10000000")))
-    workers_rule
+new_leaf name =
+    with_options (with_rule (with_rule (groups_leaf name) (count_rule (codes "lal") 1 10000000 (codes "10000000")))
+    workers_rule)
 
 -- a subcommand of a plan's file, and of a script's if it is named
 abbrev pub draw_leaf : Text → App
-draw_leaf name = with_rule (file_leaf name) (other_file_rule (codes "script"))
+draw_leaf name = with_rule (with_rule (file_leaf name) (other_file_rule (codes "script"))) output_rule
 
 -- the program with its first two subcommands, with its third, its fourth, and so on
-abbrev pub with_runs : App
-with_runs = with_subcommand (with_subcommand program (file_leaf (codes "check")).top) (script_leaf (codes "run")).top
+abbrev pub with_run : App
+with_run = with_subcommand (with_subcommand program (file_leaf (codes "check")).top) (script_leaf (codes "run")).top
 
 abbrev pub with_fleet : App
-with_fleet = with_subcommand with_runs (fleet_leaf (codes "fleet")).top
+with_fleet = with_subcommand with_run (fleet_leaf (codes "fleet")).top
 
 abbrev pub with_search : App
-with_search = with_subcommand with_fleet (workers_leaf (codes "search")).top
+with_search = with_subcommand with_fleet (search_leaf (codes "search")).top
 
 abbrev pub with_explain : App
 with_explain = with_subcommand with_search (json_leaf (codes "explain")).top
@@ -182,6 +201,7 @@ with_new = with_subcommand with_simulate (new_leaf (codes "new")).top
 -- check FILE, run PLAN SCRIPT, fleet PLAN SCRIPT -w N, search FILE -w N, explain FILE SCRIPT --json, whose script may
 -- be left out, replace FILE -w N --out N --in N -g N -c N --tail --direct, steps FILE -g N -c N, simulate FILE --seed N
 -- --runs N --crash --replace, new --members TEXT --zones TEXT --tail TEXT --weights TEXT --survive TEXT --read N
--- --write N --groups N --born N --lal N -w N, draw FILE SCRIPT, whose script may be left out
+-- --write N --groups N --born N --lal N -w N, draw FILE SCRIPT, whose script may be left out; and --pretty of search,
+-- replace and new, -o FILE of these and of draw
 abbrev pub tool : App
 tool = with_subcommand with_new (draw_leaf (codes "draw")).top

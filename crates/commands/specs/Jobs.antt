@@ -1,5 +1,5 @@
 -- A job, and the words of the command line that name it.
-use Rattle.std.specs.Prelude.{◌≡◌, ◌<◌, ◌^◌, ℕ, List, [], Bool, true, false, Option, Some, None, codes, option_map}
+use Rattle.std.specs.Prelude.{◌≡◌, ◌≢◌, ◌⊎◌, ◌<◌, ◌^◌, ℕ, List, [], Bool, true, false, Option, Some, None, codes, option_map}
 use Rattle.std.specs.Str.{bytes_eq}
 use Rattle.std.specs.Str.Parse.{IsNumeral, digits_value, without_leading_plus}
 use Rattle.clap.specs.Words.{Row, Text, first_of, one_of}
@@ -111,13 +111,21 @@ IsPlanName false given name = given ≡ Some name
 abbrev pub NamesPlan : Text → List Row → Text → Type 0
 NamesPlan subcommand rows name = IsPlanName (bytes_eq subcommand (codes "new")) (first_of (codes "plan") rows) name
 
+-- at most one of a plan and a script is standard input
+abbrev pub AreApart : Text → Option Text → Type 0
+AreApart plan None = Unit {0}
+AreApart plan (Some script) = (plan ≢ codes "-") ⊎ (script ≢ codes "-")
+
 -- the subcommand that clap entered, and what it has for each id
 pub record IsJob (found : Option (Text × List Row)) (j : Job) : Type 0 where
   pub rows : List Row
   pub entered : found ≡ Some (name_of j.action, rows)
   pub plan : NamesPlan (name_of j.action) rows j.plan.now
   pub script : option_map (λ w. w.now) j.script ≡ first_of (codes "script") rows
+  pub apart : AreApart j.plan.now (option_map (λ w. w.now) j.script)
   pub workers : IsNumberOf (one_of (codes "workers") rows) j.workers
   pub json : j.json ≡ is_asked (first_of (codes "json") rows)
+  pub output : option_map (λ w. w.now) j.output ≡ first_of (codes "output") rows
+  pub pretty : j.pretty ≡ is_asked (first_of (codes "pretty") rows)
   pub options : HasOptions rows j.action
   pub request : AreWords rows j.request

@@ -23,3 +23,5 @@ pub mod Explains
 pub mod Reports
 pub mod ShownName
 pub mod FaultQuery
+pub mod Layout
+pub mod Places

@@ -21,7 +21,7 @@ IsRefusal error (Words said) = (said ≡ error) × (kind_of error ≢ OutOfMemor
 IsRefusal error (Missing what) = ⊥
 IsRefusal error (Memory refused) = kind_of error ≡ OutOfMemory
 
--- a subcommand or a file is missing: what clap found names no job
+-- a subcommand or a file is missing, or standard input is to be read twice: what clap found names no job
 abbrev pub IsMissing : Option (Text × List Row) → Usage → Type 0
 IsMissing found (Words error) = ⊥
 IsMissing found (Missing what) = (j : Job) → IsJob found j → ⊥

@@ -68,14 +68,18 @@ pub enum Action {
 pub struct Job<'a> {
     /// What to do with the files.
     pub action: Action,
-    /// The plan's file; empty if the action takes none.
+    /// The plan's file, `-` for standard input; empty if the action takes none.
     pub plan: &'a str,
-    /// The script's file, where the action takes one.
+    /// The script's file, where the action takes one; `-` for standard input.
     pub script: Option<&'a str>,
     /// The number of workers; 4 if the action takes no such number.
     pub workers: u8,
     /// Whether a plan is explained as JSON.
     pub json: bool,
+    /// The file that the printed text goes to in place of standard output.
+    pub output: Option<&'a str>,
+    /// Whether a printed plan is laid out over several lines.
+    pub pretty: bool,
     /// What a new plan is to be; nothing but numbers if the action isn't `New`.
     pub request: PlanRequest<'a>,
     ghost some: { 1 ≤ workers },
@@ -91,13 +95,8 @@ impl<'a> Job<'a> {
         }
     }
 
-    /// Returns whether the plan is read from standard input: that of `explain -`.
-    pub fn reads_stdin(&self) -> bool {
-        self.action == Action::Explain && self.plan == "-"
-    }
-
-    /// Returns whether the script is read from standard input: that of `explain PLAN -`.
-    pub fn reads_script_from_stdin(&self) -> bool {
-        self.action == Action::Explain && self.script == Some("-")
+    /// Returns whether the printed text is laid out or goes to a file.
+    pub fn is_placed(&self) -> bool {
+        self.pretty || self.output.is_some()
     }
 }

@@ -9,9 +9,8 @@ ghost use Rattle.commands.specs.declared.files.ReadFault.TheVariants.{Unreadable
 
 use crate::fallible::{FallibleRead, is_interrupted};
 use std::alloc::{AllocError, Global};
+use std::io;
 use std::io::{ErrorKind, Read};
-use std::rt::Files;
-use std::{fs, io};
 
 /// The number of bytes asked of a reader at a time.
 const CHUNK: usize = 16_384;
@@ -61,17 +60,6 @@ impl<R: Read> Source<R> {
             failed: false,
         }
     }
-}
-
-/// Opens the file with a name. If the job has no such file, it is one that can't be opened.
-pub fn opened<R: Files>(rt: &R, name: Option<&str>) -> Source<R::File>
-    ensures whole { is_unread result ≡ false }
-    ensures absent { name.entry ≡ None → left_of R.File.remaining result ≡ None }
-{
-    Source::new(match name {
-        Some(name) => fs::open(rt, name),
-        None => Err(io::Error::from(ErrorKind::NotFound)),
-    })
 }
 
 impl<R: FallibleRead> Source<R> {

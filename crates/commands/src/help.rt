@@ -5,9 +5,14 @@ pub const PROGRAM: &str = "\
 Exit status: 0 for yes, 1 for a refusal, 2 for words, files or texts that can't be used (told on standard error),
 and for an output that can't be written.
 
+In place of a plan's or a script's file `-` is standard input; one of the two may be.
+
 Every plan's key is said in docs/PLANS.md, every script's word in docs/SCRIPTS.md, every refusal in docs/FAULTS.md.
 
-Example: plan_tool check examples/six_copies.json";
+To begin: `new` makes a plan, `draw` shows it, `explain` says what it survives, `replace` adds the steps that replace a
+member, `steps` says what to do for one, and `simulate` tries the plan at random.
+
+Example: plan_tool new --members 0-5 -o plan.json && plan_tool explain plan.json";
 
 /// Of `check`.
 pub const CHECK: &str = "\
@@ -50,10 +55,13 @@ pub const SEARCH: &str = "\
 Reads the plan, and prints it with the certificates that are found for its claims; tells on standard error of each claim
 for which none is found.
 
-Exit status: 0 where each claim has one; 1 where a claim has none, or for a fault of the plan; 2 where the file can't be
-read or its text isn't a plan's (told on standard error).
+With -o FILE the plan is written as a new file beside FILE, which is then renamed, so that FILE may be the plan's own
+file. If the status isn't 0 what would be printed without -o is printed, and FILE isn't touched.
 
-Example: plan_tool search examples/uncertified.json -w 4 > certified.json";
+Exit status: 0 where each claim has one; 1 where a claim has none, or for a fault of the plan; 2 where the file can't be
+read or its text isn't a plan's (told on standard error), or where FILE can't be written.
+
+Example: plan_tool search examples/uncertified.json -w 4 -o certified.json";
 
 /// Of `explain`.
 pub const EXPLAIN: &str = "\
@@ -65,7 +73,7 @@ it prints what the refusal with that number means.
 With a script it prints what is wrong with the script's first bad line; else it runs the script, and prints each refused
 line with what the refusal means, the nodes and the clients at the end, and the last lines of `run`.
 
-With --json it prints the same as one line of JSON on standard output. The file `-` is standard input.
+With --json it prints the same as one line of JSON on standard output.
 
 Exit status, as of `check`, or of `run` with a script: 0 for yes; 1 for a fault or a refused line; 2 where a file can't
 be read or its text isn't a plan's or a script's, or no refusal has the number (told on standard error).
@@ -88,11 +96,15 @@ no way back, and until the new member is whole the group has a member less to re
 
 The new member is full, which is to say that it keeps pages, if the old one is. With --tail it keeps the log alone.
 
-Exit status: 0 where the plan is printed; 1 where it isn't and a line says why; 2 where the file can't be read or its
-text isn't a plan's (told on standard error). A fault of the plan that would be printed is told as `check` does it. What
-is printed has the status 0 in `check`.
+`steps` prints what to do for each new configuration, and `draw` shows them. With -o FILE the plan is written as a new
+file beside FILE, which is then renamed, so that FILE may be the plan's own file; if the status isn't 0 FILE isn't
+touched.
 
-Example: plan_tool replace examples/six_copies.json --out 5 --in 6 > replaced.json";
+Exit status: 0 where the plan is printed; 1 where it isn't and a line says why; 2 where the file can't be read or its
+text isn't a plan's (told on standard error), or where FILE can't be written. A fault of the plan that would be printed
+is told as `check` does it. What is printed has the status 0 in `check`.
+
+Example: plan_tool replace examples/six_copies.json --out 5 --in 6 -o replaced.json";
 
 /// The notes of `steps`.
 pub const STEPS: &str = "\
@@ -108,7 +120,8 @@ Each run has a script of its own: transactions of several writers, losses, repet
 of order, recoveries side by side, and groups that join; with --crash nodes restart too, with --replace groups step
 along the plan. What a run prints is judged: whether each later recovery has all acknowledged commits, and whether no
 LSN is given twice. Status 0: no promise is broken. Status 1: a run breaks one; its seed and its script are printed,
-without the lines that don't matter. The plan must have no fault.
+without the lines that don't matter. The plan must have no fault. Where standard error is a terminal, it shows how many
+runs have ended.
 
 Example: plan_tool simulate plan.json --seed 7 --runs 100 --crash --replace";
 
@@ -132,11 +145,17 @@ size N of the largest zone, if these survive that; else a part of all zones but 
 reads. A part of a zone of Z members is Z / 2 + 1 of them for writes, and as many as meet those for reads; with `zone+1`
 and three zones it is the whole zone for writes and one member for reads.
 
-Exit status: 0 where the plan is printed; 1 where it isn't and a line says why, with two disjoint sets where a read set
-needn't meet a write set; 2 for words that can't be used (told on standard error).
+--groups makes that many groups, which are alike. With --born the volume begins with the first of them, and the others
+join while it is written to: `--groups 4 --born 1` is a volume that grows.
 
-Examples: plan_tool new --members 0-5 > plan.json
-          plan_tool new --zones 0,1/2,3/4,5 --survive zone+1 --groups 3 --born 2 > plan.json";
+With -o FILE the plan is written as a new file beside FILE, which is then renamed; if the status isn't 0 FILE isn't
+touched.
+
+Exit status: 0 where the plan is printed; 1 where it isn't and a line says why, with two disjoint sets where a read set
+needn't meet a write set; 2 for words that can't be used (told on standard error), or where FILE can't be written.
+
+Examples: plan_tool new --members 0-5 -o plan.json
+          plan_tool new --zones 0,1/2,3/4,5 --survive zone+1 --groups 3 --born 2 -o plan.json";
 
 /// The notes of `draw`.
 pub const DRAW: &str = "\
@@ -150,7 +169,7 @@ drawn.
 
 Exit status: 0 where the picture is printed; 1 where it isn't and a line says why, as for a plan with a wrong parent, or
 for a fault of a run's plan; 2 where a file can't be read or its text isn't a plan's or a script's (told on standard
-error).
+error), or where the file of -o can't be written. If the status isn't 0, that file isn't touched.
 
-Example: plan_tool draw examples/six_copies.json > plan.svg
-         plan_tool draw examples/six_copies.json examples/recovery.script > run.svg";
+Example: plan_tool draw examples/six_copies.json -o plan.svg
+         plan_tool draw examples/six_copies.json examples/recovery.script -o run.svg";

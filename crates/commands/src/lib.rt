@@ -2,6 +2,7 @@
 #![tactic(auto)]
 
 mod action;
+mod arguments;
 mod beginning;
 mod explain_performing;
 mod explaining;
@@ -11,7 +12,8 @@ mod files;
 mod finishing;
 mod help;
 mod inputs;
-mod late_file;
+mod job_file;
+mod layout;
 mod leaking;
 mod making;
 mod names;
@@ -19,6 +21,9 @@ mod options;
 mod outputs;
 mod performing;
 mod pictures;
+mod placed_performing;
+mod placing;
+mod progress_line;
 mod replacing;
 mod reply;
 mod reporting;
@@ -33,14 +38,18 @@ mod search;
 mod subcommands;
 mod usage;
 mod usage_text;
+mod whole_file;
 mod words;
 
 pub use action::{Action, Job, Making, ReplaceOptions};
 pub use fallible::{FallibleRead, FallibleWrite};
-pub use files::{ReadFault, Source, opened};
-pub use late_file::{LateFile, opened_late};
+pub use files::{ReadFault, Source};
+pub use job_file::{JobFile, opened};
 pub use outputs::{Output, WriteFailed, deliver};
 pub use performing::perform;
+pub use placed_performing::perform_placed;
+pub use progress_line::{Progress, TerminalProgress, Unseen};
 pub use usage::Usage;
 pub use usage_text::{NO_MEMORY, print_usage};
+pub use whole_file::{RenamedFile, WholeFile};
 pub use words::job;

@@ -11,6 +11,7 @@ use crate::action::{Job, Making};
 use crate::fallible::FallibleRead;
 use crate::files::Source;
 use crate::inputs::checked;
+use crate::progress_line::Progress;
 use crate::reply::{Reply, Stop};
 use crate::run_steps::{step_events, steps_facts};
 use crate::run_text::run_lines;
@@ -28,11 +29,13 @@ const MOST_LAL: u64 = 1 << 57;
 
 /// Runs scripts over a plan as `run` does.
 #[derive(Drop)]
-struct PlanRunner<'a> {
+struct PlanRunner<'a, G> {
     plan: &'a Arc<CheckedPlan>,
+    progress: &'a G,
+    runs: u32,
 }
 
-impl ScriptRunner for PlanRunner<'_> {
+impl<G: Progress> ScriptRunner for PlanRunner<'_, G> {
     fn run(&self, alloc: Global, script: &str) -> Result<ScriptRun, Broken> {
         let Ok(script) = read_script(alloc, script.as_bytes()) else {
             return Err(Broken::new("a script has a bad line", [0; 4]));
@@ -50,20 +53,31 @@ impl ScriptRunner for PlanRunner<'_> {
             waited: self.plan.lal() <= MOST_LAL && membership.waited(),
         })
     }
+
+    fn ended(&self, runs: u32) {
+        self.progress.show(runs, self.runs);
+    }
 }
 
 /// Returns the answer of random runs over a plan.
-fn simulated(
+fn simulated<G: Progress>(
     alloc: Global,
     plan: CheckedPlan,
     simulation: Simulation,
+    progress: &G,
 ) -> Result<Reply, Stop<'static>>
     ensures status { IfOk result (λ reply. reply.status ≤ 1) }
     ensures stop { IfErr result (λ stop. stop ≡ NoMemory) }
 {
     let plan = Arc::new(alloc, plan)?;
-    let runner = PlanRunner { plan: &plan };
-    let verdict = simulate(alloc, &plan, simulation, &runner)?;
+    let runner = PlanRunner {
+        plan: &plan,
+        progress,
+        runs: simulation.runs,
+    };
+    let verdict = simulate(alloc, &plan, simulation, &runner);
+    progress.clear();
+    let verdict = verdict?;
     Ok(Reply {
         status: verdict.status,
         text: verdict.text,
@@ -110,7 +124,12 @@ fn stepped(
 }
 
 /// Returns what is made of a checked plan.
-fn made(alloc: Global, plan: CheckedPlan, making: Making) -> Result<Reply, Stop<'static>>
+fn made<G: Progress>(
+    alloc: Global,
+    plan: CheckedPlan,
+    making: Making,
+    progress: &G,
+) -> Result<Reply, Stop<'static>>
     ensures status { IfOk result (λ reply. reply.status ≤ 1) }
     ensures stop { IfErr result (λ stop. stop ≡ NoMemory) }
 {
@@ -119,22 +138,23 @@ fn made(alloc: Global, plan: CheckedPlan, making: Making) -> Result<Reply, Stop<
             group,
             configuration,
         } => stepped(alloc, &plan, group, configuration),
-        Making::Simulate(simulation) => simulated(alloc, plan, simulation),
+        Making::Simulate(simulation) => simulated(alloc, plan, simulation, progress),
     }
 }
 
 /// Returns the answer of `steps` or `simulate`: checks the plan, and makes what is asked for.
-pub fn make<'a, P: FallibleRead>(
+pub fn make<'a, P: FallibleRead, G: Progress>(
     alloc: Global,
     job: &Job<'a>,
     making: Making,
     plan: &mut Source<P>,
+    progress: &G,
 ) -> Result<Reply, Stop<'a>>
     ensures answers { AnswersOf (file_of P.remaining job.now.plan.now plan.old plan.new) MakesTo (answer_of result) }
     ensures reason { FailsByRead P.answers plan.old plan.new }
 {
     match checked(alloc, job.plan, plan) {
-        Ok(plan) => made(alloc, plan, making),
+        Ok(plan) => made(alloc, plan, making, progress),
         Err(stop) => Err(stop),
     }
 }

@@ -35,6 +35,13 @@ impl<W> Output<W> {
         }
     }
 
+    /// Returns whether a write has failed.
+    pub fn has_failed(&self) -> bool
+        ensures { result ≡ is_broken self.now }
+    {
+        self.failed
+    }
+
     /// Returns the writer.
     pub fn into_inner(self) -> W
         ensures { result ≡ writer_of self }
@@ -115,7 +122,7 @@ impl<W: FallibleWrite> Output<W> {
 }
 
 /// Prints that an output can't be written.
-fn complain<E: FallibleWrite>(err: &mut Output<E>)
+pub(crate) fn complain<E: FallibleWrite>(err: &mut Output<E>)
     ensures line { Gets E.contents err.old err.new unwritten_line ⊎ (is_broken err.new ≡ true) }
     ensures reason { FailsByWrite E.answers err.old err.new }
 {

@@ -31,6 +31,7 @@ use crate::leaking::leak;
 use crate::making::make;
 use crate::outputs::{Output, deliver};
 use crate::pictures::{drawn, drawn_script};
+use crate::progress_line::Progress;
 use crate::replacing::replaced;
 use crate::reply::{Begun, Edited, Reply, Stop};
 use crate::run_text::checked_line;
@@ -204,11 +205,12 @@ fn perform_replace<H: Threads + Wait + Sync, P: FallibleRead, O: FallibleWrite, 
 }
 
 /// Makes something of a checked plan, as [`perform`] does.
-fn perform_make<P: FallibleRead, O: FallibleWrite, E: FallibleWrite>(
+fn perform_make<P: FallibleRead, G: Progress, O: FallibleWrite, E: FallibleWrite>(
     alloc: Global,
     job: &Job<'_>,
     making: Making,
     plan: &mut Source<P>,
+    progress: &G,
     out: &mut Output<O>,
     err: &mut Output<E>,
 ) -> u8
@@ -221,7 +223,7 @@ fn perform_make<P: FallibleRead, O: FallibleWrite, E: FallibleWrite>(
     ensures out_written { FailsByWrite O.answers out.old out.new }
     ensures err_written { FailsByWrite E.answers err.old err.new }
 {
-    let answer = make(alloc, job, making, plan);
+    let answer = make(alloc, job, making, plan, progress);
     finish(alloc, &answer, out, err)
 }
 
@@ -324,11 +326,12 @@ fn perform_draw<P: FallibleRead, S: FallibleRead, O: FallibleWrite, E: FallibleW
 /// Performs a job on the contents of its files, prints its answer, and returns the exit status: 0 for yes, 1 for a
 /// refusal, 2 for an input that can't be used (printed to `err` alone) or an output that can't be written. Only `run`,
 /// `fleet` and an `explain` or a `draw` with a script read the script; `new` reads no file; only `fleet`, `search`,
-/// `replace` and `new` start threads. It may leak memory to the end of the process.
+/// `replace` and `new` start threads. `simulate` shows its progress. It may leak memory to the end of the process.
 pub fn perform<
     H: Threads + Wait + Sync,
     P: FallibleRead,
     S: FallibleRead,
+    G: Progress,
     O: FallibleWrite,
     E: FallibleWrite,
 >(
@@ -337,6 +340,7 @@ pub fn perform<
     job: &Job<'_>,
     plan: &mut Source<P>,
     script: &mut Source<S>,
+    progress: &G,
     out: &mut Output<O>,
     err: &mut Output<E>,
 ) -> u8
@@ -438,7 +442,7 @@ pub fn perform<
             None => perform_explain(alloc, job, plan, out, err),
         },
         Action::Replace(options) => perform_replace(rt, alloc, job, options, plan, out, err),
-        Action::Make(making) => perform_make(alloc, job, making, plan, out, err),
+        Action::Make(making) => perform_make(alloc, job, making, plan, progress, out, err),
         Action::New => perform_new(rt, alloc, &job.request, job.workers, out, err),
         Action::Draw => perform_draw(alloc, job, plan, script, out, err),
     }

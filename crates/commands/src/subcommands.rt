@@ -1,38 +1,21 @@
 //! The command line, by clap's builder.
 
-ghost use Rattle.std.specs.Prelude.{◌≡◌, ◌≤◌, IfOk, codes, false};
-ghost use Rattle.clap.specs.Words.{app_of, rule_of, with_subcommand};
+ghost use Rattle.std.specs.Prelude.{◌≡◌, IfOk, false};
+ghost use Rattle.clap.specs.Words.{app_of, with_subcommand};
 ghost use Rattle.clap.specs.declared.builder.command.Command.TheViews.{out-Command as fields_of};
-ghost use Rattle.commands.specs.CommandLine.{IsLeaf, file_rule, flag_rule, json_leaf, other_file_rule, tool, program};
-ghost use Rattle.commands.specs.CommandLine.{file_leaf, fleet_leaf, script_leaf, workers_leaf, workers_rule};
-ghost use Rattle.commands.specs.CommandLine.{configuration_rule, group_rule, member_rule, members_leaf};
-ghost use Rattle.commands.specs.CommandLine.{places_leaf, replace_leaf};
-ghost use Rattle.commands.specs.CommandLine.{bounded_rule, draw_leaf, groups_leaf, new_leaf, quorums_leaf};
-ghost use Rattle.commands.specs.CommandLine.{text_rule, weights_leaf, words_leaf, zones_leaf};
-ghost use Rattle.commands.specs.CommandLine.{count_rule, runs_leaf, simulate_leaf, steps_leaf, target_rule};
+ghost use Rattle.commands.specs.CommandLine.{IsLeaf, draw_leaf, file_leaf, fleet_leaf, groups_leaf};
+ghost use Rattle.commands.specs.CommandLine.{json_leaf, members_leaf, new_leaf, places_leaf, program};
+ghost use Rattle.commands.specs.CommandLine.{quorums_leaf, replace_leaf, runs_leaf, script_leaf, search_leaf};
+ghost use Rattle.commands.specs.CommandLine.{simulate_leaf, steps_leaf, tool, weights_leaf, with_fleet, with_options, with_replace};
+ghost use Rattle.commands.specs.CommandLine.{words_leaf, workers_leaf, zones_leaf};
 
+use crate::arguments::{
+    born, configuration, file, flag, group, groups, lal, member, needed, other_file, output,
+    pretty, runs, seed, target, text, workers,
+};
 use crate::help;
-use clap::{Arg, ArgAction, Command, value_parser};
+use clap::Command;
 use std::alloc::{AllocError, Global};
-
-/// Returns an argument that names a file.
-fn file<'a>(alloc: Global, id: &'a str, about: &'a str) -> Arg<'a>
-    ensures rule { rule_of result ≡ file_rule id.entry.now }
-    ensures local { result.global ≡ false }
-{
-    Arg::new(alloc, id)
-        .required(true)
-        .action(ArgAction::Set)
-        .help(about)
-}
-
-/// Returns an argument that names a file, and may be left out.
-fn other_file<'a>(alloc: Global, id: &'a str, about: &'a str) -> Arg<'a>
-    ensures rule { rule_of result ≡ other_file_rule id.entry.now }
-    ensures local { result.global ≡ false }
-{
-    Arg::new(alloc, id).action(ArgAction::Set).help(about)
-}
 
 /// Returns the program before its subcommands.
 fn program<'a>(alloc: Global) -> Command<'a>
@@ -57,21 +40,19 @@ fn of_file<'a>(
     Command::new(alloc, name)
         .about(about)
         .after_help(notes)
-        .arg(file(alloc, "plan", "The plan's file: a JSON text"))
+        .arg(file(
+            alloc,
+            "plan",
+            "The plan's file: a JSON text; - is standard input",
+        ))
 }
 
-/// Returns the option of how many workers there are.
-fn workers<'a>(alloc: Global, about: &'a str) -> Arg<'a>
-    ensures rule { rule_of result ≡ workers_rule }
-    ensures local { result.global ≡ false }
+/// Adds the options of a subcommand that prints a plan: how it is laid out, and the file that it goes to.
+fn with_options<'a>(alloc: Global, command: Command<'a>) -> Result<Command<'a>, AllocError>
+    requires { (fields_of command).has_globals ≡ false }
+    ensures { IfOk result (IsLeaf (with_options (app_of command.entry))) }
 {
-    Arg::new(alloc, "workers")
-        .short('w')
-        .long("workers")
-        .value_name("N")
-        .help(about)
-        .value_parser(value_parser!(u8).range(1..=16))
-        .default_value("4")
+    command.arg(pretty(alloc))?.arg(output(alloc))
 }
 
 /// Returns a subcommand of a plan's file and a number of workers.
@@ -86,6 +67,19 @@ fn of_workers<'a>(
     of_file(alloc, name, about, notes)?.arg(workers(alloc, "How many workers search, 1 to 16"))
 }
 
+/// Returns a subcommand of a plan's file and a number of workers that prints a plan.
+fn of_search<'a>(
+    alloc: Global,
+    name: &'a str,
+    about: &'a str,
+    notes: &'a str,
+) -> Result<Command<'a>, AllocError>
+    ensures { IfOk result (IsLeaf (search_leaf name.entry.now)) }
+{
+    let command = of_workers(alloc, name, about, notes)?;
+    with_options(alloc, command)
+}
+
 /// Returns a subcommand of a plan and a script.
 fn of_script<'a>(
     alloc: Global,
@@ -95,7 +89,11 @@ fn of_script<'a>(
 ) -> Result<Command<'a>, AllocError>
     ensures { IfOk result (IsLeaf (script_leaf name.entry.now)) }
 {
-    let script = file(alloc, "script", "The script's file: an event a line");
+    let script = file(
+        alloc,
+        "script",
+        "The script's file: an event a line; - is standard input",
+    );
     of_file(alloc, name, about, notes)?.arg(script)
 }
 
@@ -114,17 +112,6 @@ fn of_fleet<'a>(
     ))
 }
 
-/// Returns an option without a value.
-fn flag<'a>(alloc: Global, id: &'a str, about: &'a str) -> Arg<'a>
-    ensures rule { rule_of result ≡ flag_rule id.entry.now }
-    ensures local { result.global ≡ false }
-{
-    Arg::new(alloc, id)
-        .long(id)
-        .action(ArgAction::SetTrue)
-        .help(about)
-}
-
 /// Returns a subcommand of a plan's file, and of a script's if it is named, that may write JSON.
 fn of_json<'a>(
     alloc: Global,
@@ -141,62 +128,6 @@ fn of_json<'a>(
         "json",
         "Print the same as one line of JSON, of the form in docs/EXPLAIN.md",
     ))
-}
-
-/// Returns an option with a member's number, which must be given.
-fn member<'a>(alloc: Global, id: &'a str, about: &'a str) -> Arg<'a>
-    ensures rule { rule_of result ≡ member_rule id.entry.now }
-    ensures local { result.global ≡ false }
-{
-    Arg::new(alloc, id)
-        .long(id)
-        .value_name("MEMBER")
-        .help(about)
-        .value_parser(value_parser!(u8).range(0..=63))
-        .required(true)
-}
-
-/// Returns the option with a group's number.
-fn group<'a>(alloc: Global) -> Arg<'a>
-    ensures rule { rule_of result ≡ group_rule }
-    ensures local { result.global ≡ false }
-{
-    Arg::new(alloc, "group")
-        .short('g')
-        .long("group")
-        .value_name("N")
-        .help("The group")
-        .value_parser(value_parser!(u8).range(0..=15))
-        .default_value("0")
-}
-
-/// Returns the option with the number of the configuration to which a step leads.
-fn target<'a>(alloc: Global) -> Arg<'a>
-    ensures rule { rule_of result ≡ target_rule }
-    ensures local { result.global ≡ false }
-{
-    Arg::new(alloc, "configuration")
-        .short('c')
-        .long("configuration")
-        .value_name("N")
-        .help("The configuration to which the step leads")
-        .value_parser(value_parser!(u8).range(0..=63))
-        .required(true)
-}
-
-/// Returns the option with a configuration's number.
-fn configuration<'a>(alloc: Global) -> Arg<'a>
-    ensures rule { rule_of result ≡ configuration_rule }
-    ensures local { result.global ≡ false }
-{
-    Arg::new(alloc, "configuration")
-        .short('c')
-        .long("configuration")
-        .value_name("N")
-        .help(
-            "The configuration that the replacement leaves; may be left out if the group has only one",
-        )
-        .value_parser(value_parser!(u8).range(0..=63))
 }
 
 /// Returns a subcommand of a plan's file, a number of workers and two members.
@@ -243,11 +174,12 @@ fn of_replace<'a>(
         "The new member keeps the log alone, even if the old one keeps pages",
     );
     let command = command.arg(tail)?;
-    command.arg(flag(
+    let direct = flag(
         alloc,
         "direct",
         "Leave out the configuration with both members, if that can be certified",
-    ))
+    );
+    with_options(alloc, command.arg(direct)?)
 }
 
 /// Returns a subcommand of a plan's file, a group and a configuration.
@@ -261,32 +193,6 @@ fn of_steps<'a>(
 {
     let command = of_file(alloc, name, about, notes)?.arg(group(alloc))?;
     command.arg(target(alloc))
-}
-
-/// Returns the option with the first seed.
-fn seed<'a>(alloc: Global) -> Arg<'a>
-    ensures rule { rule_of result ≡ count_rule (codes "seed") 0 4294967295 (codes "1") }
-    ensures local { result.global ≡ false }
-{
-    Arg::new(alloc, "seed")
-        .long("seed")
-        .value_name("N")
-        .help("The seed of the first run; each run has the next one")
-        .value_parser(value_parser!(u32).range(0..=4_294_967_295))
-        .default_value("1")
-}
-
-/// Returns the option with the number of runs.
-fn runs<'a>(alloc: Global) -> Arg<'a>
-    ensures rule { rule_of result ≡ count_rule (codes "runs") 1 1000000 (codes "1000") }
-    ensures local { result.global ≡ false }
-{
-    Arg::new(alloc, "runs")
-        .long("runs")
-        .value_name("N")
-        .help("How many runs, 1 to 1,000,000")
-        .value_parser(value_parser!(u32).range(1..=1_000_000))
-        .default_value("1000")
 }
 
 /// Returns a subcommand of a plan's file, the first seed and the number of runs.
@@ -314,18 +220,6 @@ fn of_simulate<'a>(
     let command = of_runs(alloc, name, about, notes)?;
     let command = command.arg(flag(alloc, "crash", "Nodes restart"))?;
     command.arg(flag(alloc, "replace", "Groups step along the plan"))
-}
-
-/// Returns an option with a text.
-fn text<'a>(alloc: Global, id: &'a str, value: &'a str, about: &'a str) -> Arg<'a>
-    ensures rule { rule_of result ≡ text_rule id.entry.now }
-    ensures local { result.global ≡ false }
-{
-    Arg::new(alloc, id)
-        .long(id)
-        .value_name(value)
-        .action(ArgAction::Set)
-        .help(about)
 }
 
 /// Returns a subcommand with the members of a new plan.
@@ -395,18 +289,6 @@ fn of_words<'a>(
     of_weights(alloc, name, about, notes)?.arg(survive)
 }
 
-/// Returns an option with what a read set or a write set needs.
-fn needed<'a>(alloc: Global, id: &'a str, about: &'a str) -> Arg<'a>
-    ensures rule { rule_of result ≡ bounded_rule id.entry.now 1 16320 }
-    ensures local { result.global ≡ false }
-{
-    Arg::new(alloc, id)
-        .long(id)
-        .value_name("N")
-        .help(about)
-        .value_parser(value_parser!(u16).range(1..=16_320))
-}
-
 /// Returns a subcommand with the words of a new plan's quorums.
 fn of_quorums<'a>(
     alloc: Global,
@@ -427,46 +309,6 @@ fn of_quorums<'a>(
         "write",
         "How many members write, or their weight; by default more than half",
     ))
-}
-
-/// Returns the option with the number of groups.
-fn groups<'a>(alloc: Global) -> Arg<'a>
-    ensures rule { rule_of result ≡ count_rule (codes "groups") 1 16 (codes "1") }
-    ensures local { result.global ≡ false }
-{
-    Arg::new(alloc, "groups")
-        .long("groups")
-        .value_name("N")
-        .help("How many groups, 1 to 16")
-        .value_parser(value_parser!(u8).range(1..=16))
-        .default_value("1")
-}
-
-/// Returns the option with the number of groups at birth.
-fn born<'a>(alloc: Global) -> Arg<'a>
-    ensures rule { rule_of result ≡ bounded_rule (codes "born") 1 16 }
-    ensures local { result.global ≡ false }
-{
-    Arg::new(alloc, "born")
-        .long("born")
-        .value_name("N")
-        .help(
-            "How many groups exist when the volume is born, the others join later; by default all",
-        )
-        .value_parser(value_parser!(u8).range(1..=16))
-}
-
-/// Returns the option with the LSN allocation limit.
-fn lal<'a>(alloc: Global) -> Arg<'a>
-    ensures rule { rule_of result ≡ count_rule (codes "lal") 1 10000000 (codes "10000000") }
-    ensures local { result.global ≡ false }
-{
-    Arg::new(alloc, "lal")
-        .long("lal")
-        .value_name("N")
-        .help("How far LSNs may run ahead of the durable point, 1 to 10,000,000")
-        .value_parser(value_parser!(u32).range(1..=10_000_000))
-        .default_value("10000000")
 }
 
 /// Returns a subcommand with the words of a new plan's quorums and groups.
@@ -492,7 +334,8 @@ fn of_new<'a>(
     ensures { IfOk result (IsLeaf (new_leaf name.entry.now)) }
 {
     let command = of_groups(alloc, name, about, notes)?.arg(lal(alloc))?;
-    command.arg(workers(alloc, "How many workers search, 1 to 16"))
+    let command = command.arg(workers(alloc, "How many workers search, 1 to 16"))?;
+    with_options(alloc, command)
 }
 
 /// Returns a subcommand of a plan's file, and of a script's if it is named.
@@ -505,9 +348,11 @@ fn of_draw<'a>(
     ensures { IfOk result (IsLeaf (draw_leaf name.entry.now)) }
 {
     let script = other_file(alloc, "script", "A script's file, whose run is drawn");
-    of_file(alloc, name, about, notes)?.arg(script)
+    let command = of_file(alloc, name, about, notes)?.arg(script)?;
+    command.arg(output(alloc))
 }
 
+/// Adds a subcommand.
 fn add<'a>(command: Command<'a>, leaf: Command<'a>) -> Result<Command<'a>, AllocError>
     requires { (fields_of leaf).has_globals ≡ false }
     ensures { IfOk result
@@ -516,9 +361,9 @@ fn add<'a>(command: Command<'a>, leaf: Command<'a>) -> Result<Command<'a>, Alloc
     command.subcommand(leaf)
 }
 
-/// Returns the whole command line.
-pub fn command_line<'a>(alloc: Global) -> Result<Command<'a>, AllocError>
-    ensures { IfOk result (λ c. app_of c ≡ tool) }
+/// Returns the program with the subcommands that check and run.
+fn with_runs<'a>(alloc: Global) -> Result<Command<'a>, AllocError>
+    ensures { IfOk result (λ c. app_of c ≡ with_fleet) }
 {
     let command = program(alloc);
     let check = of_file(
@@ -536,8 +381,15 @@ pub fn command_line<'a>(alloc: Global) -> Result<Command<'a>, AllocError>
         "Runs a script over a plan on threads",
         help::FLEET,
     )?;
-    let command = add(command, fleet)?;
-    let search = of_workers(
+    add(command, fleet)
+}
+
+/// Returns the program with the subcommands above and those that search, explain and replace.
+fn with_edits<'a>(alloc: Global) -> Result<Command<'a>, AllocError>
+    ensures { IfOk result (λ c. app_of c ≡ with_replace) }
+{
+    let command = with_runs(alloc)?;
+    let search = of_search(
         alloc,
         "search",
         "Writes a plan with certificates for its claims",
@@ -557,7 +409,14 @@ pub fn command_line<'a>(alloc: Global) -> Result<Command<'a>, AllocError>
         "Writes a plan in which a member may be replaced",
         help::REPLACE,
     )?;
-    let command = add(command, replace)?;
+    add(command, replace)
+}
+
+/// Returns the whole command line.
+pub fn command_line<'a>(alloc: Global) -> Result<Command<'a>, AllocError>
+    ensures { IfOk result (λ c. app_of c ≡ tool) }
+{
+    let command = with_edits(alloc)?;
     let steps = of_steps(alloc, "steps", "Writes the script of a step", help::STEPS)?;
     let command = add(command, steps)?;
     let simulate = of_simulate(

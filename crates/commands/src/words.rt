@@ -1,9 +1,9 @@
 //! What a command line asks for.
 
-ghost use Rattle.std.specs.Prelude.{◌≡◌, ◌≢◌, IfErr, IfNone, IfOk, IfSome, codes, map};
+ghost use Rattle.std.specs.Prelude.{◌≡◌, ◌≢◌, ◌↔◌, IfErr, IfNone, IfOk, IfSome, IsTrue, codes, map, option_map};
 ghost use Rattle.clap.specs.Words.{Text, found_of, rows_of, subcommand_of, subcommand_rows_of};
 ghost use Rattle.commands.specs.CommandLine.{tool};
-ghost use Rattle.commands.specs.Jobs.{AreOptions, HasOptions, IsJob, NamesPlan, name_of};
+ghost use Rattle.commands.specs.Jobs.{AreApart, AreOptions, HasOptions, IsJob, NamesPlan, name_of};
 ghost use Rattle.commands.specs.Usage.{IsMissing, IsRefusal, IsRightFor};
 ghost use Rattle.commands.specs.declared.action.Action.{Action as ActionName};
 ghost use Rattle.commands.specs.declared.action.ReplaceOptions.{ReplaceOptions as OptionsName};
@@ -90,6 +90,16 @@ fn plan_of<'a>(name: &str, matches: &ArgMatches<'a>) -> Option<&'a str>
     text_of(matches, "plan")
 }
 
+/// Returns whether at most one of two files is standard input.
+fn are_apart(plan: &str, script: Option<&str>) -> bool
+    ensures { IsTrue result ↔ AreApart plan.now (option_map (λ w. w.now) script.entry) }
+{
+    match script {
+        Some(script) => plan != "-" || script != "-",
+        None => true,
+    }
+}
+
 /// Returns the job that clap found.
 fn job_of<'a>(matches: &ArgMatches<'a>) -> Result<Job<'a>, Usage>
     ensures job { IfOk result (IsJob (subcommand_rows_of matches.now)) }
@@ -105,6 +115,11 @@ fn job_of<'a>(matches: &ArgMatches<'a>) -> Result<Job<'a>, Usage>
         return Err(Usage::Missing("no plan"));
     };
     let script = text_of(inner, "script");
+    if !are_apart(plan, script) {
+        return Err(Usage::Missing(
+            "standard input is read once: it can't be both the plan and the script",
+        ));
+    }
     let Some(workers) = workers_of(inner) else {
         return Err(Usage::Missing("no number of workers from 1 to 16"));
     };
@@ -114,6 +129,8 @@ fn job_of<'a>(matches: &ArgMatches<'a>) -> Result<Job<'a>, Usage>
         script,
         workers,
         json: is_given(inner, "json"),
+        output: text_of(inner, "output"),
+        pretty: is_given(inner, "pretty"),
         request: request_of(inner),
     })
 }

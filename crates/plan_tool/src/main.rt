@@ -4,10 +4,11 @@
 ghost use Rattle.std.specs.Prelude.{◌≤◌};
 
 use commands::{
-    NO_MEMORY, Output, Source, deliver, job, opened, opened_late, perform, print_usage,
+    Job, NO_MEMORY, Output, RenamedFile, TerminalProgress, deliver, job, opened, perform,
+    perform_placed, print_usage,
 };
 use std::alloc::{AllocError, Global};
-use std::io::ErrorKind;
+use std::io::{ErrorKind, Write};
 use std::process::ExitCode;
 use std::sync::Wait;
 use std::thread::Threads;
@@ -30,9 +31,47 @@ fn texts<'a>(alloc: Global, words: &'a [String]) -> Result<Vec<&'a str>, AllocEr
     words.iter().map(|word| word.as_str()).collect(alloc)
 }
 
-/// Reads the words of the command line and performs the job. A search, a replacement, a new plan and a fleet start their
-/// threads with the second handle. A script is opened when it is read, after the plan was checked: opening a named pipe
-/// waits for its writer.
+/// Performs a job. A search, a replacement, a new plan and a fleet start their threads with the second handle. A file is
+/// opened when it is read, a script after the plan was checked: opening a named pipe waits for its writer.
+fn perform_job<H: Threads + Wait + Sync, O: Write, E: Write>(
+    rt: &HostRuntime,
+    threads: &H,
+    job: &Job<'_>,
+    out: &mut Output<O>,
+    err: &mut Output<E>,
+) -> u8
+    ensures { result ≤ 2 }
+{
+    let alloc = rt.alloc();
+    let mut plan = opened(rt, rt.stdin(), job.plan_file());
+    let mut script = opened(rt, rt.stdin(), job.script);
+    if job.is_placed() {
+        let mut file = RenamedFile::new(rt, alloc, job.output.unwrap_or(""));
+        return perform_placed(
+            threads,
+            alloc,
+            job,
+            &mut plan,
+            &mut script,
+            &mut file,
+            out,
+            err,
+        );
+    }
+    let progress = TerminalProgress::new(alloc, rt.stderr());
+    perform(
+        threads,
+        alloc,
+        job,
+        &mut plan,
+        &mut script,
+        &progress,
+        out,
+        err,
+    )
+}
+
+/// Reads the words of the command line and performs the job.
 fn run<H: Threads + Wait + Sync>(rt: &HostRuntime, threads: &H) -> u8
     ensures { result ≤ 2 }
 {
@@ -47,45 +86,7 @@ fn run<H: Threads + Wait + Sync>(rt: &HostRuntime, threads: &H) -> u8
         return deliver(2, b"", NO_MEMORY.as_bytes(), &mut out, &mut err);
     };
     match job(alloc, words.as_slice()) {
-        Ok(job) if job.reads_stdin() => {
-            let mut plan = Source::new(Ok(rt.stdin()));
-            let mut script = opened_late(rt, job.script);
-            perform(
-                threads,
-                alloc,
-                &job,
-                &mut plan,
-                &mut script,
-                &mut out,
-                &mut err,
-            )
-        }
-        Ok(job) if job.reads_script_from_stdin() => {
-            let mut plan = opened(rt, Some(job.plan));
-            let mut script = Source::new(Ok(rt.stdin()));
-            perform(
-                threads,
-                alloc,
-                &job,
-                &mut plan,
-                &mut script,
-                &mut out,
-                &mut err,
-            )
-        }
-        Ok(job) => {
-            let mut plan = opened(rt, job.plan_file());
-            let mut script = opened_late(rt, job.script);
-            perform(
-                threads,
-                alloc,
-                &job,
-                &mut plan,
-                &mut script,
-                &mut out,
-                &mut err,
-            )
-        }
+        Ok(job) => perform_job(rt, threads, &job, &mut out, &mut err),
         Err(usage) => print_usage(alloc, &usage, &mut out, &mut err),
     }
 }

@@ -2,7 +2,7 @@
 
 ghost use Rattle.std.specs.Prelude.{◌≤◌};
 
-use commands::{Action, Job, Output, Source, perform};
+use commands::{Action, Job, Output, Source, Unseen, perform};
 use fuzzing::CommandOutput;
 use plan_edit::PlanRequest;
 use std::alloc::{AllocError, Global};
@@ -21,6 +21,8 @@ fn over_files(action: Action, script: Option<&'static str>, workers: u8) -> Job<
         script,
         workers,
         json: false,
+        output: None,
+        pretty: false,
         request: PlanRequest {
             members: None,
             zones: None,
@@ -72,6 +74,7 @@ pub fn say<H: Threads + Wait + Sync>(
         job,
         &mut plan,
         &mut script,
+        &Unseen,
         &mut out,
         &mut err,
     );

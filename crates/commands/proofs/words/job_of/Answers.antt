@@ -15,7 +15,10 @@ returns-clause-job c =
       plan = rw (← c.in-Some-action_of.ensures.named) c.in-Some-plan_of.ensures.named;
       script = c.text_of-script.ensures;
       workers = c.in-Some-workers_of.ensures.number;
+      apart = c.are_apart.ensures.0 c.if-not-are_apart.false;
       json = c.is_given.ensures;
+      output = c.text_of.ensures;
+      pretty = c.is_given-2.ensures;
       options = c.in-Some-action_of.ensures.options;
       request = c.request_of.ensures;
     }
