@@ -7,10 +7,8 @@ mod number;
 mod on_tape;
 mod on_value;
 mod root;
-mod slots;
 
 pub use counting::count_items;
 pub use node::Node;
 pub use on_tape::{TapeItems, TapeNode};
 pub use root::tape_root;
-pub use slots::Slots;

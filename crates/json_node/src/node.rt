@@ -1,12 +1,9 @@
 //! The trait for nodes of JSON.
 
-ghost use Rattle.std.specs.Prelude.{◌≡◌, ◌≤◌, Option, None, Some, MatchOption, option_map, option_and_then, is_some, true, length};
+ghost use Rattle.std.specs.Prelude.{◌≡◌, ◌≤◌, Option, None, Some, MatchOption, option_map, option_and_then, is_some};
 ghost use Rattle.serde_json.specs.Data.{Data, Items, no_items, item};
 ghost use Rattle.serde_json.specs.Find.{get, as_null, as_number, as_u64, as_array};
-ghost use Rattle.json_node.specs.Nodes.{says, keys_up_to, are_distinct, AreAt};
-ghost use Rattle.json_node.specs.Slots.{slot_list, are_empty};
-
-use crate::slots::Slots;
+ghost use Rattle.json_node.specs.Nodes.{says, keys_up_to};
 
 /// A node of JSON: a value in memory, or a place of a tape. `means` is the value that `serde_json` reads there.
 pub trait Node: Drop {
@@ -41,15 +38,6 @@ pub trait Node: Drop {
     /// Returns the value at a key of an object: the last one, if the key is repeated.
     fn get(&self, key: &str) -> Option<Self>
         ensures { option_map means result ≡ get key.now (means self.now) };
-
-    /// Looks up several keys in one walk: sets the slot of each name as `get` answers, and returns what `keys` does.
-    fn fields(&self, most: usize, names: &[&str], slots: &mut Slots<Self>) -> Option<usize>
-        requires few { most ≤ 8 }
-        requires distinct { are_distinct names.now ≡ true }
-        requires short { length names.now ≤ 9 }
-        requires empty { are_empty (slot_list slots.old) ≡ true }
-        ensures keys { result ≡ keys_up_to most (means self.now) }
-        ensures values { AreAt means (means self.now) names.now (slot_list slots.new) };
 
     /// Returns the items of an array.
     fn items(&self) -> Option<Self::Rest>

@@ -1,16 +1,13 @@
 //! The impl of `Node` for a place of a tape.
 
-ghost use Rattle.std.specs.Prelude.{◌≡◌, ◌≤◌, ◌<◌, is_some, true, false, length, MatchOption};
+ghost use Rattle.std.specs.Prelude.{◌≡◌, ◌≤◌, is_some, true};
 ghost use Rattle.json.specs.Json as json;
 ghost use Rattle.std.specs.Str.{bytes_eq};
 ghost use Rattle.json.specs.Find.{BeginsWith, Finds, get};
-ghost use Rattle.json_node.specs.Nodes.{among, are_distinct, name_at};
-ghost use Rattle.json_node.specs.Slots.{slot_list, are_empty};
-ghost use Rattle.json_node.specs.Placed.{data_at, items_at, or_null, or_none, HasKeys, AreLeft, Fill};
+ghost use Rattle.json_node.specs.Placed.{data_at, items_at, or_null, or_none, among, HasKeys};
 
 use crate::node::Node;
 use crate::number::whole_number;
-use crate::slots::Slots;
 use json::{Element, Members};
 
 /// A place of a tape where a value begins that `serde_json` reads.
@@ -30,7 +27,7 @@ pub struct TapeItems<'t, 'a> {
 /// The most distinct keys that `distinct` counts.
 const KEYS: usize = 8;
 
-/// Returns whether two texts are equal. Keys are short: a loop over the bytes costs less than a call of `==`.
+/// Returns whether two texts are equal. Most unequal ones differ in length or in their first byte.
 fn is_equal(a: &str, b: &str) -> bool
     ensures { result ≡ bytes_eq a.now b.now }
 {
@@ -38,12 +35,10 @@ fn is_equal(a: &str, b: &str) -> bool
     if left.len() != right.len() {
         return false;
     }
-    for place in 0..left.len() {
-        if left[place] != right[place] {
-            return false;
-        }
+    if left.is_empty() || left[0] != right[0] {
+        return left.is_empty();
     }
-    true
+    a == b
 }
 
 /// Returns the last member with a key, as [`Element::get`] does.
@@ -93,56 +88,6 @@ fn distinct(members: &mut Members<'_, '_>, most: usize) -> usize
     count
 }
 
-/// Returns the place of a key among names. Tries place `first` before the others.
-#[inline(always)]
-fn place_of(names: &[&str], first: usize, key: &str) -> Option<usize>
-    ensures { MatchOption result (among key.now names.now ≡ false)
-        (λ i. (i < length names.now) × (bytes_eq (name_at names.now i) key.now ≡ true)) }
-{
-    if first < names.len() && is_equal(names[first], key) {
-        return Some(first);
-    }
-    for place in 0..names.len() {
-        if is_equal(names[place], key) {
-            return Some(place);
-        }
-    }
-    None
-}
-
-/// Moves each member with one of the names into that name's slot, the last one if a key is repeated. Counts the
-/// distinct keys up to `most`, or returns `None` if another key occurs.
-#[inline(always)]
-fn fill<'t, 'a>(
-    members: &mut Members<'t, 'a>,
-    most: usize,
-    names: &[&str],
-    slots: &mut Slots<TapeNode<'t, 'a>>,
-) -> Option<usize>
-    requires few { most ≤ 8 }
-    requires distinct { are_distinct names.now ≡ true }
-    requires short { length names.now ≤ 9 }
-    requires empty { are_empty (slot_list slots.old) ≡ true }
-    requires left { AreLeft members.old }
-    ensures fill { Fill (λ n. or_null (data_at n.element)) members.old most names.now (slot_list slots.new) result }
-{
-    let mut count = 0usize;
-    let mut next = 0usize;
-    let mut is_only = true;
-    'members: while let Some((key, element)) = members.next() {
-        match place_of(names, next, key) {
-            Some(place) => {
-                if slots.replace(place, Some(TapeNode { element })).is_none() {
-                    count = (count + 1).min(most);
-                }
-                next = place + 1;
-            }
-            None => is_only = false,
-        }
-    }
-    if is_only { Some(count) } else { None }
-}
-
 impl<'t, 'a> Node for TapeNode<'t, 'a> {
     type Rest = TapeItems<'t, 'a>;
 
@@ -185,21 +130,6 @@ impl<'t, 'a> Node for TapeNode<'t, 'a> {
     fn get(&self, key: &str) -> Option<TapeNode<'t, 'a>> {
         match find(&self.element, key) {
             Some(element) => Some(TapeNode { element }),
-            None => None,
-        }
-    }
-
-    fn fields(
-        &self,
-        most: usize,
-        names: &[&str],
-        slots: &mut Slots<TapeNode<'t, 'a>>,
-    ) -> Option<usize> {
-        match self.element.members() {
-            Some(mut members) => match fill(&mut members, most, names, slots) {
-                Some(count) => Some(count),
-                None => self.keys(most),
-            },
             None => None,
         }
     }

@@ -3,7 +3,6 @@
 ghost use Rattle.serde_json.specs.View.{view, items_view};
 
 use crate::node::Node;
-use crate::slots::Slots;
 use serde_json::Value;
 
 impl<'v> Node for &'v Value {
@@ -41,13 +40,6 @@ impl<'v> Node for &'v Value {
 
     fn get(&self, key: &str) -> Option<&'v Value> {
         Value::get(*self, key)
-    }
-
-    fn fields(&self, most: usize, names: &[&str], slots: &mut Slots<&'v Value>) -> Option<usize> {
-        for place in 0..names.len() {
-            slots.replace(place, Value::get(*self, names[place]));
-        }
-        self.keys(most)
     }
 
     fn items(&self) -> Option<&'v [Value]> {

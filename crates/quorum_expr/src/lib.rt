@@ -11,6 +11,6 @@ mod validity;
 pub use expression::{Expr, holds, holds_dual, wide};
 pub use form::Lists;
 pub use member_set::{MEMBERS, MemberSet};
-pub use reading::{present, read_expr, read_expr_at, value_at, whole};
+pub use reading::{read_expr, read_expr_at, value_at, whole};
 pub use rebuilding::{copy_in, dual_in};
 pub use validity::valid;

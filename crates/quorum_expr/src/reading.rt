@@ -1,16 +1,15 @@
 //! Reads expressions from JSON nodes.
 
-ghost use Rattle.std.specs.Prelude.{◌≡◌, ◌≤◌, ◌+◌, ◌-◌, ◌&&◌, ◌≢◌, Ok, None, IfOk, IfErr, map, nat_lt, true, min, ◌==◌, codes, option_map};
+ghost use Rattle.std.specs.Prelude.{◌≡◌, ◌≤◌, ◌+◌, ◌-◌, ◌&&◌, ◌≢◌, Ok, None, IfOk, IfErr, map, nat_lt, true, min, ◌==◌};
 ghost use Rattle.std.specs.FinSet as set;
 ghost use Rattle.serde_json.specs.View.{view};
 ghost use Rattle.serde_json.specs.Events.{items_len};
-ghost use Rattle.serde_json.specs.Find.{get};
 ghost use Rattle.volume_model.specs.Answer.{Gives};
 ghost use Rattle.volume_model.specs.Formula.{member, each_once};
 ghost use Rattle.volume_model.specs.Sets.{listed};
 ghost use Rattle.quorum_expr.specs.Expr.{formula_of};
 ghost use Rattle.quorum_expr.specs.Valid.{nodes, row_nodes, expression_fault};
-ghost use Rattle.quorum_expr.specs.Reading.{found_or_malformed, at_key, whole_of, child_list_of, child_count, whole_list_of, weights_of};
+ghost use Rattle.quorum_expr.specs.Reading.{at_key, whole_of, child_list_of, child_count, whole_list_of, weights_of};
 ghost use Rattle.quorum_expr.specs.Reading.{good_keys, good_row, choice_of, form_of, children_at, formula_from, formula_at, expression_in};
 ghost use Rattle.json_node.specs.Nodes.{items_in};
 ghost use Rattle.quorum_expr.specs.Forms.{child_list, form_data, formulas_of, weights_data, HaveWeights};
@@ -19,24 +18,10 @@ use crate::expression::{Expr, wide};
 use crate::form::{Children, Form, ListName, Lists, Weights};
 use crate::member_set::{MEMBERS, MemberSet};
 use crate::validity::{LEVELS, NODES};
-use json_node::{Node, Slots, count_items};
+use json_node::{Node, count_items};
 use serde_json::Value;
 use std::alloc::Global;
 use volume_model::Fault;
-
-/// Returns the value of a slot of [`Node::fields`].
-///
-/// # Errors
-/// [`Fault::Malformed`] if there is none.
-pub fn present<N: Node>(slot: Option<N>) -> Result<N, Fault>
-    ensures given { Gives N.means result (found_or_malformed (option_map N.means slot)) }
-    ensures own { IfErr result (λ fault. fault ≢ Fault.NoMemory) }
-{
-    match slot {
-        Some(found) => Ok(found),
-        None => Err(Fault::Malformed),
-    }
-}
 
 /// Returns the value at a key of an object.
 ///
@@ -45,7 +30,10 @@ pub fn present<N: Node>(slot: Option<N>) -> Result<N, Fault>
 pub fn value_at<N: Node>(value: &N, key: &str) -> Result<N, Fault>
     ensures { Gives N.means result (at_key key.now (N.means value.now)) }
 {
-    present(value.get(key))
+    match value.get(key) {
+        Some(found) => Ok(found),
+        None => Err(Fault::Malformed),
+    }
 }
 
 /// Returns a whole number from 0.
@@ -128,24 +116,22 @@ fn has_children<N: Node>(lists: &Lists, list: &Children<N>, count: usize) -> boo
     }
 }
 
-/// Reads the weights of a threshold's children from the slot of an object with `keys` keys.
+/// Reads the weights of a threshold's children from an object with `keys` keys.
 #[tactic(auto, unfolding(crate::specs::Reading::weights_of))]
 fn weights<N: Node>(
     alloc: Global,
     lists: &Lists,
     value: &N,
-    slot: Option<N>,
     keys: usize,
     list: &Children<N>,
 ) -> Result<Weights, Fault>
-    requires { option_map N.means slot ≡ get (codes "weights") (N.means value.now) }
     ensures { Gives weights_data result (weights_of keys (child_count lists.now (child_list N.means list.now))
         (N.means value.now)) }
 {
     if keys == 2 {
         return Ok(Weights::Once);
     }
-    let found = present(slot)?;
+    let found = value_at(value, "weights")?;
     let numbers = wholes(alloc, &found)?;
     if !has_children(lists, list, numbers.len()) {
         return Err(Fault::Malformed);
@@ -154,25 +140,14 @@ fn weights<N: Node>(
 }
 
 #[tactic(auto, unfolding(crate::specs::Reading::choice_of))]
-fn choice<N: Node>(
-    alloc: Global,
-    lists: &Lists,
-    keys: usize,
-    value: &N,
-    k: Option<N>,
-    of: Option<N>,
-    weighed: Option<N>,
-) -> Result<Form<N>, Fault>
-    requires k { option_map N.means k ≡ get (codes "k") (N.means value.now) }
-    requires of { option_map N.means of ≡ get (codes "of") (N.means value.now) }
-    requires weighed { option_map N.means weighed ≡ get (codes "weights") (N.means value.now) }
+fn choice<N: Node>(alloc: Global, lists: &Lists, keys: usize, value: &N) -> Result<Form<N>, Fault>
     ensures { Gives (form_data N.means) result (choice_of lists.now keys (N.means value.now)) }
 {
-    let first = present(k)?;
+    let first = value_at(value, "k")?;
     let k = whole(&first)?;
-    let second = present(of)?;
+    let second = value_at(value, "of")?;
     let of = children(second)?;
-    let weights = weights(alloc, lists, value, weighed, keys, &of)?;
+    let weights = weights(alloc, lists, value, keys, &of)?;
     Ok(Form::Choice(k, of, weights))
 }
 
@@ -190,17 +165,13 @@ fn form_at<N: Node>(alloc: Global, lists: &Lists, value: &N) -> Result<Form<N>, 
     if value.is_number() {
         return Ok(Form::Single(whole(value)?));
     }
-    let mut slots = Slots::new();
-    let Some(keys) = value.fields(4, &["k", "of", "weights"], &mut slots) else {
+    let Some(keys) = value.keys(4) else {
         return Err(Fault::Malformed);
     };
     if !is_good_keys(lists.is_weighted, keys) {
         return Err(Fault::Malformed);
     }
-    let k = slots.first.take();
-    let of = slots.second.take();
-    let weighed = slots.third.take();
-    choice(alloc, lists, keys, value, k, of, weighed)
+    choice(alloc, lists, keys, value)
 }
 
 fn is_member(members: MemberSet, n: u64) -> bool

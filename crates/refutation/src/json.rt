@@ -1,15 +1,14 @@
 //! JSON nodes, one level at a time.
 
-ghost use Rattle.std.specs.Prelude.{◌≡◌, ◌≢◌, ◌≤◌, Some, IfOk, IfErr, option_map};
+ghost use Rattle.std.specs.Prelude.{◌≡◌, ◌≢◌, ◌≤◌, IfOk, IfErr};
 ghost use Rattle.serde_json.specs.Data.{put as with_member};
 ghost use Rattle.serde_json.specs.View.{view, members_view};
 ghost use Rattle.volume_model.specs.Answer.{Gives};
-ghost use Rattle.json_node.specs.Nodes.{items_in, keys_up_to};
-ghost use Rattle.refutation.specs.Reading.{has_keys, array_of, two_of, number_to};
-ghost use Rattle.refutation.specs.Slots.{number_in};
+ghost use Rattle.json_node.specs.Nodes.{items_in};
+ghost use Rattle.refutation.specs.Reading.{has_keys, array_of, two_of, number_to, number_at};
 
 use json_node::Node;
-use quorum_expr::{present, whole};
+use quorum_expr::{value_at, whole};
 use serde_json::{Map, Value, put};
 use std::alloc::{AllocError, Global};
 use volume_model::Fault;
@@ -99,32 +98,17 @@ pub fn number_to<N: Node>(value: &N, most: u64) -> Result<u64, Fault>
     Ok(n)
 }
 
-/// Returns a whole number from 0 to a limit in a slot of an object.
+/// Returns a whole number from 0 to a limit at a key of an object.
 ///
 /// # Errors
 /// `Malformed` if there is none.
-pub fn number_in<N: Node>(slot: Option<N>, most: u64) -> Result<u64, Fault>
-    ensures given { Gives (λ n. n) result (number_in most (option_map N.means slot)) }
+#[tactic(auto, unfolding(crate::specs::Reading::number_at))]
+pub fn number_at<N: Node>(value: &N, key: &str, most: u64) -> Result<u64, Fault>
+    ensures given { Gives (λ n. n) result (number_at key.now most (N.means value.now)) }
     ensures within { IfOk result (λ n. n ≤ most) }
 {
-    let found = present(slot)?;
+    let found = value_at(value, key)?;
     number_to(&found, most)
-}
-
-/// Checks that an object has `keys` keys, if `count` of them were counted, up to six.
-///
-/// # Errors
-/// `Malformed` if it hasn't.
-pub fn counted<N: Node>(value: &N, count: usize, keys: usize) -> Result<(), Fault>
-    requires few { keys ≤ 5 }
-    requires count { Some count ≡ keys_up_to 6 (N.means value.now) }
-    ensures { Gives (λ u. u) result (has_keys keys (N.means value.now)) }
-{
-    let _object = value;
-    if count != keys {
-        return Err(Fault::Malformed);
-    }
-    Ok(())
 }
 
 /// Returns the object with one more key and value, which replaces an earlier one with the same key. Fails only if

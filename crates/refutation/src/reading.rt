@@ -1,24 +1,22 @@
 //! Reads certificates from JSON nodes.
 
-ghost use Rattle.std.specs.Prelude.{◌≡◌, ◌≢◌, Some, IfErr, codes, option_map};
-ghost use Rattle.serde_json.specs.Find.{get};
+ghost use Rattle.std.specs.Prelude.{◌≡◌, ◌≢◌, IfErr};
 ghost use Rattle.serde_json.specs.View.{view};
 ghost use Rattle.volume_model.specs.Answer.{Gives};
-ghost use Rattle.json_node.specs.Nodes.{items_in, keys_up_to};
+ghost use Rattle.json_node.specs.Nodes.{items_in};
 ghost use Rattle.refutation.specs.Refutation.{rule_of};
 ghost use Rattle.refutation.specs.Certificate.{certificate_rule};
 ghost use Rattle.refutation.specs.Forms.{form_data, rules_of};
 ghost use Rattle.refutation.specs.Reading.{side_of, numbers_of, pair_of, pairs_of, rule_name_of};
-ghost use Rattle.refutation.specs.Slots.{HaveFields};
 ghost use Rattle.refutation.specs.Reading.{dead_in, clash_in, open_in, pick_in, match_in, split_in, fields_of, form_of};
 ghost use Rattle.refutation.specs.Reading.{each_rule, rule_from, rule_level, rule_at, certificate_in};
 
 use crate::certificate::{Certificate, MAX_DEPTH};
 use crate::form::{Form, RuleName};
-use crate::json::{array, counted, listed, number_in, number_to, two};
+use crate::json::{array, has_keys, listed, number_at, number_to, two};
 use crate::{Refutation, Side};
-use json_node::{Node, Slots};
-use quorum_expr::present;
+use json_node::Node;
+use quorum_expr::value_at;
 use serde_json::Value;
 use std::alloc::Global;
 use volume_model::Fault;
@@ -89,132 +87,97 @@ fn pairs<N: Node>(alloc: Global, rest: &mut N::Rest) -> Result<Vec<(u8, u8)>, Fa
     Ok(list)
 }
 
-#[tactic(auto, unfolding(crate::specs::Reading::dead_in, crate::specs::Reading::number_at))]
-fn dead<N: Node>(value: &N, slots: &mut Slots<N>) -> Result<Form<N>, Fault>
-    requires { HaveFields N.means (N.means value.now) slots.old }
+#[tactic(auto, unfolding(crate::specs::Reading::dead_in))]
+fn dead<N: Node>(value: &N) -> Result<Form<N>, Fault>
     ensures { Gives (form_data N.means) result (dead_in (N.means value.now)) }
 {
-    let name = present(slots.fifth.take())?;
+    let name = value_at(value, "side")?;
     let side = side(&name)?;
-    let item = number_in(slots.sixth.take(), 65_535)?;
+    let item = number_at(value, "item", 65_535)?;
     Ok(Form::Dead(side, item as u16))
 }
 
-#[tactic(auto, unfolding(crate::specs::Reading::clash_in, crate::specs::Reading::number_at))]
-fn clash<N: Node>(value: &N, slots: &mut Slots<N>) -> Result<Form<N>, Fault>
-    requires { HaveFields N.means (N.means value.now) slots.old }
+#[tactic(auto, unfolding(crate::specs::Reading::clash_in))]
+fn clash<N: Node>(value: &N) -> Result<Form<N>, Fault>
     ensures { Gives (form_data N.means) result (clash_in (N.means value.now)) }
 {
-    let left = number_in(slots.second.take(), 65_535)?;
-    let right = number_in(slots.third.take(), 65_535)?;
+    let left = number_at(value, "left", 65_535)?;
+    let right = number_at(value, "right", 65_535)?;
     Ok(Form::Clash(left as u16, right as u16))
 }
 
-#[tactic(auto, unfolding(crate::specs::Reading::open_in, crate::specs::Reading::number_at))]
-fn open<N: Node>(value: &N, slots: &mut Slots<N>) -> Result<Form<N>, Fault>
-    requires { HaveFields N.means (N.means value.now) slots.old }
+#[tactic(auto, unfolding(crate::specs::Reading::open_in))]
+fn open<N: Node>(value: &N) -> Result<Form<N>, Fault>
     ensures { Gives (form_data N.means) result (open_in (N.means value.now)) }
 {
-    let name = present(slots.fifth.take())?;
+    let name = value_at(value, "side")?;
     let side = side(&name)?;
-    let item = number_in(slots.sixth.take(), 65_535)?;
-    let then = present(slots.ninth.take())?;
+    let item = number_at(value, "item", 65_535)?;
+    let then = value_at(value, "then")?;
     Ok(Form::Open(side, item as u16, then))
 }
 
-#[tactic(auto, unfolding(crate::specs::Reading::pick_in, crate::specs::Reading::number_at))]
-fn pick<N: Node>(alloc: Global, value: &N, slots: &mut Slots<N>) -> Result<Form<N>, Fault>
-    requires { HaveFields N.means (N.means value.now) slots.old }
+#[tactic(auto, unfolding(crate::specs::Reading::pick_in))]
+fn pick<N: Node>(alloc: Global, value: &N) -> Result<Form<N>, Fault>
     ensures { Gives (form_data N.means) result (pick_in (N.means value.now)) }
 {
-    let name = present(slots.fifth.take())?;
+    let name = value_at(value, "side")?;
     let side = side(&name)?;
-    let item = number_in(slots.sixth.take(), 65_535)?;
-    let found = present(slots.seventh.take())?;
+    let item = number_at(value, "item", 65_535)?;
+    let found = value_at(value, "children")?;
     let mut rest = array(&found)?;
     let children = numbers::<N>(alloc, &mut rest)?;
-    let branches = present(slots.ninth.take())?;
+    let branches = value_at(value, "then")?;
     let then = listed(branches)?;
     Ok(Form::Pick(side, item as u16, children, then))
 }
 
-#[tactic(auto, unfolding(crate::specs::Reading::match_in, crate::specs::Reading::number_at))]
-fn match_up<N: Node>(alloc: Global, value: &N, slots: &mut Slots<N>) -> Result<Form<N>, Fault>
-    requires { HaveFields N.means (N.means value.now) slots.old }
+#[tactic(auto, unfolding(crate::specs::Reading::match_in))]
+fn match_up<N: Node>(alloc: Global, value: &N) -> Result<Form<N>, Fault>
     ensures { Gives (form_data N.means) result (match_in (N.means value.now)) }
 {
-    let left = number_in(slots.second.take(), 65_535)?;
-    let right = number_in(slots.third.take(), 65_535)?;
-    let found = present(slots.fourth.take())?;
+    let left = number_at(value, "left", 65_535)?;
+    let right = number_at(value, "right", 65_535)?;
+    let found = value_at(value, "pairs")?;
     let mut rest = array(&found)?;
     let pairs = pairs::<N>(alloc, &mut rest)?;
-    let branches = present(slots.ninth.take())?;
+    let branches = value_at(value, "then")?;
     let then = listed(branches)?;
     Ok(Form::Match(left as u16, right as u16, pairs, then))
 }
 
-#[tactic(auto, unfolding(crate::specs::Reading::split_in, crate::specs::Reading::number_at))]
-fn split<N: Node>(value: &N, slots: &mut Slots<N>) -> Result<Form<N>, Fault>
-    requires { HaveFields N.means (N.means value.now) slots.old }
+#[tactic(auto, unfolding(crate::specs::Reading::split_in))]
+fn split<N: Node>(value: &N) -> Result<Form<N>, Fault>
     ensures { Gives (form_data N.means) result (split_in (N.means value.now)) }
 {
-    let member = number_in(slots.eighth.take(), 63)?;
-    let left = present(slots.second.take())?;
-    let right = present(slots.third.take())?;
+    let member = number_at(value, "member", 63)?;
+    let left = value_at(value, "left")?;
+    let right = value_at(value, "right")?;
     Ok(Form::Split(member as u8, left, right))
 }
 
-fn fields<N: Node>(
-    alloc: Global,
-    name: RuleName,
-    value: &N,
-    slots: &mut Slots<N>,
-) -> Result<Form<N>, Fault>
-    requires { HaveFields N.means (N.means value.now) slots.old }
+fn fields<N: Node>(alloc: Global, name: RuleName, value: &N) -> Result<Form<N>, Fault>
     ensures { Gives (form_data N.means) result (fields_of name (N.means value.now)) }
 {
     match name {
-        RuleName::Dead => dead(value, slots),
-        RuleName::Clash => clash(value, slots),
-        RuleName::Open => open(value, slots),
-        RuleName::Pick => pick(alloc, value, slots),
-        RuleName::Match => match_up(alloc, value, slots),
-        RuleName::Split => split(value, slots),
+        RuleName::Dead => dead(value),
+        RuleName::Clash => clash(value),
+        RuleName::Open => open(value),
+        RuleName::Pick => pick(alloc, value),
+        RuleName::Match => match_up(alloc, value),
+        RuleName::Split => split(value),
     }
-}
-
-/// Reads one level of a node from the slots of its object, in which `count` keys were counted, up to six.
-#[tactic(auto, unfolding(crate::specs::Reading::form_of))]
-fn form_in<N: Node>(
-    alloc: Global,
-    value: &N,
-    count: usize,
-    slots: &mut Slots<N>,
-) -> Result<Form<N>, Fault>
-    requires count { Some count ≡ keys_up_to 6 (N.means value.now) }
-    requires rule { option_map N.means slots.old.first ≡ get (codes "rule") (N.means value.now) }
-    requires fields { HaveFields N.means (N.means value.now) slots.old }
-    ensures { Gives (form_data N.means) result (form_of (N.means value.now)) }
-{
-    let found = present(slots.first.take())?;
-    let name = rule_name(&found)?;
-    counted(value, count, name.key_count())?;
-    fields(alloc, name, value, slots)
 }
 
 /// Reads one level of a node.
+#[tactic(auto, unfolding(crate::specs::Reading::form_of))]
 fn form_at<N: Node>(alloc: Global, value: &N) -> Result<Form<N>, Fault>
     ensures { Gives (form_data N.means) result (form_of (N.means value.now)) }
 {
-    // In the order of docs/PLANS.md: the walk tries the name after the last one first.
-    let names = [
-        "rule", "left", "right", "pairs", "side", "item", "children", "member", "then",
-    ];
-    let mut slots = Slots::new();
-    match value.fields(6, &names, &mut slots) {
-        Some(count) => form_in(alloc, value, count, &mut slots),
-        None => Err(Fault::Malformed),
-    }
+    let found = value_at(value, "rule")?;
+    let name = rule_name(&found)?;
+    has_keys(value, name.key_count())?;
+    fields(alloc, name, value)
 }
 
 /// Reads a refutation of at most `left` levels.

@@ -16,10 +16,10 @@ pub returns-then-is_number : goal.returns-then-is_number
 returns-then-is_number g c = number_form c.args.lists.now (g.N.Node.means c.args.value.now) (sym c.if-is_number.ensures) ∙ ap (λ r. r >>= λ m. Ok (single m)) c.in_ok-whole.ensures.given
 
 pub returns-in_default : goal.returns-in_default
-returns-in_default g c = no_form c.args.lists.now (g.N.Node.means c.args.value.now) (sym c.if-is_number.ensures) (sym c.in_default.is ∙ c.fields.ensures.keys)
+returns-in_default g c = no_form c.args.lists.now (g.N.Node.means c.args.value.now) (sym c.if-is_number.ensures) (sym c.in_default.is ∙ c.keys.ensures)
 
 pub returns-then-not-is_good_keys : goal.returns-then-not-is_good_keys
-returns-then-not-is_good_keys g c = other_form c.args.lists.now (g.N.Node.means c.args.value.now) c.in-Some.keys c.in-Some.ensures.keys (sym c.if-not-is_good_keys.ensures)
+returns-then-not-is_good_keys g c = other_form c.args.lists.now (g.N.Node.means c.args.value.now) c.in-Some.keys c.in-Some.ensures (sym c.if-not-is_good_keys.ensures)
 
 pub returns : goal.returns
-returns g c = rw (choice_form c.args.lists.now (g.N.Node.means c.args.value.now) c.in-Some.keys c.in-Some.ensures.keys (sym c.if-not-is_good_keys.ensures)) c.choice.ensures
+returns g c = rw (choice_form c.args.lists.now (g.N.Node.means c.args.value.now) c.in-Some.keys c.in-Some.ensures (sym c.if-not-is_good_keys.ensures)) c.choice.ensures
