@@ -1,6 +1,6 @@
 //! Tries the program: `tester [BOOK..] [SEED [COUNT]]`. Each word that ends in `.book` is a case file, whose cases are
 //! tried. Then come the random plans and scripts of COUNT seeds; whether the volume's promises are kept is judged from
-//! the printed output only. At the end runs with a planted fault are cut down to the lines that matter.
+//! the printed output only.
 #![tactic(auto)]
 
 mod books;
@@ -8,13 +8,11 @@ mod fleets;
 mod groups;
 mod invocations;
 mod plans;
-mod planted;
 mod seeds;
 mod trial;
 mod words;
 
 use books::try_books;
-use planted::report_planted;
 use seeds::{report, show};
 use std::process::ExitCode;
 use std::sync::Wait;
@@ -35,10 +33,7 @@ fn obey<H: Threads + Wait + Sync>(rt: &HostRuntime, threads: &H) -> io::Result<u
     let tried = try_books(rt, threads, words.as_slice())?;
     let status = match wish {
         Wish::Books => 0,
-        Wish::Try { seed, count } => {
-            let tried = report(rt, threads, seed, count)?;
-            tried.max(report_planted(rt, threads)?)
-        }
+        Wish::Try { seed, count } => report(rt, threads, seed, count)?,
         Wish::Show { seed } => show(rt, seed)?,
     };
     Ok(tried.max(status))

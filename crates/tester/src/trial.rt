@@ -11,7 +11,7 @@ use std::sync::{Arc, Wait};
 use std::thread::Threads;
 
 /// What happens in the scripts.
-pub const EVENTS: Events = Events {
+const EVENTS: Events = Events {
     restarts: true,
     steps: true,
 };
@@ -26,7 +26,7 @@ pub struct Trial {
 }
 
 /// Returns the checked plan of a text.
-pub fn checked(alloc: Global, text: &str) -> Result<CheckedPlan, Broken> {
+fn checked(alloc: Global, text: &str) -> Result<CheckedPlan, Broken> {
     let Ok(plan) = read_plan(alloc, text.as_bytes()) else {
         return Err(Broken::new("the text is no plan's", [0; 4]));
     };
