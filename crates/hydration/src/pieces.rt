@@ -253,7 +253,7 @@ fn joined(alloc: Global, mut parts: Vec<RecordSet>) -> Result<RecordSet, AllocEr
 
 /// Returns the least LSN of a set, 0 if it has no record.
 fn first_lsn(set: &RecordSet) -> u64 {
-    match set.as_slice().first() {
+    match set.first() {
         Some(packet) => packet.lsn(),
         None => 0,
     }

@@ -78,11 +78,10 @@ fn comes_next(set: &RecordSet, packet: &SharedRecord) -> bool
     ensures is { result ≡ is_next (sets.records_of set.now) (shared_redo packet.now) }
     ensures in_order { IsTrue result → IsInOrder (sets.records_of set.now ++ shared_redo packet.now ∷ []) }
 {
-    let packets = set.as_slice();
-    if packets.is_empty() {
-        return true;
+    match set.last() {
+        Some(last) => last.is_before(packet),
+        None => true,
     }
-    packets[packets.len() - 1].is_before(packet)
 }
 
 /// Returns a set with one more record, or `BadField` if the record doesn't come after the last one.
@@ -92,7 +91,7 @@ fn pushed(mut set: RecordSet, packet: SharedRecord) -> Result<RecordSet, Fault>
     if !comes_next(&set, &packet) {
         return Err(Fault::BadField);
     }
-    set.extend_from_slice(&[packet])?;
+    set.push(packet)?;
     Ok(set)
 }
 
@@ -107,6 +106,7 @@ fn read_records(alloc: Global, count: u32, bytes: &[u8]) -> Result<(RecordSet, &
         set = pushed(set, packet)?;
         rest = after;
     }
+    set.share()?;
     Ok((set, rest))
 }
 

@@ -8,12 +8,13 @@ ghost use Rattle.redo_record.specs.Spelling.{spelled, decoded};
 ghost use Rattle.lineage.specs.Entries.{entry_of, entries_of};
 ghost use Rattle.wire.specs.Contents.{contents_of};
 ghost use Rattle.redo_record.specs.RecordSet as sets;
+ghost use Rattle.redo_record.specs.Records.{left_of};
 ghost use Rattle.lineage.specs.Lineage.{lineage_of};
 ghost use Rattle.message_bytes.specs.Contents.{contents_at, lineage_at, set_at};
 ghost use Rattle.message_bytes.specs.Spelling.{entry_spelled, entries_spelled, lineage_spelled, records_spelled, set_spelled, contents_head, contents_spelled, IsEntry, AreEntries, AreReadBack};
 
 use lineage::{Entry, Lineage};
-use redo_record::{Packet, Record, RecordSet, SharedRecord};
+use redo_record::{Packet, Record, RecordSet, Records, SharedRecord};
 use std::alloc::{AllocError, Global};
 use volume_model::Fault;
 use wire::Contents;
@@ -83,10 +84,11 @@ fn reads_back(redo: &Record)
 }
 
 /// Proves that the bytes of records are read back as them. Does nothing when it runs.
-fn read_back(packets: &[SharedRecord])
-    ensures { AreReadBack (map shared_redo packets.now) }
+fn read_back(set: &RecordSet)
+    ensures { AreReadBack (sets.records_of set.now) }
 {
-    for packet in packets {
+    let mut left = set.records();
+    while let Some(packet) = left.next() {
         reads_back(packet.record());
     }
 }
@@ -99,10 +101,11 @@ fn put_record(out: &mut Vec<u8>, packet: &SharedRecord) -> Result<(), AllocError
     out.extend_from_slice(Packet::pack(packet.record()).as_bytes())
 }
 
-fn put_records(out: &mut Vec<u8>, packets: &[SharedRecord]) -> Result<(), AllocError>
-    ensures text { OnOk result (out.new.items ≡ out.old.items ++ records_spelled (map shared_redo packets.now)) }
+fn put_records(out: &mut Vec<u8>, set: &RecordSet) -> Result<(), AllocError>
+    ensures text { OnOk result (out.new.items ≡ out.old.items ++ records_spelled (sets.records_of set.now)) }
 {
-    for packet in packets {
+    let mut left = set.records();
+    while let Some(packet) = left.next() {
         put_record(out, packet)?;
     }
     Ok(())
@@ -119,15 +122,15 @@ pub fn put_at(out: &mut [u8], at: usize, bytes: &[u8])
 
 /// Writes the bytes of the first records, one after the other, to the front of a buffer: of as many as fit whole.
 /// Returns how many records and how many bytes these are.
-pub fn write_records(out: &mut [u8], packets: &[SharedRecord]) -> (usize, usize)
-    ensures text { take result.1 out.new ≡ records_spelled (map shared_redo (take result.0 packets.now)) }
+pub fn write_records(out: &mut [u8], mut left: Records<'_>) -> (usize, usize)
+    ensures text { take result.1 out.new ≡ records_spelled (take result.0 (left_of left.entry)) }
     ensures back { drop result.1 out.new ≡ drop result.1 out.old }
-    ensures records { result.0 ≤ length packets.now }
+    ensures records { result.0 ≤ length (left_of left.entry) }
     ensures bytes { result.1 ≤ length out.old }
 {
     let mut count = 0;
     let mut end = 0;
-    for packet in packets {
+    while let Some(packet) = left.next() {
         let packed = Packet::pack(packet.record());
         let bytes = packed.as_bytes();
         if out.len() - end < bytes.len() {
@@ -159,10 +162,9 @@ fn put_count(out: &mut Vec<u8>, set: &RecordSet) -> Result<(), Fault>
     ensures reads { OnOk result ((rest : List ℕ) → set_at (set_spelled (sets.records_of set.now) ++ rest)
         ≡ Ok (sets.records_of set.now, rest)) }
 {
-    let packets = set.as_slice();
-    let count = count_of(packets.len())?;
+    let count = count_of(set.len())?;
     put_u32(out, count)?;
-    read_back(packets);
+    read_back(set);
     Ok(())
 }
 
@@ -192,6 +194,6 @@ pub fn put_contents(alloc: Global, out: &mut Vec<u8>, contents: &Contents) -> Re
         ≡ Ok (contents_of contents.now, rest)) }
 {
     put_contents_head(alloc, out, contents)?;
-    put_records(out, contents.records.as_slice())?;
+    put_records(out, &contents.records)?;
     Ok(())
 }

@@ -17,29 +17,11 @@ use Rattle.redo_record.proofs.Places.{IsOrdered, in_order-from}
 use Rattle.writer_core.specs.Logs.{log_of, log_of_set, is_growing}
 use Rattle.writer_core.proofs.Growing.{both}
 use Rattle.writer_core.proofs.Finding.{in-added, at_most_last, record_at-in, record_at-none}
-use Rattle.writer_core.proofs.Joined.{older-grows}
+use Rattle.writer_core.proofs.Joined.{growing-same, older-grows}
 use Rattle.recovery.specs.Chains.{is_chain_to}
 use Rattle.recovery.proofs.Links.{IsBack, chain, chain-lower, chain_from-is}
 
 -- ---- records one of each number
-
--- the record of a number is the same in a log that grows, whichever end it is read from
-pub growing-same : (records : List Redo) → is_growing (added records []) ≡ true → (n : ℕ) → record_at (added records []) n ≡ record_at records n
-growing-same records g n = go (record_at records n) refl
-  where
-    go : (found : Option Redo) → record_at records n ≡ found → record_at (added records []) n ≡ record_at records n
-    go (Some r) found =
-        let (i, e) = record_at-some records n r found in
-        subst (λ m. record_at (added records []) m ≡ Some r) e (record_at-in (added records []) g r (in-added records [] r (inl i))) ∙ sym found
-    go None found =
-        record_at-none (added records []) n (λ r i e. elim (IsIn-added records [] r i) [
-          | inl j ↦ (let (s, there) = record_at-there records r j in apart s (sym (subst (λ m. record_at records m ≡ Some s) e there) ∙ found))
-          | inr j ↦ absurd j
-        ])
-        ∙ sym found
-      where
-        apart : (s : Redo) → Some s ≡ None → ⊥
-        apart s h = cc
 
 pub copy-grows : {E : Type 0} (P : E → Type 0) (r : Result RecordSet E) (set : RecordSet) → is_growing (log_of_set set) ≡ true → MatchResult r (λ copy. records_of copy ≡ records_of set) P → IfOk r (λ copy. is_growing (log_of_set copy) ≡ true)
 copy-grows P (Ok copy) set g h = ap (λ (rs : List Redo). is_growing (added rs [])) h ∙ g

@@ -1,6 +1,7 @@
 //! Finds the log among records.
 
-ghost use Rattle.std.specs.Prelude.{◌≡◌, ◌≤◌, ℕ, true, Some, take, length, IfOk, IfSome, is_some};
+ghost use Rattle.std.specs.Prelude.{◌≡◌, ◌≤◌, ℕ, true, Some, [], take, length, IfOk, IfSome, is_some};
+ghost use Rattle.volume_model.specs.Lists.{added};
 ghost use Rattle.volume_model.specs.Redo.{record_at, chain_from, chain_or_none};
 ghost use Rattle.redo_record.specs.RecordSet.{records_of};
 ghost use Rattle.writer_core.specs.Logs.{log_of, log_of_set, is_growing};
@@ -9,6 +10,36 @@ ghost use Rattle.recovery.specs.Chains.{IsChainTo};
 use crate::cut_reader::are_growing;
 use redo_record::{RecordSet, SharedRecord};
 use std::alloc::{AllocError, Global};
+
+/// Returns whether a set is one chain by `prev_volume` from its last record down to 0, which is known of its runs.
+pub fn is_one_chain(set: &RecordSet) -> bool {
+    let mut last = 0;
+    for run in set.runs() {
+        let packets = run.as_slice();
+        let (Some(first), Some(end)) = (packets.first(), packets.last()) else {
+            return false;
+        };
+        if !run.is_volume_chain() || first.record().prev_volume != last {
+            return false;
+        }
+        last = end.lsn();
+    }
+    true
+}
+
+/// Returns the number of records of a set up to its last consistency point, and that point's LSN.
+pub fn last_point(set: &RecordSet) -> (usize, u64) {
+    let mut count = set.len();
+    for run in set.runs().iter().rev() {
+        for packet in run.as_slice().iter().rev() {
+            if packet.record().point {
+                return (count, packet.lsn());
+            }
+            count -= 1;
+        }
+    }
+    (0, 0)
+}
 
 /// Returns the first record of each LSN of a set. Shares the records if no LSN occurs twice.
 ///
@@ -19,63 +50,57 @@ pub fn firsts(alloc: Global, set: &RecordSet) -> Result<RecordSet, AllocError>
     ensures same { IfOk result (λ firsts. (n : ℕ) → record_at (log_of_set firsts) n ≡ record_at (records_of set.now)
         n) }
 {
-    if are_growing(set.as_slice()) {
+    if are_growing(set) {
         return set.clone();
     }
     let mut firsts = RecordSet::new(alloc);
     let mut last = 0;
-    for packet in set.as_slice() {
+    let mut left = set.records();
+    while let Some(packet) = left.next() {
         if last < packet.lsn() {
             last = packet.lsn();
             firsts.push(packet.clone()?)?;
         }
     }
+    firsts.share()?;
     Ok(firsts)
 }
 
 /// Returns the number of first records that are the chain by `prev_volume` from an LSN down to 0, or `None` if other
 /// records are between them.
-fn chain_length(packets: &[SharedRecord], lsn: u64) -> Option<usize>
-    ensures chain { IfSome result (λ len. IsChainTo lsn (log_of (take len packets.now))) }
-    ensures within { IfSome result (λ len. len ≤ length packets.now) }
+fn chain_length(records: &RecordSet, lsn: u64) -> Option<usize>
+    ensures chain { IfSome result (λ len. IsChainTo lsn (added (take len (records_of records.now)) [])) }
+    ensures within { IfSome result (λ len. len ≤ length (records_of records.now)) }
 {
-    let mut last = 0;
-    for place in 0..packets.len() {
-        if last == lsn {
-            return Some(place);
-        }
-        let record = packets[place].record();
+    let (mut last, mut len) = (0, 0);
+    let mut left = records.records();
+    while last != lsn {
+        let record = left.next()?.record();
         if record.prev_volume != last {
             return None;
         }
         last = record.lsn;
+        len += 1;
     }
-    if last == lsn {
-        Some(packets.len())
-    } else {
-        None
-    }
+    Some(len)
 }
 
 /// Returns the records of the chain by `prev_volume` from an LSN down to 0, in order of LSN.
 fn chain_packets(
     alloc: Global,
-    records: &[SharedRecord],
+    records: &RecordSet,
     lsn: u64,
 ) -> Result<Vec<SharedRecord>, AllocError>
-    requires growing { is_growing (log_of records.now) ≡ true }
-    requires there { is_some (chain_from lsn (log_of records.now) lsn) ≡ true }
-    ensures chain { IfOk result (λ log. log_of log.items ≡ chain_or_none (chain_from lsn (log_of records.now) lsn)) }
+    requires growing { is_growing (log_of_set records.now) ≡ true }
+    requires there { is_some (chain_from lsn (log_of_set records.now) lsn) ≡ true }
+    ensures chain { IfOk result (λ log. log_of log.items ≡ chain_or_none (chain_from lsn (log_of_set records.now) lsn)) }
     ensures growing { IfOk result (λ log. is_growing (log_of log.items) ≡ true) }
 {
     let mut log = Vec::new(alloc);
     let mut next = lsn;
-    for packet in records.iter().rev() {
-        let record = packet.record();
-        if record.lsn == next {
-            log.push(packet.clone()?)?;
-            next = record.prev_volume;
-        }
+    while let Some(packet) = records.record_at(next) {
+        log.push(packet.clone()?)?;
+        next = packet.record().prev_volume;
     }
     log.reverse();
     Ok(log)
@@ -91,11 +116,9 @@ pub fn chain_of(alloc: Global, records: &RecordSet, lsn: u64) -> Result<RecordSe
     ensures chain { IfOk result (λ log. log_of_set log ≡ chain_or_none (chain_from lsn (log_of_set records.now) lsn)) }
     ensures growing { IfOk result (λ log. is_growing (log_of_set log) ≡ true) }
 {
-    if let Some(len) = chain_length(records.as_slice(), lsn) {
+    if let Some(len) = chain_length(records, lsn) {
         return records.front(len);
     }
-    let packets = chain_packets(alloc, records.as_slice(), lsn)?;
-    let mut log = RecordSet::new(alloc);
-    log.extend_from_slice(packets.as_slice())?;
-    Ok(log)
+    let packets = chain_packets(alloc, records, lsn)?;
+    RecordSet::from_slice(alloc, &packets)
 }

@@ -3,11 +3,11 @@
 ghost use Rattle.std.specs.Prelude.{◌≡◌, true, Ok};
 ghost use Rattle.volume_model.specs.Answer.{Gives};
 ghost use Rattle.volume_model.specs.Redo.{cut_of};
-ghost use Rattle.writer_core.specs.Logs.{log_of, is_growing};
+ghost use Rattle.writer_core.specs.Logs.{log_of_set, is_growing};
 ghost use Rattle.recovery.specs.CutReader.{log_of_records};
 
 use crate::grounded_lsns::GroundedLsns;
-use redo_record::{Record, SharedRecord};
+use redo_record::{Record, RecordSet};
 use std::alloc::{AllocError, Global};
 use volume_model::Fault;
 
@@ -54,29 +54,31 @@ impl CutReader {
     }
 }
 
-/// Returns whether the LSNs of shared records grow.
-pub fn are_growing(records: &[SharedRecord]) -> bool
-    ensures { result ≡ is_growing (log_of records.now) }
+/// Returns whether the LSNs of a set grow.
+pub fn are_growing(set: &RecordSet) -> bool
+    ensures { result ≡ is_growing (log_of_set set.now) }
 {
     let mut growing = true;
     let mut last = 0;
-    for packet in records {
+    let mut left = set.records();
+    while let Some(packet) = left.next() {
         growing = last < packet.lsn() && growing;
         last = packet.lsn();
     }
     growing
 }
 
-/// Returns the cut of shared records, as [`cut_of`] does.
+/// Returns the cut of a set, as [`cut_of`] does.
 ///
 /// # Errors
 /// `NoMemory` if memory runs out.
-pub fn shared_cut_of(alloc: Global, records: &[SharedRecord]) -> Result<u64, Fault>
-    requires { is_growing (log_of records.now) ≡ true }
-    ensures { Gives (λ cut. cut) result (Ok (cut_of (log_of records.now))) }
+pub fn shared_cut_of(alloc: Global, set: &RecordSet) -> Result<u64, Fault>
+    requires { is_growing (log_of_set set.now) ≡ true }
+    ensures { Gives (λ cut. cut) result (Ok (cut_of (log_of_set set.now))) }
 {
     let mut reader = CutReader::new(alloc);
-    for packet in records {
+    let mut left = set.records();
+    while let Some(packet) = left.next() {
         reader.read(packet.record())?;
     }
     Ok(reader.cut)

@@ -1,5 +1,5 @@
 -- Records of one group
-use Rattle.std.proofs.Common.{◌≡◌, ◌==◌, ℕ, true, List, [], ◌∷◌, ◌++◌, Option, Some, None, refl, sym, ap, subst, inl, inr, eq-eqb, eqb-true}
+use Rattle.std.proofs.Common.{◌≡◌, ◌==◌, ◌&&◌, ℕ, Bool, true, false, List, [], ◌∷◌, ◌++◌, Option, Some, None, refl, sym, ap, subst, inl, inr, eq-eqb, eqb-true}
 use Rattle.std.proofs.lemmas.Bool.{and_parts}
 use Rattle.volume_model.specs.Lists.{every}
 use Rattle.volume_model.specs.Redo.{Redo, with_record, with_records}
@@ -48,3 +48,11 @@ known_group-with_record known_group r records kept group e s i = kept group e s 
 pub known_group-with_records : (known_group : Option ℕ) (records others : List Redo) → IsKnownGroup known_group records → IsKnownGroup known_group others → IsKnownGroup known_group (with_records records others)
 known_group-with_records known_group records others own also group e s i =
     elim (with_records-from records others s i) [ inl j ↦ own group e s j | inr j ↦ also group e s j ]
+
+-- the test of two lists
+pub every-both : (test : Redo → Bool) (xs ys : List Redo) → every test (xs ++ ys) ≡ (every test xs && every test ys)
+every-both test [] ys = refl
+every-both test (x ∷ xs) ys = elim (test x) as (λ b. (b && every test (xs ++ ys)) ≡ ((b && every test xs) && every test ys)) [
+  | true ↦ every-both test xs ys
+  | false ↦ refl
+]

@@ -2,8 +2,12 @@ pub mod Payload
 pub mod Record
 pub mod SharedRecord
 pub mod Packet
-pub mod SharedRecords
-pub mod RecordRange
+pub mod SharedList
+pub mod Run
+pub mod Joined
+pub mod Partition
+pub mod RunPlaces
+pub mod Records
 pub mod Ranges
 pub mod Head
 pub mod Spelling

@@ -18,6 +18,11 @@ pub one_more_link : (n m : ℕ) (records : List Redo) (r : Redo) → IsOneChain 
 one_more_link n m [] r e is = (is ∙ sym e, refl)
 one_more_link n m (s ∷ rest) r (e, f) is = (e, one_more_link s.lsn m rest r f is)
 
+-- two chains, one behind the other
+pub chain-append : (n k m : ℕ) (xs ys : List Redo) → IsOneChain n xs k → IsOneChain k ys m → IsOneChain n (xs ++ ys) m
+chain-append n k m [] ys is more = subst (λ j. IsOneChain j ys m) (sym is) more
+chain-append n k m (x ∷ xs) ys (e, is) more = (e, chain-append x.lsn k m xs ys is more)
+
 -- a record behind a number that is reached is grounded
 lands : (all : List Redo) (r : Redo) (n : ℕ) → IsIn r all → r.prev_group ≡ n → IsReached all n → IsGrounded all r
 lands all r n i e (inl z) = from_none r i (e ∙ z)

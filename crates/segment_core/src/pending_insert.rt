@@ -1,8 +1,7 @@
 //! Records that are prepared to be added.
 
 use crate::chains::Chains;
-use crate::run_place::RunPlace;
-use redo_record::SharedRecord;
+use redo_record::{RunPlace, SharedRecord};
 
 /// The effect of a new record on the chains.
 #[derive(Drop)]

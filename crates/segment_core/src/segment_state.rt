@@ -8,10 +8,9 @@ ghost use Rattle.segment_core.specs.Reported.{IsReported, contents_with};
 
 use crate::pending_insert::PendingInsert;
 use crate::records::Records;
-use crate::run_place::RunPlace;
 use lineage::Lineage;
 use pages::BLOCK;
-use redo_record::SharedRecord;
+use redo_record::{RunPlace, SharedRecord};
 use std::alloc::{AllocError, Global};
 use std::sync::Arc;
 use wire::Contents;
@@ -35,7 +34,7 @@ impl SegmentState {
     ghost use Rattle.redo_record.specs.SharedRecord.{shared_redo};
     ghost use Rattle.wire.specs.Contents.{contents_of};
     ghost use Rattle.segment_core.specs.SegmentState.{state_contents, entered};
-    ghost use Rattle.segment_core.specs.SortedRecords.{StandsAt};
+    ghost use Rattle.redo_record.specs.RecordSet.{StandsAt};
     ghost use Rattle.segment_core.specs.Records.{CanEnter};
 
     /// Makes the state with this lineage and these records.
@@ -72,7 +71,7 @@ impl SegmentState {
         }
         let contents = Contents {
             lineage: self.lineage.clone()?,
-            records: self.records.to_set(alloc)?,
+            records: self.records.to_set()?,
         };
         let shared = Arc::new(alloc, contents)?;
         self.reported = Some(shared.clone()?);

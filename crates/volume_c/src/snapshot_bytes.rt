@@ -89,11 +89,10 @@ impl SnapshotBytes {
         ensures back { drop result out.new ≡ drop result out.old }
         ensures within { result ≤ length out.old }
     {
-        let packets = self.contents.records.as_slice();
-        if self.taken < self.head.len() || self.next > packets.len() {
+        if self.taken < self.head.len() {
             return 0;
         }
-        let (_, left) = packets.split_at(self.next);
+        let left = self.contents.records.records_from(self.next);
         let (records, bytes) = write_records(out, left);
         self.next += records;
         bytes

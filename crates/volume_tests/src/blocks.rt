@@ -27,7 +27,7 @@ fn three(alloc: Global) -> Result<RecordSet, Fault> {
 /// Returns whether the page of a block at a point has these first bytes and is 0 after them.
 fn begins_by(alloc: Global, block: u32, point: u64, bytes: [u8; 3]) -> Result<bool, Fault> {
     let records = three(alloc)?;
-    let found = of_block(alloc, records.as_slice(), block)?;
+    let found = of_block(alloc, &records, block)?;
     let mut expected = [0; BLOCK];
     expected[..3].copy_from_slice(&bytes);
     Ok(page_of(&found, block, point).as_slice() == expected.as_slice())

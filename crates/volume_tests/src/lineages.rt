@@ -135,7 +135,11 @@ const LIVE_RECORDS: &[Live] = &[
 
 /// Returns whether a set has exactly these records.
 fn is_set(records: &RecordSet, numbers: &[(u32, u64)]) -> bool {
-    for (packet, (volume_epoch, lsn)) in records.as_slice().iter().zip(numbers) {
+    let mut left = records.records();
+    for (volume_epoch, lsn) in numbers {
+        let Some(packet) = left.next() else {
+            return false;
+        };
         if packet.volume_epoch() != *volume_epoch || packet.lsn() != *lsn {
             return false;
         }

@@ -3,19 +3,20 @@
 ghost use Rattle.std.specs.Prelude.{◌≡◌, All, IfOk};
 ghost use Rattle.redo_record.specs.SharedRecord.{shared_redo};
 
-use redo_record::SharedRecord;
+use redo_record::{RecordSet, SharedRecord};
 use std::alloc::{AllocError, Global};
 
 /// Returns the records that are of the block.
 pub fn of_block(
     alloc: Global,
-    packets: &[SharedRecord],
+    records: &RecordSet,
     block: u32,
 ) -> Result<Vec<SharedRecord>, AllocError>
     ensures { IfOk result (λ found. All (λ packet. (shared_redo packet).block ≡ block) found.items) }
 {
     let mut found = Vec::new(alloc);
-    for packet in packets {
+    let mut left = records.records();
+    while let Some(packet) = left.next() {
         let packet = packet.clone()?;
         if packet.record().block == block {
             found.push(packet)?;

@@ -68,7 +68,11 @@ fn set(alloc: Global, records: &[(u64, u8)]) -> Result<RecordSet, Fault> {
 
 /// Returns whether the set has these records, in order.
 fn has(set: &RecordSet, records: &[(u64, u8)]) -> bool {
-    for (packet, (lsn, byte)) in set.as_slice().iter().zip(records) {
+    let mut left = set.records();
+    for (lsn, byte) in records {
+        let Some(packet) = left.next() else {
+            return false;
+        };
         if packet.lsn() != *lsn || packet.record().bytes.as_slice() != [*byte].as_slice() {
             return false;
         }

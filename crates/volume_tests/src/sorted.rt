@@ -1,7 +1,6 @@
 //! Tests of sorted runs, with records that come in several orders.
 
 use redo_record::{Payload, Record, RecordSet, SharedRecord};
-use segment_core::Runs;
 use std::alloc::{AllocError, Global};
 use std::test::*;
 
@@ -25,17 +24,17 @@ fn packet(alloc: Global, lsn: u64, block: u32) -> Result<SharedRecord, Fail> {
 }
 
 // Adds a record. Returns whether it is new.
-fn take(alloc: Global, runs: &mut Runs, packet: SharedRecord) -> Result<bool, AllocError> {
+fn take(runs: &mut RecordSet, packet: SharedRecord) -> Result<bool, AllocError> {
     let Some(place) = runs.place_for(&packet) else {
         return Ok(false);
     };
-    runs.make_room(alloc, place)?;
-    runs.insert(place, packet);
+    let place = runs.make_room(place)?;
+    runs.insert_at(place, packet);
     Ok(true)
 }
 
 // Returns the number of records with this LSN.
-fn count_of(runs: &Runs, lsn: u64) -> usize {
+fn count_of(runs: &RecordSet, lsn: u64) -> usize {
     let mut place = runs.first_at_least(lsn);
     let mut count: usize = 0;
     while let Some(packet) = runs.get(place) {
@@ -50,21 +49,22 @@ fn count_of(runs: &Runs, lsn: u64) -> usize {
 
 // Adds the records 1 to 10,000 in steps of `step`. Returns whether the runs have them in order.
 fn is_sorted(alloc: Global, step: u64) -> Result<bool, Fail> {
-    let mut runs = Runs::new(alloc);
+    let mut runs = RecordSet::new(alloc);
     for k in 0..COUNT {
         take(
-            alloc,
             &mut runs,
             packet(alloc, k.wrapping_mul(step) % COUNT + 1, 0)?,
         )?;
     }
-    let set = runs.to_set(alloc)?;
-    Ok(
-        set.as_slice()
-            .iter()
-            .map(|packet| packet.lsn())
-            .eq(1..=COUNT),
-    )
+    let mut next = 1;
+    let mut records = runs.records();
+    while let Some(packet) = records.next() {
+        if packet.lsn() != next {
+            return Ok(false);
+        }
+        next = packet.lsn().saturating_add(1);
+    }
+    Ok(next == COUNT + 1)
 }
 
 #[test]
@@ -75,7 +75,7 @@ fn records_come_in_order_again(rt: HostRuntime) -> Result<(), Fail> {
     Ok(())
 }
 
-// Returns the records 2, 4 to 1024, which fill a run.
+// Returns the records 2, 4 to 1024, which fill two runs.
 fn evens(alloc: Global) -> Result<RecordSet, Fail> {
     let mut set = RecordSet::new(alloc);
     for k in 1..513 {
@@ -89,11 +89,10 @@ fn evens(alloc: Global) -> Result<RecordSet, Fail> {
 fn a_full_run_takes_one_more(rt: HostRuntime) -> Result<(), Fail> {
     let set = evens(rt.alloc())?;
     for k in 0..33 {
-        let mut runs = Runs::from_set(rt.alloc(), &set)?;
-        assert_eq!(rt; runs.runs().len(), 1);
-        assert!(rt; take(rt.alloc(), &mut runs, packet(rt.alloc(), 32 * k + 1, 0)?)?);
-        assert_eq!(rt; runs.runs().len(), 2);
+        let mut runs = set.clone()?;
+        assert!(rt; take(&mut runs, packet(rt.alloc(), 32 * k + 1, 0)?)?);
         assert_eq!(rt; runs.len(), 513);
+        assert_eq!(rt; set.len(), 512);
         assert!(rt; runs.record_at(32 * k + 1).is_some());
     }
     Ok(())
@@ -101,10 +100,10 @@ fn a_full_run_takes_one_more(rt: HostRuntime) -> Result<(), Fail> {
 
 #[test]
 fn records_of_one_number_stand_together(rt: HostRuntime) -> Result<(), Fail> {
-    let mut runs = Runs::from_set(rt.alloc(), &evens(rt.alloc())?)?;
-    assert!(rt; !take(rt.alloc(), &mut runs, packet(rt.alloc(), 512, 0)?)?);
+    let mut runs = evens(rt.alloc())?;
+    assert!(rt; !take(&mut runs, packet(rt.alloc(), 512, 0)?)?);
     for block in 1..5 {
-        assert!(rt; take(rt.alloc(), &mut runs, packet(rt.alloc(), 512, block)?)?);
+        assert!(rt; take(&mut runs, packet(rt.alloc(), 512, block)?)?);
     }
     assert_eq!(rt; count_of(&runs, 512), 5);
     assert_eq!(rt; count_of(&runs, 513), 0);

@@ -1,5 +1,5 @@
 -- A log whose records stand in two lists, one behind the other.
-use Rattle.std.proofs.Common.{◌≡◌, ℕ, zero, suc, ◌+◌, ◌-◌, ◌<◌, ◌≤◌, Bool, true, ◌&&◌, nat_eq, ◌⊎◌, List, [], ◌∷◌, ◌++◌, map, length, get_or, take, drop, Option, Some, None, if◌then◌else◌, append_assoc, refl, sym, ap, ap₂, ◌∙◌, subst, inl, inr, arith}
+use Rattle.std.proofs.Common.{◌≡◌, ℕ, zero, suc, ◌+◌, ◌-◌, ◌<◌, ◌≤◌, Bool, true, ◌&&◌, nat_eq, ◌⊎◌, List, [], ◌∷◌, ◌++◌, map, length, get_or, take, drop, add-one, Option, Some, None, if◌then◌else◌, append_assoc, refl, sym, ap, ap₂, ◌∙◌, subst, inl, inr, arith}
 use Rattle.std.specs.Prelude.{◌==◌}
 use Rattle.std.specs.List.{AllZip}
 use Rattle.std.proofs.lemmas.Bool.{and_parts, lt-ltb}
@@ -13,10 +13,9 @@ use Rattle.redo_record.specs.declared.record_set.RecordSet.{RecordSet}
 use Rattle.redo_record.specs.Order.{IsInOrder, ComesAfter}
 use Rattle.redo_record.specs.SharedRecord.{shared_redo}
 use Rattle.redo_record.specs.RecordSet.{packets_of, records_of}
-use Rattle.redo_record.specs.SharedRecords.{packets_in}
 use Rattle.redo_record.proofs.Before.{IsBefore}
 use Rattle.redo_record.proofs.Copied.{IsCopy, redos-copied}
-use Rattle.redo_record.proofs.Parts.{part-shown}
+use Rattle.redo_record.proofs.RunLists.{joined-shown}
 use Rattle.redo_record.proofs.Places.{IsOrdered, ordered-from, with_record-after}
 use Rattle.writer_core.specs.Logs.{log_of, log_of_set, is_growing}
 use Rattle.writer_core.specs.declared.log.Log.{Log}
@@ -26,7 +25,7 @@ use Rattle.writer_core.proofs.Finding.{in-added, record_at-in, record_at-none}
 -- ---- the records of a set
 
 pub shown-set : (set : RecordSet) → map shared_redo (packets_of set) ≡ records_of set
-shown-set set = part-shown shared_redo (packets_in set.packets.shared.packets) set.packets.from set.packets.len
+shown-set set = sym (joined-shown set.runs.items)
 
 pub log_of-set : (set : RecordSet) → log_of (packets_of set) ≡ log_of_set set
 log_of-set set = ap (λ (rs : List Redo). added rs []) (shown-set set)
@@ -68,6 +67,24 @@ pub issued-grows : (xs ys : List SharedRecord) → is_growing (log_of (xs ++ ys)
 issued-grows xs ys h = newer-grows (map shared_redo ys) [] (log_of xs) (ap is_growing (sym (log_of-append xs ys)) ∙ h)
 
 -- ---- the record of a number
+
+-- the record of a number is the same in a log that grows, whichever end it is read from
+pub growing-same : (records : List Redo) → is_growing (added records []) ≡ true → (n : ℕ) → record_at (added records []) n ≡ record_at records n
+growing-same records g n = go (record_at records n) refl
+  where
+    go : (found : Option Redo) → record_at records n ≡ found → record_at (added records []) n ≡ record_at records n
+    go (Some r) found =
+        let (i, e) = record_at-some records n r found in
+        subst (λ m. record_at (added records []) m ≡ Some r) e (record_at-in (added records []) g r (in-added records [] r (inl i))) ∙ sym found
+    go None found =
+        record_at-none (added records []) n (λ r i e. elim (IsIn-added records [] r i) [
+          | inl j ↦ (let (s, there) = record_at-there records r j in apart s (sym (subst (λ m. record_at records m ≡ Some s) e there) ∙ found))
+          | inr j ↦ absurd j
+        ])
+        ∙ sym found
+      where
+        apart : (s : Redo) → Some s ≡ None → ⊥
+        apart s h = cc
 
 module _ (xs ys : List SharedRecord) (grows : is_growing (log_of (xs ++ ys)) ≡ true) (n : ℕ) where
   in-whole : (r : Redo) → IsIn r (map shared_redo ys) ⊎ IsIn r (log_of xs) → IsIn r (log_of (xs ++ ys))
@@ -179,3 +196,18 @@ of_group-all group rs order all = all-of group rs [] [] refl (ordered-from rs or
 -- what a log began with grows
 pub begun-grows : (log : Log) → is_growing (log_of_set log.found) ≡ true
 begun-grows log = ap is_growing (sym (log_of-set log.found)) ∙ found-grows (packets_of log.found) log.issued.items log.growing
+
+-- the next of the packets from a place on
+next-read : (xs : List SharedRecord) (n : ℕ) (p : SharedRecord) (rest : List SharedRecord) → drop n xs ≡ p ∷ rest → (n < length xs) × (p ≡ get_or xs n p) × (rest ≡ drop (suc n) xs)
+next-read [] zero p rest e = absurd cc
+next-read [] (suc n) p rest e = absurd cc
+next-read (x ∷ xs) zero p rest e = (omega arith, cc, cc)
+next-read (x ∷ xs) (suc n) p rest e = (let (within, is, more) = next-read xs n p rest e in (omega arith, is, more))
+
+pub left-read : (xs : List SharedRecord) (n : ℕ) (p : SharedRecord) (rest : List SharedRecord) → drop n xs ≡ p ∷ rest → (n < length xs) × (p ≡ get_or xs n p) × (rest ≡ drop (n + 1) xs)
+left-read xs n p rest e = (let (within, is, more) = next-read xs n p rest e in (within, is, more ∙ ap (λ m. drop m xs) (sym (add-one n))))
+
+pub left-none : (xs : List SharedRecord) (n : ℕ) → drop n xs ≡ [] → length xs ≤ n
+left-none [] n e = omega arith
+left-none (x ∷ xs) zero e = absurd cc
+left-none (x ∷ xs) (suc n) e = omega (arith, left-none xs n e)

@@ -5,7 +5,9 @@ use Rattle.redo_record.specs.declared.shared_record.SharedRecord.{SharedRecord}
 use Rattle.redo_record.specs.declared.record_set.RecordSet.{RecordSet}
 use Rattle.redo_record.specs.RecordSet.{packets_of}
 use Rattle.writer_core.specs.Logs.{log_of}
+use Rattle.redo_record.specs.Records.{packets_left}
 use Rattle.writer_core.specs.declared.log.Log.{Log}
+use Rattle.writer_core.specs.declared.log.LogRecords.{LogRecords}
 
 -- the records with which the log began
 abbrev pub found_of : Log → RecordSet
@@ -22,3 +24,7 @@ log_in log = log_of (packets_in log)
 -- the number of records for which there is room
 abbrev pub room_in : Log → ℕ
 room_in log = vec_capacity log.issued - vec_len log.issued
+
+-- the packets of a log that weren't read yet
+abbrev pub log_left : LogRecords → List SharedRecord
+log_left left = packets_left left.found ++ left.issued.now

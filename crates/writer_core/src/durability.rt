@@ -58,8 +58,9 @@ impl DurabilityTracker {
         requires { CoversPrefix self.old (group_point_of (groups_in group_states.now)) (packets_in log.now) }
         ensures { CoversLog self.new (group_point_of (groups_in group_states.now)) (packets_in log.now) }
     {
-        while self.records < log.len() {
-            let record = log.packet(self.records).record();
+        let mut left = log.records_from(self.records);
+        while let Some(packet) = left.next() {
+            let record = packet.record();
             if group_states.point(record.group) < record.lsn {
                 return;
             }

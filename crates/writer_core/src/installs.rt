@@ -39,11 +39,13 @@ fn of_group(alloc: Global, group: u8, log: &RecordSet) -> Result<RecordSet, Allo
         return log.clone();
     }
     let mut set = RecordSet::new(alloc);
-    for packet in log.as_slice() {
+    let mut left = log.records();
+    while let Some(packet) = left.next() {
         if packet.group() == group {
             set.insert(packet.clone()?)?;
         }
     }
+    set.share()?;
     Ok(set)
 }
 

@@ -84,8 +84,9 @@ impl LastLsns {
         ensures ok { OnOk result (AreLastsOfAll self.new (packets_in log.now)) }
         ensures front { AreLastLsnsOfPrefix self.new (packets_in log.now) }
     {
-        while self.entered < log.len() {
-            let record = log.packet(self.entered).record();
+        let mut left = log.records_from(self.entered);
+        while let Some(packet) = left.next() {
+            let record = packet.record();
             self.enter(record.group, record.block, record.lsn)?;
         }
         Ok(())

@@ -4,8 +4,8 @@ ghost use Rattle.std.specs.Prelude.{◌≡◌, ◌^◌, ◌<◌, ◌++◌, true,
 ghost use Rattle.redo_record.specs.RecordSet.{packets_of};
 ghost use Rattle.writer_core.specs.Logs.{log_of, is_growing};
 
-use crate::lookup::{last_lsn, record_at};
-use redo_record::{RecordSet, SharedRecord};
+use crate::lookup::record_at;
+use redo_record::{RecordSet, Records, SharedRecord};
 use std::alloc::{AllocError, Global};
 
 /// A log in order of LSN: the records found, which clones share, followed by those issued since.
@@ -21,13 +21,13 @@ pub struct Log {
 }
 
 impl Log {
-    ghost use Rattle.std.specs.Prelude.{◌≤◌, ◌+◌, [], ◌∷◌, take, slice_index_or, option_copied, option_map, OnOk, OnErr};
+    ghost use Rattle.std.specs.Prelude.{◌≤◌, ◌+◌, [], ◌∷◌, drop, take, slice_index_or, option_copied, option_map, OnOk, OnErr};
     ghost use Rattle.volume_model.specs.Redo.{last_lsn, record_at};
     ghost use Rattle.volume_model.specs.ClientPoints.{is_consistency_point};
     ghost use Rattle.redo_record.specs.SharedRecord.{shared_redo};
     ghost use Rattle.redo_record.specs.RecordSet.{records_of};
     ghost use Rattle.writer_core.specs.Logs.{log_of_set};
-    ghost use Rattle.writer_core.specs.Log.{found_of, packets_in, log_in, room_in};
+    ghost use Rattle.writer_core.specs.Log.{found_of, packets_in, log_in, log_left, room_in};
 
     /// Makes a log of the records found. Allocates nothing.
     pub fn begin(alloc: Global, found: RecordSet) -> Log
@@ -35,7 +35,7 @@ impl Log {
         ensures packets { packets_in result ≡ packets_of found }
         ensures found { found_of result ≡ found }
     {
-        let begun = found.as_slice().len();
+        let begun = found.len();
         Log {
             found,
             begun,
@@ -63,9 +63,31 @@ impl Log {
         ensures { result.now ≡ slice_index_or (packets_in self.now) place result.now }
     {
         if place < self.begun {
-            &self.found.as_slice()[place]
+            match self.found.records_from(place).next() {
+                Some(packet) => packet,
+                None => unreachable!(),
+            }
         } else {
             &self.issued[place - self.begun]
+        }
+    }
+
+    /// Reads the records from this index on.
+    #[inline(always)]
+    pub fn records_from(&self, place: usize) -> LogRecords<'_>
+        ensures { log_left result ≡ drop place (packets_in self.now) }
+    {
+        if place < self.begun {
+            LogRecords {
+                found: self.found.records_from(place),
+                issued: &self.issued,
+            }
+        } else {
+            let place = (place - self.begun).min(self.issued.len());
+            LogRecords {
+                found: Records::none(),
+                issued: &self.issued[place..],
+            }
         }
     }
 
@@ -73,10 +95,9 @@ impl Log {
     pub fn last_lsn(&self) -> u64
         ensures { result ≡ last_lsn (log_in self.now) }
     {
-        if self.issued.is_empty() {
-            last_lsn(self.found.as_slice())
-        } else {
-            last_lsn(self.issued.as_slice())
+        match self.issued.last() {
+            Some(packet) => packet.lsn(),
+            None => self.found.last().map_or(0, |packet| packet.lsn()),
         }
     }
 
@@ -84,7 +105,7 @@ impl Log {
     pub fn record_at(&self, lsn: u64) -> Option<&SharedRecord>
         ensures { option_map shared_redo (option_copied result) ≡ record_at (log_in self.now) lsn }
     {
-        match record_at(self.found.as_slice(), lsn) {
+        match self.found.record_at(lsn) {
             Some(packet) => Some(packet),
             None => record_at(self.issued.as_slice(), lsn),
         }
@@ -127,6 +148,36 @@ impl Log {
         ensures found { found_of self.new ≡ found_of self.old }
     {
         self.issued.truncate(records - self.begun);
+    }
+}
+
+/// The records of a log that weren't read yet, in order.
+#[derive(Clone, Copy)]
+pub struct LogRecords<'a> {
+    found: Records<'a>,
+    issued: &'a [SharedRecord],
+}
+
+impl<'a> LogRecords<'a> {
+    ghost use Rattle.std.specs.Prelude.{◌≡◌, [], ◌∷◌, MatchOption};
+    ghost use Rattle.writer_core.specs.Log.{log_left};
+
+    /// Reads the next record; `None` at the end.
+    #[inline(always)]
+    pub fn next(&mut self) -> Option<&'a SharedRecord>
+        ensures { MatchOption result (log_left self.old ≡ [])
+            (λ packet. log_left self.old ≡ packet.now ∷ log_left self.new) }
+    {
+        if let Some(packet) = self.found.next() {
+            return Some(packet);
+        }
+        match self.issued {
+            [] => None,
+            [packet, rest @ ..] => {
+                self.issued = rest;
+                Some(packet)
+            }
+        }
     }
 }
 

@@ -7,13 +7,6 @@ ghost use Rattle.writer_core.specs.Logs.{log_of, is_growing};
 
 use redo_record::SharedRecord;
 
-/// Returns the last LSN, 0 if there is none.
-pub fn last_lsn(log: &[SharedRecord]) -> u64
-    ensures { result ≡ last_lsn (log_of log.now) }
-{
-    log.last().map_or(0, |packet| packet.lsn())
-}
-
 /// Returns the record with this LSN, if there is one.
 pub fn record_at(log: &[SharedRecord], lsn: u64) -> Option<&SharedRecord>
     requires { is_growing (log_of log.now) ≡ true }

@@ -21,7 +21,7 @@ impl Segment {
     ghost use Rattle.segment_core.specs.Segment.{node_of, segment_plan, segment_group, segment_member, IsSameActor, IsSegmentOf};
     ghost use Rattle.segment_core.specs.Snapshot.{node_in, resumed};
 
-    /// Returns the state that survives a restart. It shares the segment's records. Costs a pointer for each record, or
+    /// Returns the state that survives a restart. It shares the segment's records. Costs a pointer for each run, or
     /// nothing if the segment has reported since its last record.
     ///
     /// # Errors

@@ -9,6 +9,7 @@ use super::nodes::node;
 use super::rows::{Row, Table, are_kept, first_wrong};
 use super::steps::Reply::{Asks, Nothing};
 use super::steps::answer;
+use redo_record::RecordSet;
 use segment_core::Segment;
 use std::alloc::Global;
 use std::test::*;
@@ -145,16 +146,29 @@ fn in_any_order(rt: HostRuntime) {
     }
 }
 
+/// Returns whether the LSNs of a set are those from `first` to `last`.
+fn are_from(set: &RecordSet, first: u64, last: u64) -> bool {
+    let mut left = set.records();
+    for lsn in first..=last {
+        let Some(packet) = left.next() else {
+            return false;
+        };
+        if packet.lsn() != lsn {
+            return false;
+        }
+    }
+    left.next().is_none()
+}
+
 /// Returns whether the message is this piece of member 0's copy with this number.
 fn is_piece(message: &Message, series: u64, part: Part) -> bool {
     let (Message::CopyReport(copy), Of(piece, of, first, last)) = (message, part) else {
         return false;
     };
-    let records = copy.part.contents.records.as_slice();
     copy.group == 0
         && (copy.epoch, copy.from, copy.part.series) == (2, 0, series)
         && (copy.piece, copy.of) == (piece, of)
-        && records.iter().map(|packet| packet.lsn()).eq(first..=last)
+        && are_from(&copy.part.contents.records, first, last)
 }
 
 /// Returns whether the messages are the three pieces of member 0's copy with this number, in order.

@@ -2,7 +2,7 @@
 
 use super::inputs::Input;
 use super::messages::message;
-use redo_record::SharedRecord;
+use redo_record::RecordSet;
 use segment_core::Segment;
 use std::alloc::Global;
 use volume_model::Fault;
@@ -30,9 +30,10 @@ pub enum Reply {
 }
 
 /// Returns the last LSN if these are the records from 1 on, in order, else the greatest number.
-fn last_of(packets: &[SharedRecord]) -> u64 {
+fn last_of(set: &RecordSet) -> u64 {
     let mut last: u64 = 0;
-    for packet in packets {
+    let mut left = set.records();
+    while let Some(packet) = left.next() {
         if last.checked_add(1) != Some(packet.lsn()) {
             return u64::MAX;
         }
@@ -45,8 +46,8 @@ fn last_of(packets: &[SharedRecord]) -> u64 {
 fn reply_in(message: &Message) -> Reply {
     match message {
         Message::Ack(ack) => Reply::Acks(ack.scl),
-        Message::Report(report) => Reply::Reports(last_of(report.contents.records.as_slice())),
-        Message::CopyReport(copy) => Reply::Copies(last_of(copy.part.contents.records.as_slice())),
+        Message::Report(report) => Reply::Reports(last_of(&report.contents.records)),
+        Message::CopyReport(copy) => Reply::Copies(last_of(&copy.part.contents.records)),
         Message::CopyAsk(ask) => Reply::Asks(ask.epoch),
         Message::Page(page) => Reply::Byte(page.image.bytes[0]),
         Message::Gossip(gossip) => {

@@ -1,10 +1,10 @@
-use Rattle.std.proofs.Common.{sym, subst}
-use Rattle.redo_record.specs.Groups.{IsKnownGroup}
-use Rattle.redo_record.specs.Order.{IsInOrder}
+use Rattle.std.proofs.Common.{◌≡◌, ◌≤◌, List, length, sym, ◌∙◌, arith}
+use Rattle.std.proofs.lemmas.List.{take_all}
+use Rattle.volume_model.specs.Redo.{Redo}
+use Rattle.redo_record.specs.RecordSet.{records_of}
 use Rattle.redo_record.proofs.record_set.RecordSetClone.clone.Goals as goal
 
-pub invariant_of-result : goal.invariant_of-result
-invariant_of-result c = record {
-  in_order = subst IsInOrder (sym c.in_ok-packets.ensures.cases) c.args.self.now.in_order;
-  of_known_group = subst (IsKnownGroup c.args.self.now.known_group) (sym c.in_ok-packets.ensures.cases) c.args.self.now.of_known_group;
-}
+pub returns : goal.returns
+returns c =
+    let ours : List Redo = records_of c.args.self.now in
+    record { cases = c.in_ok-copy.ensures ∙ take_all c.args.self.now.len ours (omega (arith, c.args.self.now.counted)) }

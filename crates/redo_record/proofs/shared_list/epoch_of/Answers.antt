@@ -1,0 +1,27 @@
+use Rattle.std.proofs.Common.{◌≡◌, ◌<◌, ◌+◌, ◌∙◌, ℕ, List, length, map, get_or, ap, sym, inl, inr, arith}
+use Rattle.std.proofs.lemmas.Bool.{cases_lt}
+use Rattle.std.proofs.lemmas.List.{get_or-map, length-map}
+use Rattle.volume_model.specs.Redo.{Redo}
+use Rattle.redo_record.specs.SharedRecord.{shared_redo}
+use Rattle.redo_record.specs.declared.shared_record.SharedRecord.{SharedRecord}
+use Rattle.redo_record.proofs.Linked.{known_epoch-some}
+use Rattle.redo_record.proofs.Places.{list-all}
+use Rattle.redo_record.proofs.shared_list.epoch_of.Goals as goal
+
+pub loop-packet-preserved : goal.loop-packet-preserved
+loop-packet-preserved c k d h =
+    let packets : List SharedRecord = c.args.packets.now in
+    let i : ℕ = c.loop-packet.packet-index in
+    elim (cases_lt k i) [
+      | inl m ↦ c.loop-packet.invariant k d m
+      | inr m ↦ (
+          let now : k ≡ i = omega arith in
+          let a : get_or (map shared_redo packets) k d ≡ shared_redo c.packet-item.result = ap (λ n. get_or (map shared_redo packets) n d) now ∙ get_or-map shared_redo packets i c.packet-item.result d c.loop-packet-test.true ∙ ap shared_redo (sym c.packet-item.is) in
+          ap (λ (r : Redo). r.volume) a ∙ sym c.volume_epoch.ensures ∙ c.if-volume_epoch.false)
+    ]
+
+pub returns : goal.returns
+returns c =
+    let packets : List SharedRecord = c.args.packets.now in
+    let known : ℕ = c.volume_epoch-volume_epoch.result in
+    known_epoch-some known (map shared_redo packets) (list-all (λ (r : Redo). r.volume ≡ known) (map shared_redo packets) (λ k d l. c.loop-packet.invariant k d (omega (arith, c.loop-packet-test.false, length-map packets shared_redo))))
