@@ -1,11 +1,12 @@
 -- The chains of records that are one chain
-use Rattle.std.proofs.Common.{◌≡◌, ℕ, ◌<◌, ◌≤◌, List, [], ◌∷◌, ◌++◌, refl, sym, ◌∙◌, subst, inl, inr, arith}
+use Rattle.std.proofs.Common.{◌≡◌, ℕ, zero, suc, ◌+◌, ◌<◌, ◌≤◌, List, [], ◌∷◌, ◌++◌, length, get_or, refl, sym, ap, ◌∙◌, subst, inl, inr, arith}
 use Rattle.volume_model.specs.Lists.{IsIn}
 use Rattle.volume_model.specs.Redo.{Redo, scl}
 use Rattle.volume_model.specs.Greatest.{IsGreatest}
 use Rattle.volume_model.specs.Grounded.{IsGrounded, IsGroundedNumber, GroupLinksFall}
 use Rattle.volume_model.specs.Grounded.IsGrounded.{from_none, from_one}
 use Rattle.volume_model.proofs.Grounded.{complete_point_is_greatest}
+use Rattle.redo_record.specs.SharedList.{IsGroupChain}
 use Rattle.segment_core.specs.declared.chains.Chains.{Chains}
 use Rattle.segment_core.specs.Chains.{AreChainsOf}
 use Rattle.segment_core.specs.OneChain.{IsOneChain}
@@ -22,6 +23,19 @@ one_more_link n m (s ∷ rest) r (e, f) is = (e, one_more_link s.lsn m rest r f 
 pub chain-append : (n k m : ℕ) (xs ys : List Redo) → IsOneChain n xs k → IsOneChain k ys m → IsOneChain n (xs ++ ys) m
 chain-append n k m [] ys is more = subst (λ j. IsOneChain j ys m) (sym is) more
 chain-append n k m (x ∷ xs) ys (e, is) more = (e, chain-append x.lsn k m xs ys is more)
+
+-- records each of which but the first links to the one before it
+pub linked-chain : (n k m : ℕ) (records : List Redo) → IsGroupChain records → k + 1 ≡ length records → ((d : Redo) → (get_or records 0 d).prev_group ≡ n) → ((d : Redo) → (get_or records k d).lsn ≡ m) → IsOneChain n records m
+linked-chain n k m [] linked at first last = absurd (omega arith)
+linked-chain n zero m (r ∷ []) linked at first last = (first r, last r)
+linked-chain n (suc k) m (r ∷ []) linked at first last = absurd (omega arith)
+linked-chain n zero m (r ∷ s ∷ rest) linked at first last = absurd (omega arith)
+linked-chain n (suc k) m (r ∷ s ∷ rest) linked at first last = (
+  first r,
+  linked-chain r.lsn k m (s ∷ rest)
+      (λ i d l. (let next : suc (i + 1) ≡ suc i + 1 = omega arith in ap (λ j. (get_or (r ∷ s ∷ rest) j d).prev_group) next ∙ linked (suc i) d (omega arith)))
+      (omega arith) (λ d. linked 0 d (omega arith)) last,
+)
 
 -- a record behind a number that is reached is grounded
 lands : (all : List Redo) (r : Redo) (n : ℕ) → IsIn r all → r.prev_group ≡ n → IsReached all n → IsGrounded all r

@@ -31,10 +31,10 @@ impl SegmentState {
     ghost use Rattle.std.specs.Prelude.{◌≡◌, IfOk};
     ghost use Rattle.volume_model.specs.Node.{page_of};
     ghost use Rattle.volume_model.specs.Redo.{with_record};
+    ghost use Rattle.redo_record.specs.RecordSet.{StandsAt};
     ghost use Rattle.redo_record.specs.SharedRecord.{shared_redo};
     ghost use Rattle.wire.specs.Contents.{contents_of};
     ghost use Rattle.segment_core.specs.SegmentState.{state_contents, entered};
-    ghost use Rattle.redo_record.specs.RecordSet.{StandsAt};
     ghost use Rattle.segment_core.specs.Records.{CanEnter};
 
     /// Makes the state with this lineage and these records.
