@@ -4,9 +4,10 @@
 ghost use Rattle.std.specs.Prelude.{◌≡◌, ◌+◌, ◌≤◌, ◌++◌, nat_le, if◌then◌else◌, length, map, take, drop, All};
 ghost use Rattle.volume_model.specs.Node.{written, page_from, page_of};
 ghost use Rattle.redo_record.specs.Record.{redo_of};
+ghost use Rattle.redo_record.specs.RecordSet.{records_of};
 ghost use Rattle.redo_record.specs.SharedRecord.{shared_redo};
 
-use redo_record::{Record, SharedRecord};
+use redo_record::{Record, RecordSet, SharedRecord};
 
 /// The bytes of a block.
 pub const BLOCK: usize = 512;
@@ -31,7 +32,7 @@ fn apply(page: &mut [u8], entry: &Record)
 }
 
 /// Applies a shared record to a page.
-fn write_packet(page: &mut [u8; BLOCK], packet: &SharedRecord)
+pub fn write_packet(page: &mut [u8; BLOCK], packet: &SharedRecord)
     ensures { page.new ≡ written (shared_redo packet.now) page.old }
 {
     apply(page, packet.record());
@@ -91,6 +92,20 @@ fn write_ahead(page: &mut [u8; BLOCK], packets: &[SharedRecord], block: u32, poi
     }
 }
 
+/// Applies the records up to `point`, in order.
+fn write_run(page: &mut [u8; BLOCK], packets: &[SharedRecord], block: u32, point: u64)
+    requires { All (λ packet. (shared_redo packet).block ≡ block) packets.now }
+    ensures { page.new ≡ page_from page.old block point (map shared_redo packets.now) }
+{
+    let mut rest = packets;
+    while rest.len() >= AHEAD {
+        let (some, more) = rest.split_at(AHEAD);
+        write_ahead(page, some, block, point);
+        rest = more;
+    }
+    write_up_to(page, rest, block, point);
+}
+
 /// Returns the page of a block at `point`: the writes of the records up to `point`, applied in order to zeros. The
 /// records are all those of the block, of one group, in order of LSN.
 pub fn page_of(packets: &[SharedRecord], block: u32, point: u64) -> [u8; BLOCK]
@@ -98,12 +113,18 @@ pub fn page_of(packets: &[SharedRecord], block: u32, point: u64) -> [u8; BLOCK]
     ensures { result ≡ page_of (map shared_redo packets.now) block point }
 {
     let mut page = [0; BLOCK];
-    let mut rest = packets;
-    while rest.len() >= AHEAD {
-        let (some, more) = rest.split_at(AHEAD);
-        write_ahead(&mut page, some, block, point);
-        rest = more;
+    write_run(&mut page, packets, block, point);
+    page
+}
+
+/// Returns the page of a block at `point`, as [`page_of`] does, from a set of records.
+pub fn page_of_set(records: &RecordSet, block: u32, point: u64) -> [u8; BLOCK]
+    requires { All (λ r. r.block ≡ block) (records_of records.now) }
+    ensures { result ≡ page_of (records_of records.now) block point }
+{
+    let mut page = [0; BLOCK];
+    for run in records.runs() {
+        write_run(&mut page, run.as_slice(), block, point);
     }
-    write_up_to(&mut page, rest, block, point);
     page
 }

@@ -3,7 +3,7 @@ use Rattle.volume_model.specs.Node.{page_from}
 use Rattle.redo_record.specs.SharedRecord.{shared_redo}
 use Rattle.redo_record.specs.declared.shared_record.SharedRecord.{SharedRecord}
 use Rattle.pages.proofs.Parted.{page_parted}
-use Rattle.pages.proofs.page_of.Goals as goal
+use Rattle.pages.proofs.write_run.Goals as goal
 
 pub loop-rest-preserved : goal.loop-rest-preserved
 loop-rest-preserved c =
