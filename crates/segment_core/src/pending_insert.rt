@@ -17,8 +17,10 @@ pub enum ChainEffect {
 /// A record that is prepared to be added to its block's list.
 #[derive(Drop)]
 pub struct OfBlock {
-    /// The place of the block's list.
-    pub place: u32,
+    /// The index of the block's list.
+    pub list: u32,
+    /// The place in the list, `None` if the list has the record.
+    pub place: Option<RunPlace>,
     pub packet: SharedRecord,
 }
 
