@@ -1,48 +1,21 @@
 -- What was written is read again.
-use Rattle.std.proofs.Common.{◌≡◌, ℕ, suc, ◌+◌, ◌^◌, ◌<◌, true, false, nat_lt, List, [], ◌∷◌, ◌++◌, length, map, get_or, drop, take, Ok, refl, sym, ap, ap₂, subst, ◌∙◌, append_assoc, arith}
+use Rattle.std.proofs.Common.{◌≡◌, ℕ, suc, ◌+◌, ◌^◌, ◌<◌, true, false, nat_lt, List, [], ◌∷◌, ◌++◌, length, get_or, drop, Ok, refl, sym, ap, ap₂, subst, ◌∙◌, append_assoc, arith}
 use Rattle.std.specs.Int.{w32, w64, to_be_bytes}
 use Rattle.std.proofs.lemmas.Bool.{and_parts, le-ltb}
-use Rattle.std.proofs.lemmas.List.{take_at, drop-drop, drop_at, append-nil, length-append, get_or_append_left, get_or_at, map_more}
+use Rattle.std.proofs.lemmas.List.{take_at, drop-drop, drop_at, append-nil, length-append, get_or_append_left, get_or_at}
 use Rattle.volume_model.specs.Redo.{Redo, spelling, numbers_before}
 use Rattle.volume_model.specs.Lineage.{Entry, Lineage, Contents}
-use Rattle.redo_record.specs.declared.shared_record.SharedRecord.{SharedRecord}
 use Rattle.redo_record.specs.Order.{IsInOrder}
-use Rattle.redo_record.specs.SharedRecord.{shared_redo}
 use Rattle.redo_record.specs.Spelling.{spelled, decoded}
 use Rattle.redo_record.proofs.Again.{length-spelled}
 use Rattle.lineage.specs.Entries.{is_lineage}
 use Rattle.message_bytes.specs.Contents.{redo_at, entry_at, entries_at, is_next, records_at, lineage_at, set_at, contents_at}
 use Rattle.message_bytes.specs.Spelling.{entry_spelled, entries_spelled, lineage_spelled, records_spelled, set_spelled, contents_spelled, IsEntry, AreEntries, AreReadBack}
 use Rattle.message_bytes.proofs.Fields.{wide32, wide64, number_again}
-use Rattle.message_bytes.proofs.Found.{records_spelled-append}
 use Rattle.message_bytes.proofs.Next.{next-at}
 
 pub three : (o a b c : List ℕ) → ((o ++ a) ++ b) ++ c ≡ o ++ (a ++ (b ++ c))
 three o a b c = append_assoc (o ++ a) b c ∙ append_assoc o a (b ++ c)
-
--- one record more
-pub records-more : (packets : List SharedRecord) (i : ℕ) (p : SharedRecord) (items more old : List ℕ) → i < length packets → p ≡ get_or packets i p → more ≡ items ++ spelled (shared_redo p)
-    → items ≡ old ++ records_spelled (map shared_redo (take i packets)) → more ≡ old ++ records_spelled (map shared_redo (take (i + 1) packets))
-records-more packets i p items more old within is grown so_far =
-    let r = shared_redo p in
-    let front = map shared_redo (take i packets) in
-    let step : front ++ r ∷ [] ≡ map shared_redo (take (i + 1) packets) = ap (λ (q : SharedRecord). front ++ shared_redo q ∷ []) is ∙ sym (map_more shared_redo packets i p within) in
-    let text : more ≡ old ++ records_spelled (front ++ r ∷ []) =
-    grown ∙ ap (λ (t : List ℕ). t ++ spelled r) so_far ∙ append_assoc old (records_spelled front) (spelled r)
-    ∙ ap (λ (t : List ℕ). old ++ t) (ap (λ (t : List ℕ). records_spelled front ++ t) (sym (append-nil (spelled r))) ∙ sym (records_spelled-append front (r ∷ []))) in
-    text ∙ ap (λ (rs : List Redo). old ++ records_spelled rs) step
-
--- one record more is read back
-pub back-more : (packets : List SharedRecord) (i : ℕ) (p : SharedRecord) → i < length packets → p ≡ get_or packets i p → decoded (spelled (shared_redo p)) ≡ Ok (shared_redo p)
-    → AreReadBack (map shared_redo (take i packets)) → AreReadBack (map shared_redo (take (i + 1) packets))
-back-more packets i p within is reads back =
-    let front = map shared_redo (take i packets) in
-    let step : front ++ shared_redo p ∷ [] ≡ map shared_redo (take (i + 1) packets) = ap (λ (q : SharedRecord). front ++ shared_redo q ∷ []) is ∙ sym (map_more shared_redo packets i p within) in
-    subst AreReadBack step (pushed front back)
-  where
-    pushed : (xs : List Redo) → AreReadBack xs → AreReadBack (xs ++ shared_redo p ∷ [])
-    pushed [] b = (reads, tt)
-    pushed (x ∷ xs) b = (b.0, pushed xs b.1)
 
 length_at : (r : Redo) (rest : List ℕ) → get_or (spelled r ++ rest) 44 0 ≡ length r.bytes
 unfolding spelled

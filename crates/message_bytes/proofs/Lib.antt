@@ -1,4 +1,5 @@
 pub mod Handed
+pub mod Left
 pub mod Loop
 pub mod Next
 pub mod Fields

@@ -1,5 +1,6 @@
-use Rattle.std.proofs.Common.{[]}
+use Rattle.std.proofs.Common.{◌∙◌, [], List, Ok, ap, sym}
 use Rattle.std.proofs.lemmas.Result.{err_from_is_err_and}
+use Rattle.volume_model.specs.Redo.{Redo}
 use Rattle.redo_record.specs.SharedRecord.{shared_redo}
 use Rattle.redo_record.specs.RecordSet.{records_of}
 use Rattle.message_bytes.specs.Contents.{records_at}
@@ -21,4 +22,6 @@ loop-preserved c =
     records-on c.args.count c.loop.counter (records_of c.loop.set) (records_of c.in_ok-set.set) c.loop.rest.now c.in_ok-packet.after.now (shared_redo c.in_ok-packet.packet) (records_at c.args.count [] c.args.bytes.now) c.loop-test.true c.in_ok-packet.ensures c.in_ok-set.ensures c.loop.invariant
 
 pub returns : goal.returns
-returns c = records-done c.args.count c.loop.counter (records_of c.loop.set) c.loop.rest.now (records_at c.args.count [] c.args.bytes.now) c.loop-test.false c.loop.invariant
+returns c =
+    records-done c.args.count c.loop.counter (records_of c.loop.set) c.loop.rest.now (records_at c.args.count [] c.args.bytes.now) c.loop-test.false c.loop.invariant
+    ∙ ap (λ (rs : List Redo). Ok (rs, c.loop.rest.now)) (sym c.share.ensures)

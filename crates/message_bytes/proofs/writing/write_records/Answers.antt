@@ -1,25 +1,44 @@
-use Rattle.std.proofs.Common.{◌≡◌, ◌∙◌, ◌+◌, ◌++◌, List, [], ℕ, length, map, take, ap, arith, rules}
-use Rattle.redo_record.specs.declared.shared_record.SharedRecord.{SharedRecord}
+use Rattle.std.proofs.Common.{◌≡◌, ◌∙◌, ◌+◌, ◌<◌, ◌++◌, ◌∷◌, List, [], ℕ, length, take, ap, sym, arith, rules}
+use Rattle.std.proofs.lemmas.List.{append-nil}
+use Rattle.volume_model.specs.Redo.{Redo}
+use Rattle.redo_record.specs.Records.{left_of}
 use Rattle.redo_record.specs.SharedRecord.{shared_redo}
 use Rattle.redo_record.specs.Spelling.{spelled}
+use Rattle.redo_record.proofs.Again.{length-spelled}
 use Rattle.message_bytes.specs.Spelling.{records_spelled}
-use Rattle.message_bytes.proofs.Again.{records-more, drop-further}
+use Rattle.message_bytes.proofs.Again.{drop-further}
+use Rattle.message_bytes.proofs.Found.{records_spelled-append}
+use Rattle.message_bytes.proofs.Left.{next-taken}
 use Rattle.message_bytes.proofs.writing.write_records.Goals as goal
+
+pub overflow_add-count : goal.overflow_add-count
+overflow_add-count c =
+    let r : Redo = shared_redo c.in-Some.packet.now in
+    let bytes : List ℕ = c.as_bytes-bytes.result.now in
+    let same : bytes ≡ spelled r = search rules in
+    let some : 0 < length bytes = omega (arith, ap (length {A = ℕ}) same, length-spelled r) in
+    omega (arith, c.loop-packet.invariant.few, some)
 
 pub loop-packet-preserved : goal.loop-packet-preserved
 loop-packet-preserved c =
     let inv = c.loop-packet.invariant in
-    let i : ℕ = c.loop-packet.packet-index in
+    let n : ℕ = c.loop-packet.count in
     let bytes : List ℕ = c.as_bytes-bytes.result.now in
     let out : List ℕ = c.loop-packet.out in
     let end : ℕ = c.loop-packet.end in
-    let p : SharedRecord = c.packet-item.result in
-    let grown : take (end + length bytes) c.put_at.new.out ≡ take end out ++ spelled (shared_redo p) = search rules in
-    let front : take end out ≡ records_spelled (map shared_redo (take i c.args.packets.now)) = inv.front ∙ ap (λ (n : ℕ). records_spelled (map shared_redo (take n c.args.packets.now))) inv.counted in
+    let r : Redo = shared_redo c.in-Some.packet.now in
+    let all : List Redo = left_of c.args.left in
+    let next = next-taken all (left_of c.next.new.self) n r (inv.rest ∙ c.in-Some.ensures.records) in
+    let same : bytes ≡ spelled r = search rules in
+    let some : 0 < length bytes = omega (arith, ap (length {A = ℕ}) same, length-spelled r) in
+    let grown : take (end + length bytes) c.put_at.new.out ≡ take end out ++ spelled r = search rules in
     record {
-      counted = omega (arith, inv.counted);
+      within = omega (arith, next.0);
+      few = omega (arith, inv.few, some);
+      rest = next.1.1;
       fits = omega arith;
-      front = records-more c.args.packets.now i p (take end out) (take (end + length bytes) c.put_at.new.out) [] (omega arith) c.packet-item.is grown front
-          ∙ ap (λ (n : ℕ). records_spelled (map shared_redo (take n c.args.packets.now))) (omega (arith, inv.counted));
+      front = grown ∙ ap (λ (t : List ℕ). t ++ spelled r) inv.front
+          ∙ ap (λ (t : List ℕ). records_spelled (take n all) ++ t) (sym (append-nil (spelled r)))
+          ∙ sym (records_spelled-append (take n all) (r ∷ [])) ∙ ap records_spelled (sym next.1.0);
       back = drop-further end (length bytes) c.put_at.new.out out c.args.out.now c.put_at.ensures.back inv.back;
     }

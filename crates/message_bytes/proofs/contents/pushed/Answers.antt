@@ -1,0 +1,8 @@
+use Rattle.std.proofs.Common.{[], ◌∷◌, ◌++◌, refl}
+use Rattle.redo_record.specs.RecordSet.{records_of}
+use Rattle.redo_record.specs.SharedRecord.{shared_redo}
+use Rattle.redo_record.proofs.Merging.{merged-after}
+use Rattle.message_bytes.proofs.contents.pushed.Goals as goal
+
+pub push-requires : goal.push-requires
+push-requires c = merged-after (records_of c.args.set) [] (records_of c.args.set ++ shared_redo c.args.packet ∷ []) (shared_redo c.args.packet) (c.if-not-comes_next.ensures.in_order refl) refl
