@@ -1,5 +1,5 @@
 -- Changes that are copied.
-use Rattle.std.proofs.Common.{◌≡◌, List, [], ◌∷◌, refl, ap, ap₂}
+use Rattle.std.proofs.Common.{◌≡◌, List, [], ◌∷◌, refl, ap₂}
 use Rattle.std.specs.List.{AllZip}
 use Rattle.volume_model.specs.ClientWriter as model
 use Rattle.writer_core.specs.declared.change.Change.{Change}

@@ -1,19 +1,19 @@
 -- One record more is entered among the last numbers of groups and blocks.
-use Rattle.std.proofs.Common.{◌≡◌, ◌≢◌, ℕ, ◌+◌, ◌<◌, ◌≤◌, Bool, true, false, ◌&&◌, nat_eq, List, [], ◌∷◌, ◌++◌, length, length-append, get_or, if◌then◌else◌, Some, None, cond, sym, ap, ◌∙◌, subst, inl, inr, arith, get_or-set_same, get_or-set_other}
+use Rattle.std.proofs.Common.{◌≡◌, ◌≢◌, ℕ, ◌+◌, ◌<◌, ◌≤◌, Bool, true, false, ◌&&◌, nat_eq, List, [], ◌∷◌, ◌++◌, length, length-append, get_or, take, if◌then◌else◌, Some, None, cond, sym, ap, ◌∙◌, subst, inl, inr, arith, get_or-set_same, get_or-set_other}
 use Rattle.std.specs.Prelude.{Option, slice_set, unwrap_or, refl}
 use Rattle.std.specs.Ordering.{is_eq}
 use Rattle.std.specs.BTreeMap.{Updates, UpdatesBy, get}
 use Rattle.std.proofs.lemmas.List.{take_all}
 use Rattle.std.proofs.lemmas.Bool.{cases_eq}
 use Rattle.std.proofs.lemmas.Bool.Decides.{nat_tests}
-use Rattle.volume_model.specs.Redo.{last_of_group, last_of_block}
+use Rattle.volume_model.specs.Redo.{Redo, last_of_group, last_of_block}
 use Rattle.redo_record.specs.declared.shared_record.SharedRecord.{SharedRecord}
 use Rattle.redo_record.specs.SharedRecord.{shared_redo}
 use Rattle.writer_core.specs.Logs.{log_of}
 use Rattle.writer_core.specs.Kept.{Blocks, block_cmp, kept_in, AreSameIn, PutsIn}
 use Rattle.writer_core.specs.LastLsns.{AreLasts, AreLastsOfAll, AreLastLsnsOfPrefix, Enters, EntersNone}
 use Rattle.writer_core.specs.declared.last_lsns.LastLsns.{LastLsns}
-use Rattle.writer_core.proofs.Logs.{log_of-push}
+use Rattle.writer_core.proofs.Logs.{log_of-more, log_of-push}
 
 -- a group's number, where a record is entered
 pub group-entered : (groups : List ℕ) (g q lsn last : ℕ) → g < length groups → get_or groups q 0 ≡ last → get_or (slice_set groups g lsn) q 0 ≡ (if nat_eq g q then lsn else last)
@@ -100,3 +100,14 @@ all-pushed old new records p group block lsn on_group on_block has_lsn enters al
   counted = omega (arith, enters.counted, all.counted, length-append records (p ∷ []));
   all = subst (AreLasts new) (sym (log_of-push records p)) (enters.last_lsns (shared_redo p) on_group on_block has_lsn (log_of records) all.all);
 }
+
+-- the next record of a log is entered
+pub front-entered : (old new : LastLsns) (records : List SharedRecord) (p : SharedRecord) (group block lsn : ℕ) → old.entered < length records → p ≡ get_or records old.entered p
+    → (shared_redo p).group ≡ group → (shared_redo p).block ≡ block → (shared_redo p).lsn ≡ lsn → Enters old new group block lsn → AreLastLsnsOfPrefix old records → AreLastLsnsOfPrefix new records
+front-entered old new records p group block lsn within is on_group on_block has_lsn enters before =
+    let front : List Redo = log_of (take old.entered records) in
+    let more : log_of (take (old.entered + 1) records) ≡ shared_redo p ∷ front = log_of-more records old.entered p within ∙ ap (λ (q : SharedRecord). shared_redo q ∷ front) (sym is) in
+    record {
+      within = omega (arith, enters.counted);
+      front = subst (AreLasts new) (sym more ∙ ap (λ n. log_of (take n records)) (sym enters.counted)) (enters.last_lsns (shared_redo p) on_group on_block has_lsn front before.front);
+    }

@@ -1,9 +1,9 @@
 -- A log whose records stand in two lists, one behind the other.
-use Rattle.std.proofs.Common.{◌≡◌, ℕ, zero, suc, ◌+◌, ◌-◌, ◌<◌, ◌≤◌, Bool, true, ◌&&◌, nat_eq, ◌⊎◌, List, [], ◌∷◌, ◌++◌, map, length, get_or, take, drop, add-one, Option, Some, None, if◌then◌else◌, append_assoc, refl, sym, ap, ap₂, ◌∙◌, subst, inl, inr, arith}
+use Rattle.std.proofs.Common.{◌≡◌, ℕ, zero, suc, ◌+◌, ◌-◌, ◌<◌, ◌≤◌, min, true, ◌&&◌, nat_eq, ◌⊎◌, List, [], ◌∷◌, ◌++◌, map, length, get_or, take, drop, add-one, Option, Some, None, if◌then◌else◌, append_assoc, refl, sym, ap, ap₂, ◌∙◌, subst, inl, inr, arith}
 use Rattle.std.specs.Prelude.{◌==◌}
-use Rattle.std.specs.List.{AllZip}
+use Rattle.std.specs.List.{AllZip, slice_get}
 use Rattle.std.proofs.lemmas.Bool.{and_parts, lt-ltb}
-use Rattle.std.proofs.lemmas.List.{append-nil, get_or-map, length-map, nil_from_length, take_all, take_more, take-append-drop}
+use Rattle.std.proofs.lemmas.List.{append-nil, length-map, nil_from_length, take-append-drop}
 use Rattle.volume_model.specs.Lists.{IsIn, added, every}
 use Rattle.volume_model.specs.Redo.{Redo, spelling, numbers_before, last_lsn, record_at, of_group, with_record}
 use Rattle.volume_model.proofs.Basics.{IsIn-added, IsIn-append_right}
@@ -155,25 +155,6 @@ no-packets set none = nil_from_length (packets_of set) (length-set set ∙ ap le
 
 -- ---- the records of one group
 
-added-more : (rs : List Redo) (r : Redo) (kept : List Redo) → added (rs ++ r ∷ []) kept ≡ r ∷ added rs kept
-added-more [] r kept = refl
-added-more (s ∷ rs) r kept = added-more rs r (s ∷ kept)
-
--- one record more of a list
-module _ (packets : List SharedRecord) (records : List Redo) (i : ℕ) (p : SharedRecord) (listed : map shared_redo packets ≡ records) (within : i < length packets) (is : p ≡ get_or packets i p) where
-  pub one-more : added (take (i + 1) records) [] ≡ shared_redo p ∷ added (take i records) []
-  one-more =
-      let inside : i < length records = subst (λ n. i < n) (sym (length-map packets shared_redo) ∙ ap length listed) within in
-      let here : shared_redo p ≡ get_or records i (shared_redo p) = ap shared_redo is ∙ sym (get_or-map shared_redo packets i p (shared_redo p) within) ∙ ap (λ l. get_or l i (shared_redo p)) listed in
-      ap (λ (rs : List Redo). added rs []) (take_more records i (shared_redo p) inside ∙ ap (λ r. take i records ++ r ∷ []) (sym here)) ∙ added-more (take i records) (shared_redo p) []
-
-  pub of_group-more : (group : ℕ) (b : Bool) → nat_eq (shared_redo p).group group ≡ b → of_group group (added (take (i + 1) records) []) ≡ (if b then with_record (shared_redo p) (of_group group (added (take i records) [])) else of_group group (added (take i records) []))
-  of_group-more group b test = ap (of_group group) one-more ∙ ap (λ (t : Bool). if t then with_record (shared_redo p) (of_group group (added (take i records) [])) else of_group group (added (take i records) [])) test
-
--- all records of a list
-pub of_group-end : (group : ℕ) (packets : List SharedRecord) (records : List Redo) (i : ℕ) → map shared_redo packets ≡ records → length packets ≤ i → of_group group (added (take i records) []) ≡ of_group group (added records [])
-of_group-end group packets records i listed end = ap (λ (rs : List Redo). of_group group (added rs [])) (take_all i records (subst (λ n. n ≤ i) (sym (length-map packets shared_redo) ∙ ap length listed) end))
-
 before-here : (older : List Redo) (r : Redo) (rest : List Redo) → IsOrdered (older ++ r ∷ rest) → ComesAfter older r
 unfolding IsBefore
 before-here (x ∷ older) r rest o s (inl e) = subst (λ z. numbers_before (spelling z) (spelling r) ≡ true) (sym e) (o.0 r (IsIn-append_right older (r ∷ rest) r (inl refl)))
@@ -211,3 +192,42 @@ pub left-none : (xs : List SharedRecord) (n : ℕ) → drop n xs ≡ [] → leng
 left-none [] n e = omega arith
 left-none (x ∷ xs) zero e = absurd cc
 left-none (x ∷ xs) (suc n) e = omega (arith, left-none xs n e)
+
+-- what stands behind the first of two lists, from a place on
+drop-capped : {A : Type 0} (n m : ℕ) (ys : List A) → m ≡ min n (length ys) → drop m ys ≡ drop n ys
+drop-capped zero m ys e = (let z : m ≡ 0 = omega (arith, e) in ap (λ k. drop k ys) z)
+drop-capped {A} (suc n) m [] e = (let none : List A = [] in let z : m ≡ 0 = omega (arith, e) in ap (λ k. drop k none) z)
+drop-capped (suc n) zero (y ∷ ys) e = absurd (omega arith)
+drop-capped (suc n) (suc m) (y ∷ ys) e = drop-capped n m ys (omega arith)
+
+pub drop-behind : {A : Type 0} (xs ys : List A) (n m : ℕ) → length xs ≤ n → m ≡ min (n - length xs) (length ys) → drop m ys ≡ drop n (xs ++ ys)
+drop-behind [] ys n m h e = drop-capped n m ys (omega arith)
+drop-behind (x ∷ xs) ys zero m h e = absurd (omega arith)
+drop-behind (x ∷ xs) ys (suc n) m h e = drop-behind xs ys n m (omega arith) (omega arith)
+
+-- the last record of both lists
+last-added : (ys : List SharedRecord) (kept : List Redo) (k : ℕ) (p : SharedRecord) → length ys ≡ k + 1 → p ≡ get_or ys k p → (shared_redo p).lsn ≡ last_lsn (added (map shared_redo ys) kept)
+last-added [] kept k p many is = absurd (omega arith)
+last-added (y ∷ []) kept zero p many is = ap (λ (q : SharedRecord). (shared_redo q).lsn) is
+last-added (y ∷ []) kept (suc k) p many is = absurd (omega arith)
+last-added (y ∷ z ∷ ys) kept zero p many is = absurd (omega arith)
+last-added (y ∷ z ∷ ys) kept (suc k) p many is = last-added (z ∷ ys) (shared_redo y ∷ kept) k p (omega arith) is
+
+-- of a set, the last record is the last one
+last-shown : (records kept : List Redo) (r : Redo) → Some r ≡ slice_get records (length records - 1) → r.lsn ≡ last_lsn (added records kept)
+last-shown [] kept r e = cc
+last-shown (s ∷ []) kept r e = (let same : r ≡ s = cc in ap (λ (q : Redo). q.lsn) same)
+last-shown (s ∷ t ∷ records) kept r e =
+    let n : length (s ∷ t ∷ records) - 1 ≡ suc (length (t ∷ records) - 1) = omega arith in
+    last-shown (t ∷ records) (s ∷ kept) r (e ∙ ap (slice_get (s ∷ t ∷ records)) n)
+
+pub last-of_set : (set : RecordSet) (ys : List SharedRecord) (r : Redo) → length ys ≤ 0 → Some r ≡ slice_get (records_of set) (length (records_of set) - 1) → r.lsn ≡ last_lsn (log_of (packets_of set ++ ys))
+last-of_set set [] r none e = last-shown (records_of set) [] r e ∙ ap last_lsn (sym (ap log_of (append-nil (packets_of set)) ∙ log_of-set set))
+last-of_set set (y ∷ ys) r none e = absurd (omega arith)
+
+pub last-of_none : (set : RecordSet) (ys : List SharedRecord) → length ys ≤ 0 → records_of set ≡ [] → 0 ≡ last_lsn (log_of (packets_of set ++ ys))
+last-of_none set [] none e = ap last_lsn (sym (ap log_of (append-nil (packets_of set)) ∙ log_of-set set ∙ ap (λ (rs : List Redo). added rs []) e))
+last-of_none set (y ∷ ys) none e = absurd (omega arith)
+
+pub last-behind : (xs ys : List SharedRecord) (k : ℕ) (p : SharedRecord) → length ys ≡ k + 1 → p ≡ get_or ys k p → (shared_redo p).lsn ≡ last_lsn (log_of (xs ++ ys))
+last-behind xs ys k p many is = last-added ys (log_of xs) k p many is ∙ ap last_lsn (sym (log_of-append xs ys))

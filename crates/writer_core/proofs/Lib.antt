@@ -1,4 +1,5 @@
 pub mod Below
+pub mod Bounds
 pub mod Logs
 pub mod Joined
 pub mod Clients

@@ -1,6 +1,6 @@
 //! A log, in order of LSN.
 
-ghost use Rattle.std.specs.Prelude.{◌≡◌, ◌^◌, ◌<◌, ◌++◌, true, length};
+ghost use Rattle.std.specs.Prelude.{◌≡◌, ◌<◌, ◌++◌, true, length};
 ghost use Rattle.redo_record.specs.RecordSet.{packets_of};
 ghost use Rattle.writer_core.specs.Logs.{log_of, is_growing};
 
@@ -16,7 +16,6 @@ pub struct Log {
     begun: usize,
     issued: Vec<SharedRecord>,
     ghost counted: { begun ≡ length (packets_of found) },
-    ghost few: { begun < 2 ^ 63 },
     ghost growing: { is_growing (log_of (packets_of found ++ issued.items)) ≡ true },
 }
 
@@ -97,7 +96,10 @@ impl Log {
     {
         match self.issued.last() {
             Some(packet) => packet.lsn(),
-            None => self.found.last().map_or(0, |packet| packet.lsn()),
+            None => match self.found.last() {
+                Some(packet) => packet.lsn(),
+                None => 0,
+            },
         }
     }
 

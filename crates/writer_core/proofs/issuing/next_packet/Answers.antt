@@ -3,6 +3,7 @@ use Rattle.volume_model.specs.Redo.{Redo, last_of_group, last_of_block}
 use Rattle.volume_model.specs.ClientWriter.{Change, record_of}
 use Rattle.writer_core.specs.Changes.{change_of}
 use Rattle.writer_core.specs.Log.{log_in, packets_in}
+use Rattle.writer_core.proofs.Bounds.{packets-few}
 use Rattle.writer_core.proofs.Growing.{last_of_group-le, last_of_block-le}
 use Rattle.writer_core.proofs.Leaving.{all-left}
 use Rattle.writer_core.proofs.issuing.next_packet.Goals as goal
@@ -32,3 +33,8 @@ returns-in-Err-clause-err c =
     let prev_block : last_of_block change.group change.block log ≡ c.in_ok-prev_block.prev_block = sym ((rw (group, block) at c.in_ok-prev_block.ensures.before) ∙ c.requires.last_lsns.all.of_block change.group change.block) in
     all-left c.args.last_lsns.now c.enter.new.self c.remove_last.new.self (packets_in c.args.log.now) r (c.max-lsn.result + 1) _ _ lsn prev_group prev_block (omega arith) (record { group = refl; block = refl })
     (rw (group, block) at c.in_ok-prev_block.ensures.ok) (rw (group, block) at c.remove_last.ensures) c.requires.last_lsns
+
+pub enter-requires-clause-few : goal.enter-requires-clause-few
+enter-requires-clause-few c =
+    let log = c.args.log.now in
+    omega (arith, c.requires.last_lsns.counted, packets-few (packets_in log) log.growing)

@@ -1,8 +1,9 @@
-use Rattle.std.proofs.Common.{◌<◌, ◌≤◌, ◌∙◌, drop, length, ap, sym, arith}
+use Rattle.std.proofs.Common.{◌^◌, ◌<◌, ◌≤◌, ◌∙◌, drop, length, ap, sym, arith}
 use Rattle.volume_model.specs.Client.{group_point_of}
 use Rattle.redo_record.specs.Record.{redo_of}
 use Rattle.writer_core.specs.Groups.{groups_in}
 use Rattle.writer_core.specs.Log.{log_left, packets_in}
+use Rattle.writer_core.proofs.Bounds.{packets-few}
 use Rattle.writer_core.proofs.Covering.{covers-more, covers-all, covers-up-to}
 use Rattle.writer_core.proofs.Joined.{left-none, left-read}
 use Rattle.writer_core.proofs.durability.DurabilityTracker.follow.Goals as goal
@@ -35,3 +36,11 @@ returns c =
     let log = c.args.log.now in
     covers-all (group_point_of (groups_in c.args.group_states.now)) (packets_in log) log.growing c.loop-packet.self c.loop-packet.invariant.covers
     (left-none (packets_in log) c.loop-packet.self.records (sym c.loop-packet.invariant.rest ∙ c.in_default.ensures))
+
+pub cover-requires : goal.cover-requires
+cover-requires c =
+    let log = c.args.log.now in
+    let read = left-read (packets_in log) c.loop-packet.self.records c.in-Some.packet.now (log_left c.next.new.self) (sym c.loop-packet.invariant.rest ∙ c.in-Some.ensures) in
+    let few : length (packets_in log) ≤ 2 ^ 62 = packets-few (packets_in log) log.growing in
+    let within : c.loop-packet.self.records < length (packets_in log) = read.0 in
+    omega arith

@@ -4,7 +4,7 @@ use Rattle.redo_record.specs.declared.shared_record.SharedRecord.{SharedRecord}
 use Rattle.redo_record.specs.SharedRecord.{shared_redo}
 use Rattle.redo_record.specs.RecordSet.{packets_of, records_of}
 use Rattle.writer_core.specs.Logs.{log_of, is_growing}
-use Rattle.writer_core.proofs.Joined.{issued-grows, at-found, at-issued, begun-grows, growing-same, log_of-set, found-grows}
+use Rattle.writer_core.proofs.Joined.{issued-grows, at-found, at-issued, growing-same, log_of-set, found-grows}
 use Rattle.writer_core.proofs.log.Log.record_at.Goals as goal
 
 pub record_at-requires-in-None : goal.record_at-requires-in-None

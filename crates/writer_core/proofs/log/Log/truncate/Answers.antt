@@ -14,7 +14,6 @@ invariant_of-self c =
     ap (λ (ps : List SharedRecord). front ++ ps) (c.truncate.ensures.items ∙ ap (λ n. take (c.args.records - n) log.issued.items) log.counted) ∙ taken-behind front log.issued.items c.args.records c.requires in
     record {
       counted = log.counted;
-      few = log.few;
       growing = subst (λ (ps : List SharedRecord). is_growing (log_of ps) ≡ true) (sym taken) (taken-grows (packets_in log) c.args.records log.growing);
     }
 

@@ -8,7 +8,6 @@ invariant_of-result c =
     let log = c.args.self.now in
     record {
       counted = log.counted ∙ sym (length-same log.found c.in_ok-clone.field-0 c.in_ok-clone.ensures.cases);
-      few = log.few;
       growing = ap is_growing (joined-copied log.found c.in_ok-clone.field-0 log.issued.items c.in_ok-clone-2.field-0.items c.in_ok-clone.ensures.cases c.in_ok-clone-2.ensures.cases.0) ∙ log.growing;
     }
 
