@@ -3,7 +3,7 @@ use Rattle.std.proofs.Common.{◌≡◌, ℕ, zero, suc, ◌+◌, ◌-◌, ◌^�
 use Rattle.std.specs.Arc.{arc_value}
 use Rattle.std.proofs.lemmas.List.{take_all}
 use Rattle.std.proofs.lemmas.Bool.{cases_Bool}
-use Rattle.volume_model.specs.Lists.{IsIn, added}
+use Rattle.volume_model.specs.Lists.{IsIn}
 use Rattle.volume_model.specs.Redo.{Redo, record_at, follow, chain_from, chain_or_none, cut_of}
 use Rattle.volume_model.specs.Lineage.{Contents, newest, found_in}
 use Rattle.volume_model.specs.Node.{contents_of}
@@ -19,13 +19,15 @@ use Rattle.redo_record.specs.declared.record_set.RecordSet.{RecordSet}
 use Rattle.redo_record.specs.SharedRecord.{shared_redo}
 use Rattle.redo_record.proofs.KeptRanges.{shared_redo-ranges}
 use Rattle.redo_record.specs.Ranges.{HasRanges}
-use Rattle.redo_record.specs.RecordSet.{records_of}
+use Rattle.redo_record.specs.RecordSet.{packets_of, records_of}
 use Rattle.hydration.specs.declared.copied.Copied.{Copied}
 use Rattle.hydration.specs.Copies.{copies_in}
 use Rattle.wire.specs.Contents as wire
 use Rattle.writer_core.specs.declared.group_state.GroupState.{GroupState}
 use Rattle.writer_core.specs.Logs.{log_of_set}
 use Rattle.writer_core.specs.GroupStates.{groups_of}
+use Rattle.writer_core.proofs.Bounds.{length-added}
+use Rattle.writer_core.proofs.Joined.{shown-set}
 use Rattle.recovery.specs.declared.found.Found.{Found}
 use Rattle.recovery.specs.Reported.{reports_in}
 use Rattle.recovery.specs.Finds.{live_records}
@@ -65,19 +67,8 @@ ranged-packets [] r i = absurd i
 ranged-packets (p ∷ rest) r (inl e) = subst HasRanges (sym e) (shared_redo-ranges p)
 ranged-packets (p ∷ rest) r (inr i) = ranged-packets rest r i
 
-ranged-take : (n : ℕ) (records : List Redo) → AreRanged records → AreRanged (take n records)
-ranged-take zero records all r i = absurd i
-ranged-take (suc n) [] all r i = absurd i
-ranged-take (suc n) (s ∷ rest) all r (inl e) = all r (inl e)
-ranged-take (suc n) (s ∷ rest) all r (inr i) = ranged-take n rest (λ t j. all t (inr j)) r i
-
-ranged-drop : (n : ℕ) (records : List Redo) → AreRanged records → AreRanged (drop n records)
-ranged-drop zero records all r i = all r i
-ranged-drop (suc n) [] all r i = absurd i
-ranged-drop (suc n) (s ∷ rest) all r i = ranged-drop n rest (λ t j. all t (inr j)) r i
-
 set-range : (set : RecordSet) → AreRanged (records_of set)
-set-range set = ranged-take set.packets.len _ (ranged-drop set.packets.from _ (ranged-packets _))
+set-range set = subst AreRanged (shown-set set) (ranged-packets (packets_of set))
 
 copies-range : (copies : List Copied) (c : Contents) → IsIn c (contents_of (copies_in copies)) → (r : Redo) → IsIn r c.records → HasRanges r
 copies-range [] c i r j = absurd i
@@ -147,12 +138,8 @@ found-most group_states before count law is =
 
 -- ---- a log as long as its set
 
-added-length : {A : Type 0} (xs kept : List A) → length (added xs kept) ≡ length xs + length kept
-added-length [] kept = omega arith
-added-length (x ∷ xs) kept = let inner : length (added xs (x ∷ kept)) ≡ length xs + length (x ∷ kept) = added-length xs (x ∷ kept) in omega (arith, inner)
-
 pub log-length : (set : RecordSet) → length (log_of_set set) ≡ length (records_of set)
-log-length set = let whole : length (log_of_set set) ≡ length (records_of set) + length {A = Redo} [] = added-length (records_of set) [] in omega (arith, whole)
+log-length set = let whole : length (log_of_set set) ≡ length (records_of set) + length {A = Redo} [] = length-added (records_of set) [] in omega (arith, whole)
 
 pub found-none : (groups : List ClientGroup) (before : Option Found) → before ≡ None → 0 ≡ length (client_with groups before).found
 found-none groups before none = ap (λ f. length (client_with groups f).found) (sym none)

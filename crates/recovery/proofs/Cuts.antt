@@ -5,13 +5,13 @@ use Rattle.std.proofs.lemmas.Bool.{cases_Bool, cases_lt, or_right, and_from, tru
 use Rattle.std.proofs.lemmas.List.{take_more, map-append}
 use Rattle.volume_model.specs.Lists.{added}
 use Rattle.volume_model.specs.Redo.{Redo, last_lsn, cut_of}
-use Rattle.redo_record.specs.declared.shared_record.SharedRecord.{SharedRecord}
-use Rattle.redo_record.specs.SharedRecord.{shared_redo}
+use Rattle.redo_record.specs.declared.record_set.RecordSet.{RecordSet}
+use Rattle.redo_record.specs.RecordSet.{packets_of}
 use Rattle.redo_record.proofs.KeptRanges.{shared_redo-ranges}
-use Rattle.writer_core.specs.Logs.{log_of, is_growing}
-use Rattle.writer_core.proofs.Logs.{log_of-more}
+use Rattle.writer_core.specs.Logs.{log_of_set, is_growing}
 use Rattle.writer_core.proofs.Growing.{both}
-use Rattle.writer_core.proofs.Finding.{above, all-log}
+use Rattle.writer_core.proofs.Joined.{log_of-set, older-grows}
+use Rattle.writer_core.proofs.Finding.{all-log}
 use Rattle.redo_record.specs.declared.«record».Record.{Record}
 use Rattle.redo_record.specs.Record.{redo_of}
 use Rattle.recovery.specs.Chains.{leads}
@@ -20,22 +20,9 @@ use Rattle.recovery.specs.GroundedLsns.{is_grounded}
 use Rattle.recovery.specs.declared.cut_reader.CutReader.{CutReader}
 use Rattle.recovery.proofs.Links.{IsBack, leads-above, cut-next}
 
-pub log-back : (records : List SharedRecord) → IsBack (log_of records)
-log-back records = all-log (λ r. r.prev_volume < r.lsn) records (λ k d l. (shared_redo-ranges (get_or records k d)).prev_volume_before)
-
-front-grows : (records : List SharedRecord) (i : ℕ) (kept : List Redo) → is_growing (added (map shared_redo records) kept) ≡ true → is_growing (added (map shared_redo (take i records)) kept) ≡ true
-front-grows [] zero kept h = h
-front-grows [] (suc i) kept h = h
-front-grows (x ∷ records) zero kept h = (above (x ∷ records) kept h).0
-front-grows (x ∷ records) (suc i) kept h = front-grows records i (shared_redo x ∷ kept) h
-
--- the first records of a growing list grow
-pub front-growing : (records : List SharedRecord) (i : ℕ) → is_growing (log_of records) ≡ true → is_growing (log_of (take i records)) ≡ true
-front-growing records i h = front-grows records i [] h
-
--- the first records and one more
-pub front-more : (records : List SharedRecord) (i : ℕ) (p : SharedRecord) (r : Redo) → i < length records → p ≡ get_or records i p → r ≡ shared_redo p → log_of (take (i + 1) records) ≡ r ∷ log_of (take i records)
-front-more records i p r within is shows = log_of-more records i p within ∙ ap (λ (x : SharedRecord). shared_redo x ∷ log_of (take i records)) (sym is) ∙ ap (λ s. s ∷ log_of (take i records)) (sym shows)
+-- a set's records link to smaller numbers
+pub set-back : (set : RecordSet) → IsBack (log_of_set set)
+set-back set = subst IsBack (log_of-set set) (all-log (λ r. r.prev_volume < r.lsn) (packets_of set) (λ k d l. (shared_redo-ranges (get_or (packets_of set) k d)).prev_volume_before))
 
 -- each record's number is above those of the records before it, in a list of records
 rises : (records : List Record) (i : ℕ) (kept : List Redo) → is_growing (added (map redo_of records) kept) ≡ true → is_growing (added (map redo_of (take i records)) kept) ≡ true
@@ -65,10 +52,6 @@ records-more records i r within is =
 -- the next record of a growing list has a number above those before it
 first-above : (r : Redo) (log : List Redo) → is_growing (r ∷ log) ≡ true → last_lsn log < r.lsn
 first-above r log grows = (both (last_lsn log) r.lsn (is_growing log) grows).0
-
-pub front-above : (records : List SharedRecord) (i : ℕ) (p : SharedRecord) (r : Redo) → i < length records → p ≡ get_or records i p → r ≡ shared_redo p → is_growing (log_of records) ≡ true → last_lsn (log_of (take i records)) < r.lsn
-front-above records i p r within is shows growing =
-    first-above r (log_of (take i records)) (subst (λ l. is_growing l ≡ true) (front-more records i p r within is shows) (front-growing records (i + 1) growing))
 
 pub records-above : (records : List Record) (i : ℕ) (r : Record) → i < length records → r ≡ get_or records i r → is_growing (log_of_records records) ≡ true → last_lsn (log_of_records (take i records)) < r.lsn
 records-above records i r within is growing =
@@ -180,3 +163,7 @@ module _ (old : CutReader) (r : Redo) (log : List Redo) (own : r.prev_volume < r
   -- the numbers read so far that lead down to 0 are no greater
   pub below-next : (n : ℕ) → is_grounded old.grounded n ≡ true → n ≤ r.lsn
   below-next n e = grounded-below r log grows goes_back (is_grounded old.grounded) is.grounded n e
+
+-- the next record of a growing log has a number above those before it
+pub next-above : (r : Redo) (left rest older : List Redo) → left ≡ r ∷ rest → is_growing (added left older) ≡ true → last_lsn older < r.lsn
+next-above r left rest older next grows = first-above r older (older-grows rest (r ∷ older) (ap (λ (rs : List Redo). is_growing (added rs older)) (sym next) ∙ grows))

@@ -1,8 +1,7 @@
 -- The first record of each number of a set.
-use Rattle.std.proofs.Common.{◌≡◌, ℕ, suc, ◌+◌, ◌<◌, ◌≤◌, true, false, nat_lt, nat_eq, List, [], ◌∷◌, ◌++◌, take, length, get_or, Option, Some, None, if◌then◌else◌, refl, sym, ap, ap₂, ◌∙◌, inl, inr, arith}
+use Rattle.std.proofs.Common.{◌≡◌, ℕ, suc, ◌<◌, ◌≤◌, true, false, nat_lt, nat_eq, List, [], ◌∷◌, ◌++◌, Option, Some, None, if◌then◌else◌, refl, sym, ap, ap₂, ◌∙◌, inl, inr, arith}
 use Rattle.std.specs.Prelude.{◌==◌}
 use Rattle.std.proofs.lemmas.Bool.{cases_Bool, or_cases, and_parts, eqb-true, eq-eqb, ltb-true}
-use Rattle.std.proofs.lemmas.List.{take_more}
 use Rattle.volume_model.specs.Lists.{IsIn}
 use Rattle.volume_model.specs.Redo.{Redo, spelling, numbers_before, first_of, record_at, last_lsn}
 use Rattle.redo_record.specs.Order.{IsInOrder}
@@ -65,23 +64,23 @@ find-append (s ∷ rest) r n =
       | inr e ↦ rw e (find-append rest r n)
     ]
 
-module _ (records : List Redo) (i : ℕ) (r : Redo) (within : i < length records) (is : r ≡ get_or records i r) where
-  more : (n : ℕ) → find (take (i + 1) records) n ≡ or_else (find (take i records) n) (if r.lsn == n then Some r else None)
-  more n = ap (λ l. find l n) (take_more records i r within ∙ ap (λ x. take i records ++ x ∷ []) (sym is)) ∙ find-append (take i records) r n
+module _ (done : List Redo) (r : Redo) where
+  more : (n : ℕ) → find (done ++ r ∷ []) n ≡ or_else (find done n) (if r.lsn == n then Some r else None)
+  more n = find-append done r n
 
   -- a record of a greater number is taken
-  pub find-new : (log : List Redo) → is_growing log ≡ true → last_lsn log < r.lsn → ((n : ℕ) → record_at log n ≡ find (take i records) n) → (n : ℕ) → record_at (r ∷ log) n ≡ find (take (i + 1) records) n
+  pub find-new : (log : List Redo) → is_growing log ≡ true → last_lsn log < r.lsn → ((n : ℕ) → record_at log n ≡ find done n) → (n : ℕ) → record_at (r ∷ log) n ≡ find (done ++ r ∷ []) n
   find-new log g above same n =
       elim (cases_Bool (nat_eq r.lsn n)) [
         | inl e ↦ (
             let at : r.lsn ≡ n = eqb-true r.lsn n e in
             let none : record_at log n ≡ None = record_at-above log g n (omega (arith, at, above)) in
-            let free : find (take i records) n ≡ None = sym (same n) ∙ none in
-            let right : find (take (i + 1) records) n ≡ Some r = more n ∙ ap₂ or_else free (ap (λ b. if b then Some r else None) e) in
+            let free : find done n ≡ None = sym (same n) ∙ none in
+            let right : find (done ++ r ∷ []) n ≡ Some r = more n ∙ ap₂ or_else free (ap (λ b. if b then Some r else None) e) in
             let left : record_at (r ∷ log) n ≡ Some r = ap (λ b. if b then Some (first_of r (record_at log n)) else record_at log n) e ∙ ap (λ o. Some (first_of r o)) none in
             left ∙ sym right)
         | inr e ↦ (
-            let right : find (take (i + 1) records) n ≡ find (take i records) n = more n ∙ ap (λ b. or_else (find (take i records) n) (if b then Some r else None)) e ∙ none_right (find (take i records) n) in
+            let right : find (done ++ r ∷ []) n ≡ find done n = more n ∙ ap (λ b. or_else (find done n) (if b then Some r else None)) e ∙ none_right (find done n) in
             let left : record_at (r ∷ log) n ≡ record_at log n = ap (λ b. if b then Some (first_of r (record_at log n)) else record_at log n) e in
             left ∙ same n ∙ sym right)
       ]
@@ -91,18 +90,25 @@ module _ (records : List Redo) (i : ℕ) (r : Redo) (within : i < length records
       none_right (Some x) = refl
 
   -- a record of the last number isn't
-  pub find-same : (log : List Redo) → is_growing log ≡ true → 0 < r.lsn → last_lsn log ≡ r.lsn → ((n : ℕ) → record_at log n ≡ find (take i records) n) → (n : ℕ) → record_at log n ≡ find (take (i + 1) records) n
+  pub find-same : (log : List Redo) → is_growing log ≡ true → 0 < r.lsn → last_lsn log ≡ r.lsn → ((n : ℕ) → record_at log n ≡ find done n) → (n : ℕ) → record_at log n ≡ find (done ++ r ∷ []) n
   find-same [] g some at same n = absurd (omega (arith, at))
   find-same (s ∷ older) g some at same n =
       elim (cases_Bool (nat_eq r.lsn n)) [
         | inl e ↦ (
             let here : nat_eq s.lsn n ≡ true = eq-eqb s.lsn n (at ∙ eqb-true r.lsn n e) in
             let left : record_at (s ∷ older) n ≡ Some (first_of s (record_at older n)) = ap (λ b. if b then Some (first_of s (record_at older n)) else record_at older n) here in
-            let found : find (take i records) n ≡ Some (first_of s (record_at older n)) = sym (same n) ∙ left in
+            let found : find done n ≡ Some (first_of s (record_at older n)) = sym (same n) ∙ left in
             left ∙ sym (more n ∙ ap (λ o. or_else o (if r.lsn == n then Some r else None)) found))
-        | inr e ↦ same n ∙ sym (more n ∙ ap (λ b. or_else (find (take i records) n) (if b then Some r else None)) e ∙ none_right (find (take i records) n))
+        | inr e ↦ same n ∙ sym (more n ∙ ap (λ b. or_else (find done n) (if b then Some r else None)) e ∙ none_right (find done n))
       ]
     where
       none_right : (o : Option Redo) → or_else o None ≡ o
       none_right None = refl
       none_right (Some x) = refl
+
+-- the records after one of a list in order have no smaller numbers, and are in order
+pub order-next : (r : Redo) (rest : List Redo) → IsInOrder (r ∷ rest) → ((s : Redo) → IsIn s rest → r.lsn ≤ s.lsn) × IsInOrder rest
+order-next r rest o = (
+  (λ s i. before-lsn r s (list-all (λ s. numbers_before (spelling r) (spelling s) ≡ true) rest (λ k d l. o 0 (suc k) d (omega arith) (omega arith)) s i)),
+  λ i j d l k. o (suc i) (suc j) d (omega arith) (omega arith),
+)

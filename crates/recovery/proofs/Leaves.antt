@@ -72,6 +72,13 @@ cut-there log =
     some None h = h
     some (Some chain) h = refl
 
+-- what is given is the value
+abbrev okay : ℕ → Result ℕ Fault
+okay n = Ok n
+
+pub is_value : (m n : ℕ) → okay m ≡ okay n → n ≡ m
+is_value m n h = cc
+
 -- ---- the lineage's own entry
 
 -- the lineage that is found, from its parts

@@ -10,3 +10,4 @@ pub mod Refusals
 pub mod Bounds
 pub mod Sought
 pub mod Sharing
+pub mod OneChain

@@ -48,7 +48,7 @@ follow-same None f g h = refl
 follow-same (Some r) f g h = ap (option_map (λ older. r ∷ older)) (h r refl)
 
 -- a chain goes on from the record of its number
-chain-unfolds : (log : List Redo) → is_growing log ≡ true → IsBack log → (n : ℕ) → n ≢ 0 → chain log n ≡ follow (record_at log n) (λ r. chain log r.prev_volume)
+pub chain-unfolds : (log : List Redo) → is_growing log ≡ true → IsBack log → (n : ℕ) → n ≢ 0 → chain log n ≡ follow (record_at log n) (λ r. chain log r.prev_volume)
 chain-unfolds [] g back n h = ap (λ b. if b then Some [] else None) (ne_eqb n 0 h)
 chain-unfolds (r ∷ older) g back n h =
     let (below, rest) = both (last_lsn older) r.lsn (is_growing older) g in

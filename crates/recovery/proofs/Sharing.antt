@@ -1,23 +1,20 @@
 -- What a log that is found shares with the records that were reported.
-use Rattle.std.proofs.Common.{◌≡◌, ℕ, ◌<◌, ◌≤◌, true, ◌&&◌, nat_lt, nat_eq, List, [], ◌∷◌, ◌++◌, map, take, drop, Option, Some, None, option_map, if◌then◌else◌, refl, sym, ap, ◌∙◌, subst, inl, inr, arith}
+use Rattle.std.proofs.Common.{◌≡◌, ℕ, zero, suc, ◌^◌, ◌<◌, ◌≤◌, true, ◌&&◌, nat_lt, nat_eq, List, [], ◌∷◌, ◌++◌, length, take, drop, Some, None, option_map, if◌then◌else◌, refl, sym, ap, ◌∙◌, subst, inl, inr, arith}
 use Rattle.std.specs.Prelude.{Result, Ok, Err, IfOk, MatchResult}
 use Rattle.std.proofs.lemmas.Bool.{and_parts, eq-eqb, eqb-true, lt-ltb, or_left}
-use Rattle.std.proofs.lemmas.List.{take-append-drop, take-map}
+use Rattle.std.proofs.lemmas.List.{take-append-drop}
 use Rattle.volume_model.specs.Lists.{IsIn, added}
 use Rattle.volume_model.specs.Redo.{Redo, spelling, numbers_before, last_lsn, record_at, chain_from}
-use Rattle.volume_model.proofs.Basics.{IsIn-added}
-use Rattle.volume_model.proofs.Chains.{record_at-some, record_at-there}
-use Rattle.redo_record.specs.declared.shared_record.SharedRecord.{SharedRecord}
 use Rattle.redo_record.specs.declared.record_set.RecordSet.{RecordSet}
 use Rattle.redo_record.specs.Order.{IsInOrder, ComesAfter}
-use Rattle.redo_record.specs.SharedRecord.{shared_redo}
-use Rattle.redo_record.specs.RecordSet.{records_of}
+use Rattle.redo_record.specs.RecordSet.{packets_of, records_of}
 use Rattle.redo_record.proofs.Before.{IsBefore}
 use Rattle.redo_record.proofs.Places.{IsOrdered, in_order-from}
-use Rattle.writer_core.specs.Logs.{log_of, log_of_set, is_growing}
+use Rattle.writer_core.specs.Logs.{log_of_set, is_growing}
 use Rattle.writer_core.proofs.Growing.{both}
-use Rattle.writer_core.proofs.Finding.{in-added, at_most_last, record_at-in, record_at-none}
-use Rattle.writer_core.proofs.Joined.{growing-same, older-grows}
+use Rattle.writer_core.proofs.Finding.{in-added, at_most_last}
+use Rattle.writer_core.proofs.Joined.{growing-same, length-set, log_of-set, older-grows}
+use Rattle.writer_core.proofs.Bounds.{packets-few}
 use Rattle.recovery.specs.Chains.{is_chain_to}
 use Rattle.recovery.proofs.Links.{IsBack, chain, chain-lower, chain_from-is}
 
@@ -62,13 +59,13 @@ grown-in_order rs g = in_order-from rs (grown-ordered rs [] g).0
 
 -- ---- a chain with no others between
 
-chain-is : (log : List Redo) (n : ℕ) → is_chain_to n log ≡ true → chain log n ≡ Some log
+pub chain-is : (log : List Redo) (n : ℕ) → is_chain_to n log ≡ true → chain log n ≡ Some log
 chain-is [] n h = ap (λ b. if b then Some [] else None) h
 chain-is (r ∷ older) n h =
     let parts : (nat_eq r.lsn n ≡ true) × (is_chain_to r.prev_volume older ≡ true) = and_parts _ _ h in
     ap (λ b. if b then option_map (λ rest. r ∷ rest) (chain older r.prev_volume) else chain older n) parts.0 ∙ ap (option_map (λ rest. r ∷ rest)) (chain-is older r.prev_volume parts.1)
 
-chain-last : (log : List Redo) (n : ℕ) → is_chain_to n log ≡ true → last_lsn log ≡ n
+pub chain-last : (log : List Redo) (n : ℕ) → is_chain_to n log ≡ true → last_lsn log ≡ n
 chain-last [] n h = sym (eqb-true n 0 h)
 chain-last (r ∷ older) n h = eqb-true r.lsn n (and_parts (nat_eq r.lsn n) (is_chain_to r.prev_volume older) h).0
 
@@ -78,7 +75,7 @@ chain-past (r ∷ rs) older g n h =
     let (below, rest) = both (last_lsn older) r.lsn (is_growing older) (older-grows rs (r ∷ older) g) in
     chain-past rs (r ∷ older) g n (omega arith) ∙ chain-lower r older n (omega arith)
 
-added-append : (xs ys kept : List Redo) → added (xs ++ ys) kept ≡ added ys (added xs kept)
+pub added-append : (xs ys kept : List Redo) → added (xs ++ ys) kept ≡ added ys (added xs kept)
 added-append [] ys kept = refl
 added-append (x ∷ xs) ys kept = added-append xs ys (x ∷ kept)
 
@@ -102,9 +99,21 @@ pub chain-more : (last n : ℕ) (r : Redo) (older log : List Redo) → log ≡ r
 chain-more last n r older log is prev at h =
     ap (is_chain_to n) is ∙ ap (λ b. b && is_chain_to r.prev_volume older) (eq-eqb r.lsn n (sym at)) ∙ ap (λ m. is_chain_to m older) prev ∙ h
 
--- what is read off packets is read off their records
-pub log_of-shown : (packets : List SharedRecord) (records : List Redo) → map shared_redo packets ≡ records → log_of packets ≡ added records []
-log_of-shown packets records is = ap (λ (rs : List Redo). added rs []) is
+-- the first records, as many as stand before the others
+pub front-is : (done left records : List Redo) (len : ℕ) → done ++ left ≡ records → len ≡ length done → take len records ≡ done
+front-is done left records len all many = ap (take len) (sym all) ∙ front done left len many
+  where
+    front : (xs ys : List Redo) (n : ℕ) → n ≡ length xs → take n (xs ++ ys) ≡ xs
+    front [] ys n e = (let z : n ≡ 0 = omega (arith, e) in ap (λ k. take k ys) z ∙ none ys)
+      where
+        none : (ys : List Redo) → take 0 ys ≡ []
+        none [] = refl
+        none (y ∷ ys) = refl
+    front (x ∷ xs) ys zero e = absurd (omega arith)
+    front (x ∷ xs) ys (suc n) e = ap (λ (zs : List Redo). x ∷ zs) (front xs ys n (omega arith))
 
-pub front-shown : (packets : List SharedRecord) (records : List Redo) (len : ℕ) → map shared_redo packets ≡ records → log_of (take len packets) ≡ added (take len records) []
-front-shown packets records len is = ap (λ (rs : List Redo). added rs []) (sym (take-map shared_redo len packets) ∙ ap (take len) is)
+-- a set whose numbers grow has few records
+pub set-few : (set : RecordSet) → is_growing (log_of_set set) ≡ true → length (records_of set) ≤ 2 ^ 62
+set-few set grows =
+    let few : length (packets_of set) ≤ 2 ^ 62 = packets-few (packets_of set) (ap is_growing (log_of-set set) ∙ grows) in
+    omega (arith, length-set set)

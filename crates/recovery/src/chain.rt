@@ -1,6 +1,6 @@
 //! Finds the log among records.
 
-ghost use Rattle.std.specs.Prelude.{◌≡◌, ◌≤◌, ℕ, true, Some, [], take, length, IfOk, IfSome, is_some};
+ghost use Rattle.std.specs.Prelude.{◌≡◌, ◌≤◌, ℕ, true, [], take, length, IfOk, IfSome, is_some};
 ghost use Rattle.volume_model.specs.Lists.{added};
 ghost use Rattle.volume_model.specs.Redo.{record_at, chain_from, chain_or_none};
 ghost use Rattle.redo_record.specs.RecordSet.{records_of};
@@ -10,36 +10,6 @@ ghost use Rattle.recovery.specs.Chains.{IsChainTo};
 use crate::cut_reader::are_growing;
 use redo_record::{RecordSet, SharedRecord};
 use std::alloc::{AllocError, Global};
-
-/// Returns whether a set is one chain by `prev_volume` from its last record down to 0, which is known of its runs.
-pub fn is_one_chain(set: &RecordSet) -> bool {
-    let mut last = 0;
-    for run in set.runs() {
-        let packets = run.as_slice();
-        let (Some(first), Some(end)) = (packets.first(), packets.last()) else {
-            return false;
-        };
-        if !run.is_volume_chain() || first.record().prev_volume != last {
-            return false;
-        }
-        last = end.lsn();
-    }
-    true
-}
-
-/// Returns the number of records of a set up to its last consistency point, and that point's LSN.
-pub fn last_point(set: &RecordSet) -> (usize, u64) {
-    let mut count = set.len();
-    for run in set.runs().iter().rev() {
-        for packet in run.as_slice().iter().rev() {
-            if packet.record().point {
-                return (count, packet.lsn());
-            }
-            count -= 1;
-        }
-    }
-    (0, 0)
-}
 
 /// Returns the first record of each LSN of a set. Shares the records if no LSN occurs twice.
 ///
@@ -69,6 +39,7 @@ pub fn firsts(alloc: Global, set: &RecordSet) -> Result<RecordSet, AllocError>
 /// Returns the number of first records that are the chain by `prev_volume` from an LSN down to 0, or `None` if other
 /// records are between them.
 fn chain_length(records: &RecordSet, lsn: u64) -> Option<usize>
+    requires { is_growing (log_of_set records.now) ≡ true }
     ensures chain { IfSome result (λ len. IsChainTo lsn (added (take len (records_of records.now)) [])) }
     ensures within { IfSome result (λ len. len ≤ length (records_of records.now)) }
 {

@@ -1,19 +1,21 @@
 //! Finds the log in a recovery's reports.
 
-ghost use Rattle.std.specs.Prelude.{◌≡◌, ◌≤◌, true, IfOk};
+ghost use Rattle.std.specs.Prelude.{◌≡◌, ◌≤◌, true, IfOk, Ok};
 ghost use Rattle.volume_model.specs.Answer.{Gives};
 ghost use Rattle.volume_model.specs.Lineage.{extension, newest};
 ghost use Rattle.volume_model.specs.Redo.{cut_of, log_found};
 ghost use Rattle.lineage.specs.Lineage.{lineage_of};
 ghost use Rattle.writer_core.specs.Groups.{groups_in, group_states_plan};
-ghost use Rattle.writer_core.specs.Logs.{log_of_set};
+ghost use Rattle.redo_record.specs.RecordSet.{records_of};
+ghost use Rattle.writer_core.specs.Logs.{log_of_set, is_growing};
 ghost use Rattle.recovery.specs.Cuts.{are_older};
 ghost use Rattle.recovery.specs.Finds.{live_records};
 ghost use Rattle.recovery.specs.Reported.{reports_in};
 
-use crate::chain::{chain_of, firsts, is_one_chain, last_point};
+use crate::chain::{chain_of, firsts};
 use crate::cut_reader::shared_cut_of;
 use crate::found::Found;
+use crate::one_chain::{is_one_chain, last_point};
 use crate::reported::{found_in, newest_lineage};
 use redo_record::RecordSet;
 use std::alloc::Global;
@@ -23,10 +25,18 @@ use writer_core::GroupStates;
 /// Returns the cut of a set, and the chain from it down to 0. A set that is known to be one chain is cut at its last
 /// consistency point without looking at the records before it: recoveries over a growing log take 7 % fewer
 /// instructions.
-fn cut_and_log(alloc: Global, records: &RecordSet) -> Result<(u64, RecordSet), Fault> {
+///
+/// # Errors
+/// `NoMemory` if memory runs out.
+fn cut_and_log(alloc: Global, records: &RecordSet) -> Result<(u64, RecordSet), Fault>
+    ensures cut { Gives (λ found. found.0) result (Ok (cut_of (records_of records.now))) }
+    ensures log { IfOk result (λ found. log_of_set found.1 ≡ log_found (records_of records.now)) }
+    ensures growing { IfOk result (λ found. is_growing (log_of_set found.1) ≡ true) }
+{
     if is_one_chain(records) {
         let (len, cut) = last_point(records);
-        return Ok((cut, records.front(len)?));
+        let front = records.front(len)?;
+        return Ok((cut, front));
     }
     let records = firsts(alloc, records)?;
     let cut = shared_cut_of(alloc, &records)?;

@@ -8,6 +8,7 @@ mod finding;
 mod found;
 mod grounded_lsns;
 mod messages;
+mod one_chain;
 mod recovery;
 mod reported;
 

@@ -1,7 +1,13 @@
-use Rattle.std.proofs.Common.{take}
-use Rattle.writer_core.specs.Logs.{log_of}
+use Rattle.std.proofs.Common.{◌≡◌, List, [], ◌++◌, length}
+use Rattle.volume_model.specs.Lists.{added}
+use Rattle.volume_model.specs.Redo.{Redo}
+use Rattle.redo_record.specs.Records.{left_of}
+use Rattle.redo_record.specs.RecordSet.{records_of}
 use Rattle.recovery.specs.Chains.{IsChainTo}
 use Rattle.recovery.proofs.chain.chain_length.Given as goal
 
-abbrev pub invariant-loop-place : goal.invariant-loop-place
-invariant-loop-place l = IsChainTo l.last (log_of (take l.place l.packets))
+abbrev pub invariant-loop-last : goal.invariant-loop-last
+invariant-loop-last l = (done : List Redo) × (done ++ left_of l.left ≡ records_of l.records) × (l.len ≡ length done) × IsChainTo l.last (added done [])
+
+abbrev pub decreases-loop-last : goal.decreases-loop-last
+decreases-loop-last l = length (left_of l.left)

@@ -1,10 +1,12 @@
-use Rattle.std.proofs.Common.{◌≡◌, take}
-use Rattle.volume_model.specs.Redo.{last_lsn}
-use Rattle.writer_core.specs.Logs.{log_of, is_growing}
+use Rattle.std.proofs.Common.{◌≡◌, List, length}
+use Rattle.volume_model.specs.Lists.{added}
+use Rattle.volume_model.specs.Redo.{Redo, last_lsn}
+use Rattle.redo_record.specs.Records.{left_of}
+use Rattle.writer_core.specs.Logs.{log_of_set, is_growing}
 use Rattle.recovery.proofs.cut_reader.are_growing.Given as goal
 
 abbrev pub invariant-loop-packet : goal.invariant-loop-packet
-invariant-loop-packet l = record {
-  growing : l.growing ≡ is_growing (log_of (take l.packet-index l.records));
-  last : l.last ≡ last_lsn (log_of (take l.packet-index l.records));
-}
+invariant-loop-packet l = (older : List Redo) × (added (left_of l.left) older ≡ log_of_set l.set) × (l.growing ≡ is_growing older) × (l.last ≡ last_lsn older)
+
+abbrev pub decreases-loop-packet : goal.decreases-loop-packet
+decreases-loop-packet l = length (left_of l.left)
