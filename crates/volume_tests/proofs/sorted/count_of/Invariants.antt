@@ -1,6 +1,6 @@
 use Rattle.std.proofs.Common.{◌-◌, length}
-use Rattle.segment_core.specs.Places.{index_of, IsPlaceIn}
-use Rattle.segment_core.specs.Runs.{runs_of, records_of}
+use Rattle.redo_record.specs.RunPlaces.{index_of, IsPlaceIn}
+use Rattle.redo_record.specs.RecordSet.{runs_of, records_of}
 use Rattle.volume_tests.proofs.sorted.count_of.Given as goal
 
 abbrev pub invariant-loop-packet : goal.invariant-loop-packet
