@@ -64,7 +64,8 @@ fn chain_packets(
 ) -> Result<Vec<SharedRecord>, AllocError>
     requires growing { is_growing (log_of_set records.now) ≡ true }
     requires there { is_some (chain_from lsn (log_of_set records.now) lsn) ≡ true }
-    ensures chain { IfOk result (λ log. log_of log.items ≡ chain_or_none (chain_from lsn (log_of_set records.now) lsn)) }
+    ensures chain { IfOk result (λ log. log_of log.items ≡ chain_or_none (chain_from lsn (log_of_set records.now)
+        lsn)) }
     ensures growing { IfOk result (λ log. is_growing (log_of log.items) ≡ true) }
 {
     let mut log = Vec::new(alloc);
