@@ -1,4 +1,4 @@
-use Rattle.std.proofs.Common.{◌≡◌, List, length, sym, ap, subst, ◌∙◌}
+use Rattle.std.proofs.Common.{List, sym, ap, subst, ◌∙◌}
 use Rattle.volume_model.specs.Redo.{Redo, with_record}
 use Rattle.redo_record.specs.Places.{IsPlaceFor}
 use Rattle.redo_record.specs.RecordSet.{records_of}

@@ -1,7 +1,6 @@
-use Rattle.std.proofs.Common.{rules, ◌≡◌, ◌<◌, ◌∙◌, ℕ, List, length, ap, arith}
+use Rattle.std.proofs.Common.{◌≡◌, ◌<◌, ◌∙◌, List, length, ap, arith}
 use Rattle.std.proofs.lemmas.List.{length-map}
 use Rattle.std.specs.List.{slice_set}
-use Rattle.volume_model.specs.Redo.{Redo}
 use Rattle.redo_record.specs.Joined.{joined}
 use Rattle.redo_record.specs.Run.{run_records, runs_in}
 use Rattle.redo_record.specs.declared.run.Run.{Run}
