@@ -1,10 +1,8 @@
 -- Bytes that move from a snapshot into a buffer.
-use Rattle.std.proofs.Common.{◌≡◌, ℕ, ◌+◌, ◌≤◌, List, [], ◌∷◌, ◌++◌, length, map, take, drop, sym, ap, ap₂, ◌∙◌, append_assoc}
+use Rattle.std.proofs.Common.{◌≡◌, ℕ, ◌+◌, ◌≤◌, List, [], ◌∷◌, ◌++◌, length, take, drop, sym, ap, ap₂, ◌∙◌, append_assoc}
 use Rattle.std.proofs.Math.Seq.{take-append-add, drop-append_seam}
-use Rattle.std.proofs.lemmas.List.{drop_all, drop-drop, drop-map, take-map, take-append-drop}
+use Rattle.std.proofs.lemmas.List.{drop_all, drop-drop, take-append-drop}
 use Rattle.volume_model.specs.Redo.{Redo}
-use Rattle.redo_record.specs.declared.shared_record.SharedRecord.{SharedRecord}
-use Rattle.redo_record.specs.SharedRecord.{shared_redo}
 use Rattle.message_bytes.specs.Spelling.{records_spelled}
 use Rattle.message_bytes.proofs.Found.{records_spelled-append}
 
@@ -25,15 +23,12 @@ head-moved head out rest taken count is =
     ∙ append_assoc (take count out) (drop (taken + count) head) rest
 
 -- whole records are moved
-pub records-moved : (records : List Redo) (packets : List SharedRecord) (next n count : ℕ) (out : List ℕ) → map shared_redo packets ≡ records
-    → take count out ≡ records_spelled (map shared_redo (take n (drop next packets)))
+pub records-moved : (records : List Redo) (next n count : ℕ) (out : List ℕ) → take count out ≡ records_spelled (take n (drop next records))
     → records_spelled (drop next records) ≡ take count out ++ records_spelled (drop (next + n) records)
-records-moved records packets next n count out are is =
+records-moved records next n count out is =
     let left = drop next records in
-    let front : map shared_redo (take n (drop next packets)) ≡ take n left =
-    sym (take-map shared_redo n (drop next packets)) ∙ ap (λ (xs : List Redo). take n xs) (sym (drop-map shared_redo next packets) ∙ ap (λ (xs : List Redo). drop next xs) are) in
     ap records_spelled (sym (take-append-drop n left)) ∙ records_spelled-append (take n left) (drop n left)
-    ∙ ap (λ (t : List ℕ). t ++ records_spelled (drop n left)) (sym (is ∙ ap records_spelled front))
+    ∙ ap (λ (t : List ℕ). t ++ records_spelled (drop n left)) (sym is)
     ∙ ap (λ (xs : List Redo). take count out ++ records_spelled xs) (drop-drop n next records)
 
 -- bytes are moved, and more behind them

@@ -89,7 +89,7 @@ impl SnapshotBytes {
         ensures back { drop result out.new ≡ drop result out.old }
         ensures within { result ≤ length out.old }
     {
-        if self.taken < self.head.len() {
+        if self.taken < self.head.len() || self.next > self.contents.records.len() {
             return 0;
         }
         let left = self.contents.records.records_from(self.next);
