@@ -4,7 +4,8 @@ ghost use Rattle.std.specs.Prelude.{◌≡◌, true};
 ghost use Rattle.lineage.specs.Entries.{entries_with, is_lineage};
 
 use crate::entry::Entry;
-use crate::past::Past;
+use crate::live::Walk;
+use crate::past::{OlderEntries, Past};
 use redo_record::LAST_LSN;
 use std::alloc::{AllocError, Global};
 use std::sync::Arc;
@@ -26,8 +27,9 @@ impl Lineage {
     ghost use Rattle.volume_model.specs.declared.fault.Fault.TheVariants.{BadField};
     ghost use Rattle.volume_model.specs.Answer.{AnswersNew};
     ghost use Rattle.volume_model.specs.Lineage.{birth, extension, is_live, last_cut, last_epoch, last_start, newer};
-    ghost use Rattle.lineage.specs.Entries.{entries_of, entry_of, kept_before};
+    ghost use Rattle.lineage.specs.Entries.{entries_from, entries_left, entries_of, entry_of, kept_before};
     ghost use Rattle.lineage.specs.Lineage.{lineage_of};
+    ghost use Rattle.lineage.specs.Walk.{Walks};
 
     /// Makes a lineage without entries, which a segment has before it is whole.
     pub fn empty(alloc: Global) -> Lineage
@@ -87,18 +89,32 @@ impl Lineage {
     pub fn is_live(&self, volume_epoch: u32, lsn: u64) -> bool
         ensures { result ≡ is_live (lineage_of self.now) volume_epoch lsn }
     {
-        let Some(last) = self.last else {
-            return false;
+        let mut walk = self.walk();
+        while let Some(entry) = walk.entry {
+            if entry.volume_epoch == volume_epoch {
+                return entry.start < lsn;
+            }
+            if entry.cut < lsn {
+                return false;
+            }
+            walk.entry = walk.older.next();
+        }
+        false
+    }
+
+    /// Begins a walk over the entries, newest first.
+    pub(crate) fn walk(&self) -> Walk<'_>
+        ensures all { entries_from result.entry (entries_left result.older) ≡ lineage_of self.now }
+        ensures walks { Walks (lineage_of self.now) result }
+    {
+        let older = match &self.before {
+            Some(past) => past.newest_first(),
+            None => OlderEntries::none(),
         };
-        if last.volume_epoch == volume_epoch {
-            return last.start < lsn;
-        }
-        if last.cut < lsn {
-            return false;
-        }
-        match &self.before {
-            Some(past) => past.is_live(volume_epoch, lsn),
-            None => false,
+        Walk {
+            entry: self.last,
+            limit: u64::MAX,
+            older,
         }
     }
 

@@ -1,13 +1,12 @@
 //! The entries of a lineage before its last.
 
-ghost use Rattle.std.specs.Prelude.{◌≡◌, [], ◌∷◌, ◌++◌, IfOk, OnOk, MatchOption};
-ghost use Rattle.volume_model.specs.Lineage as model;
-ghost use Rattle.volume_model.specs.Lineage.{is_live};
-ghost use Rattle.lineage.specs.Entries.{entry_of, entries_of, entries_before};
+ghost use Rattle.std.specs.Prelude.{◌≡◌, [], ◌∷◌, ◌++◌, IfOk, OnOk};
+ghost use Rattle.lineage.specs.Entries.{entry_of, entries_of, entries_before, entries_from, entries_left};
 
 use crate::entry::Entry;
 use crate::shared_chunks::SharedChunks;
 use std::alloc::{AllocError, Global};
+use std::sync::Arc;
 
 /// The most entries in a chunk.
 const MOST_ENTRIES: usize = 16;
@@ -20,21 +19,41 @@ pub struct Past {
     recent: Vec<Entry>,
 }
 
-/// Returns whether a record is live, if these entries decide it. Older entries decide the others.
-fn judge(entries: &[Entry], volume_epoch: u32, lsn: u64) -> Option<bool>
-    ensures { MatchOption result ((older : model.Lineage) → is_live (entries_of entries.now ++ older) volume_epoch lsn
-        ≡ is_live older volume_epoch lsn) (λ live. (older : model.Lineage) → is_live (entries_of entries.now ++ older)
-        volume_epoch lsn ≡ live) }
-{
-    for entry in entries.iter().rev() {
-        if entry.volume_epoch == volume_epoch {
-            return Some(entry.start < lsn);
-        }
-        if entry.cut < lsn {
-            return Some(false);
+/// The entries of a past that weren't read yet. They are read newest first.
+#[derive(Clone, Copy)]
+pub struct OlderEntries<'a> {
+    chunks: &'a [Arc<Vec<Entry>>],
+    recent: &'a [Entry],
+}
+
+impl<'a> OlderEntries<'a> {
+    /// Makes a reader of no entries.
+    pub fn none() -> OlderEntries<'a>
+        ensures { entries_left result ≡ [] }
+    {
+        OlderEntries {
+            chunks: &[],
+            recent: &[],
         }
     }
-    None
+
+    /// Reads the next older entry; `None` at the end.
+    pub fn next(&mut self) -> Option<Entry>
+        ensures { entries_left self.old ≡ entries_from result (entries_left self.new) }
+    {
+        while self.recent.is_empty() {
+            match self.chunks {
+                [] => return None,
+                [older @ .., chunk] => {
+                    self.recent = chunk.as_slice();
+                    self.chunks = older;
+                }
+            }
+        }
+        let (older, last) = self.recent.split_at(self.recent.len() - 1);
+        self.recent = older;
+        Some(last[0])
+    }
 }
 
 /// Returns these entries and one more, in a list without spare capacity.
@@ -58,19 +77,14 @@ impl Past {
         }
     }
 
-    /// Returns whether a record with this volume epoch and LSN is live by these entries.
-    pub fn is_live(&self, volume_epoch: u32, lsn: u64) -> bool
-        ensures { result ≡ is_live (entries_before self.now) volume_epoch lsn }
+    /// Reads the entries, newest first.
+    pub fn newest_first(&self) -> OlderEntries<'_>
+        ensures { entries_left result ≡ entries_before self.now }
     {
-        if let Some(live) = judge(&self.recent, volume_epoch, lsn) {
-            return live;
+        OlderEntries {
+            chunks: self.chunks.as_slice(),
+            recent: &self.recent,
         }
-        for chunk in self.chunks.as_slice().iter().rev() {
-            if let Some(live) = judge(chunk, volume_epoch, lsn) {
-                return live;
-            }
-        }
-        false
     }
 
     /// Appends the entries to a list, oldest first. Fails only with `NoMemory`.

@@ -1,31 +1,31 @@
-use Rattle.std.proofs.Common.{◌≡◌, ◌-◌, ◌<◌, ◌∙◌, true, false, get_or, length, sym, ap, arith}
+use Rattle.std.proofs.Common.{◌≡◌, ◌∷◌, ◌∙◌, false, min, sym, ap, subst}
 use Rattle.std.specs.Prelude.{◌&&◌, nat_lt, nat_le}
-use Rattle.std.proofs.lemmas.Bool.{lt-ltb, le-ltb}
-use Rattle.volume_model.specs.Lineage.{is_live}
+use Rattle.std.proofs.lemmas.Bool.{le-leb, lt-leb}
+use Rattle.volume_model.specs.Lineage as model
+use Rattle.lineage.specs.Entries.{entries_from, entries_left, entry_of}
 use Rattle.lineage.specs.Lineage.{lineage_of}
-use Rattle.lineage.specs.declared.live.Window.{Window}
-use Rattle.lineage.proofs.Windows.{window_judges}
+use Rattle.lineage.specs.Walk.{Decides}
+use Rattle.lineage.proofs.Walking.{own_decides, passed_decide}
 use Rattle.lineage.proofs.live.is_live_by.Goals as goal
 
-abbrev none : Window
-none = record { volume_epoch = 0; start = 0; limit = 0 }
-
-pub returns-then-window-lsn : goal.returns-then-window-lsn
-returns-then-window-lsn c =
+pub loop-walk-preserved : goal.loop-walk-preserved
+loop-walk-preserved c =
     let own = lineage_of c.args.lineage.now in
-    let lsn = c.args.lsn in
-    let w = get_or c.args.windows.now (c.args.count - 1) none in
-    let within : c.args.count - 1 < length c.args.windows.now = omega (arith, c.if-count-gt0.true, c.requires.count) in
-    let judged = window_judges own c.args.windows.now (c.args.count - 1) none lsn c.requires.windows c.args.lineage.now.growing within c.ranges.lsn.fits in
-    let above : nat_lt w.start lsn ≡ true = lt-ltb w.start lsn c.if-window-lsn.true in
-    ap (λ b. b && nat_le lsn w.limit) (sym above) ∙ sym judged ∙ ap (λ v. is_live own v lsn) c.if-window-volume_epoch.true
+    let walk = c.loop-walk.walk in
+    let rest : model.Lineage = entries_left walk.older in
+    let here : Decides own walk.limit (entry_of c.in-Some.entry ∷ rest) = subst (λ e. Decides own walk.limit (entries_from e rest)) c.in-Some.is c.loop-walk.invariant in
+    subst (λ limit. Decides own limit (entries_from c.next-walk.result (entries_left c.next-walk.new.self))) (sym c.min-walk.ensures)
+    (subst (Decides own (min walk.limit c.in-Some.entry.cut)) c.next-walk.ensures (passed_decide own walk.limit (entry_of c.in-Some.entry) rest here))
 
-pub returns-else-window-lsn : goal.returns-else-window-lsn
-returns-else-window-lsn c =
-    let own = lineage_of c.args.lineage.now in
-    let lsn = c.args.lsn in
-    let w = get_or c.args.windows.now (c.args.count - 1) none in
-    let within : c.args.count - 1 < length c.args.windows.now = omega (arith, c.if-count-gt0.true, c.requires.count) in
-    let judged = window_judges own c.args.windows.now (c.args.count - 1) none lsn c.requires.windows c.args.lineage.now.growing within c.ranges.lsn.fits in
-    let below : nat_lt w.start lsn ≡ false = le-ltb w.start lsn c.if-window-lsn.false in
-    below ∙ ap (λ b. b && nat_le lsn w.limit) (sym below) ∙ sym judged ∙ ap (λ v. is_live own v lsn) c.if-window-volume_epoch.true
+pub returns-then-lsn-walk-clause-live : goal.returns-then-lsn-walk-clause-live
+returns-then-lsn-walk-clause-live c =
+    let walk = c.loop-walk.walk in
+    sym (ap (λ b. b && nat_lt c.in-Some.entry.start c.args.lsn) (le-leb c.args.lsn walk.limit c.if-lsn-walk.true))
+    ∙ sym (own_decides (lineage_of c.args.lineage.now) walk.limit walk.entry c.in-Some.entry (entries_left walk.older) c.args.volume_epoch c.args.lsn c.loop-walk.invariant c.in-Some.is c.if-entry-volume_epoch.true c.ranges.lsn.fits)
+
+pub returns-else-lsn-walk-clause-live : goal.returns-else-lsn-walk-clause-live
+returns-else-lsn-walk-clause-live c =
+    let walk = c.loop-walk.walk in
+    let above : nat_le c.args.lsn walk.limit ≡ false = lt-leb c.args.lsn walk.limit c.if-lsn-walk.false in
+    above ∙ sym (ap (λ b. b && nat_lt c.in-Some.entry.start c.args.lsn) above)
+    ∙ sym (own_decides (lineage_of c.args.lineage.now) walk.limit walk.entry c.in-Some.entry (entries_left walk.older) c.args.volume_epoch c.args.lsn c.loop-walk.invariant c.in-Some.is c.if-entry-volume_epoch.true c.ranges.lsn.fits)
