@@ -1,19 +1,19 @@
--- One record more is entered among the last numbers of groups and blocks.
-use Rattle.std.proofs.Common.{◌≡◌, ◌≢◌, ℕ, ◌+◌, ◌<◌, ◌≤◌, Bool, true, false, ◌&&◌, nat_eq, List, [], ◌∷◌, ◌++◌, length, length-append, get_or, take, if◌then◌else◌, Some, None, cond, sym, ap, ◌∙◌, subst, inl, inr, arith, get_or-set_same, get_or-set_other}
+-- The last numbers of groups and blocks, and one record more.
+use Rattle.std.proofs.Common.{◌≡◌, ◌≢◌, ℕ, ◌<◌, ◌≤◌, Bool, true, false, ◌&&◌, nat_eq, List, [], ◌∷◌, ◌++◌, length, length-append, get_or, take, if◌then◌else◌, Some, cond, sym, ap, ap₂, ◌∙◌, subst, inl, inr, arith, get_or-set_same, get_or-set_other}
 use Rattle.std.specs.Prelude.{Option, slice_set, unwrap_or, refl}
 use Rattle.std.specs.Ordering.{is_eq}
-use Rattle.std.specs.BTreeMap.{Updates, UpdatesBy, get}
-use Rattle.std.proofs.lemmas.List.{take_all}
-use Rattle.std.proofs.lemmas.Bool.{cases_eq}
+use Rattle.std.specs.BTreeMap.{Updates, get}
+use Rattle.std.proofs.lemmas.List.{take_all, take-append-le}
+use Rattle.std.proofs.lemmas.Bool.{cases_eq, ne_eqb, eqb-true, and_parts}
 use Rattle.std.proofs.lemmas.Bool.Decides.{nat_tests}
 use Rattle.volume_model.specs.Redo.{Redo, last_of_group, last_of_block}
 use Rattle.redo_record.specs.declared.shared_record.SharedRecord.{SharedRecord}
 use Rattle.redo_record.specs.SharedRecord.{shared_redo}
 use Rattle.writer_core.specs.Logs.{log_of}
-use Rattle.writer_core.specs.Kept.{Blocks, block_cmp, kept_in, AreSameIn, PutsIn}
-use Rattle.writer_core.specs.LastLsns.{AreLasts, AreLastsOfAll, AreLastLsnsOfPrefix, Enters, EntersNone}
+use Rattle.writer_core.specs.Kept.{Blocks, block_cmp, first_known, KeepsIn, PutsIn}
+use Rattle.writer_core.specs.LastLsns.{kept_of_group, kept_of_block, IsLast, AreLasts, AreLastsOf}
 use Rattle.writer_core.specs.declared.last_lsns.LastLsns.{LastLsns}
-use Rattle.writer_core.proofs.Logs.{log_of-more, log_of-push}
+use Rattle.writer_core.proofs.Logs.{log_of-push}
 
 -- a group's number, where a record is entered
 pub group-entered : (groups : List ℕ) (g q lsn last : ℕ) → g < length groups → get_or groups q 0 ≡ last → get_or (slice_set groups g lsn) q 0 ≡ (if nat_eq g q then lsn else last)
@@ -34,80 +34,95 @@ block-put true false found lsn e = cc
 block-put false true found lsn e = cc
 block-put false false found lsn e = refl
 
-block-removed : (test same : Bool) (found : Option ℕ) → test ≡ same → unwrap_or (cond test None found) 0 ≡ (if same then 0 else unwrap_or found 0)
-block-removed true true found e = refl
-block-removed true false found e = cc
-block-removed false true found e = cc
-block-removed false false found e = refl
-
 -- the map has a number at the block
 pub puts-some : (old : Blocks) (group block lsn : ℕ) (new : Blocks) → Updates block_cmp old new (block, group) (Some lsn) → PutsIn old group block lsn new
 puts-some old group block lsn new updates q b =
     ap (λ (found : Option ℕ). unwrap_or found 0) (updates.0 (b, q))
     ∙ block-put _ (nat_eq group q && nat_eq block b) (get block_cmp old (b, q)) lsn (block-same group block q b)
 
--- it has none there, which is 0
-pub puts-none : (old : Blocks) (group block lsn : ℕ) (new : Blocks) → lsn ≡ 0 → UpdatesBy block_cmp (block_cmp (block, group)) old new None → PutsIn old group block lsn new
-puts-none old group block lsn new none updates q b =
-    ap (λ (found : Option ℕ). unwrap_or found 0) (updates.0 (b, q))
-    ∙ block-removed _ (nat_eq group q && nat_eq block b) (get block_cmp old (b, q)) (block-same group block q b)
-    ∙ ap (λ n. if nat_eq group q && nat_eq block b then n else kept_in old q b) (sym none)
+-- ---- what is known of one group or block
 
-pub last_lsns-entered : (old new : LastLsns) (i group block lsn : ℕ) → i ≡ group → group < 16 → new.entered ≡ old.entered + 1 → new.groups ≡ slice_set old.groups i lsn → PutsIn old.blocks group block lsn new.blocks → Enters old new group block lsn
-last_lsns-entered old new i group block lsn is below counted groups puts = record {
-  counted = counted;
-  last_lsns = λ r on_group on_block has_lsn log before. record {
-    of_group = λ q h.
-        let within : i < length old.groups = omega (arith, old.each_group, below, is) in
-        ap (λ xs. get_or xs q 0) groups ∙ group-entered old.groups i q lsn (last_of_group q log) within (before.of_group q h)
-        ∙ ap (λ k. if nat_eq k q then lsn else last_of_group q log) (is ∙ sym on_group)
-        ∙ ap (λ n. if nat_eq r.group q then n else last_of_group q log) (sym has_lsn);
-    of_block = λ q b.
-        puts q b ∙ ap (λ n. if nat_eq group q && nat_eq block b then lsn else n) (before.of_block q b)
-        ∙ ap (λ k. if nat_eq k q && nat_eq block b then lsn else last_of_block q b log) (sym on_group)
-        ∙ ap (λ k. if nat_eq r.group q && nat_eq k b then lsn else last_of_block q b log) (sym on_block)
-        ∙ ap (λ n. if nat_eq r.group q && nat_eq r.block b then n else last_of_block q b log) (sym has_lsn);
-  };
+-- nothing is known before a record is read
+pub nothing-read : (known last : ℕ) → known ≡ 0 → IsLast known last last
+nothing-read known last none = ((λ some. absurd (some none)), λ e. refl)
+
+-- once all records are read, what is known is the last
+pub all-read : (known last unread : ℕ) → unread ≡ 0 → IsLast known last unread → known ≡ last
+all-read known last unread none is = elim (cases_eq known 0) [ inl z ↦ z ∙ sym (is.1 z ∙ none) | inr n ↦ is.0 n ]
+
+-- the next older record is read, which is of this group or block, or of another
+pub one-read : (same : Bool) (now known last unread lsn : ℕ) → now ≡ (if same then first_known known lsn else known) → 1 ≤ lsn → IsLast known last (if same then lsn else unread) → IsLast now last unread
+one-read false now known last unread lsn e some is = subst (λ n. IsLast n last unread) (sym e) is
+one-read true now known last unread lsn e some is =
+    elim (cases_eq known 0) [
+      | inl z ↦ (
+          let f : now ≡ lsn = e ∙ rw z refl in
+          ((λ n. f ∙ sym (is.1 z)), λ n. absurd (omega arith)))
+      | inr n ↦ (
+          let f : now ≡ known = e ∙ (rw (ne_eqb known 0 n) refl) in
+          ((λ m. f ∙ is.0 n), λ m. absurd (n (sym f ∙ m))))
+    ]
+
+-- a record is entered, which is of this group or block, or of another
+pub one-entered : (same : Bool) (now known last unread lsn : ℕ) → now ≡ (if same then lsn else known) → 1 ≤ lsn → IsLast known last unread → IsLast now (if same then lsn else last) unread
+one-entered false now known last unread lsn e some is = subst (λ n. IsLast n last unread) (sym e) is
+one-entered true now known last unread lsn e some is = ((λ n. e), λ n. absurd (omega arith))
+
+-- ---- the table
+
+-- nothing is known of a log of which no record was read
+pub lasts-new : (table : LastLsns) (packets : List SharedRecord) → ((group : ℕ) → group < 16 → kept_of_group table group ≡ 0) → ((group block : ℕ) → kept_of_block table group block ≡ 0) → length packets ≡ table.unread → AreLastsOf table packets
+lasts-new table packets groups blocks all = record {
+  within = omega (arith, all);
+  lasts = subst (λ (xs : List SharedRecord). AreLasts table (log_of packets) (log_of xs)) (sym (take_all table.unread packets (omega (arith, all)))) (record {
+    of_group = λ group few. nothing-read (kept_of_group table group) (last_of_group group (log_of packets)) (groups group few);
+    of_block = λ group block. nothing-read (kept_of_block table group block) (last_of_block group block (log_of packets)) (blocks group block);
+  });
 }
 
--- nothing is put
-pub last_lsns-same : (old new : LastLsns) → new.entered ≡ old.entered → new.groups ≡ old.groups → AreSameIn old.blocks new.blocks → EntersNone old new
-last_lsns-same old new counted groups same = record {
-  counted = counted;
-  last_lsns = λ log before. record {
-    of_group = λ q h. ap (λ xs. get_or xs q 0) groups ∙ before.of_group q h;
-    of_block = λ q b. same q b ∙ before.of_block q b;
-  };
+-- the next older record is read
+pub lasts-read : (old new : LastLsns) (i : ℕ) (r : Redo) → i ≡ r.group → r.group < 16 → 1 ≤ r.lsn → new.groups ≡ slice_set old.groups i (first_known (kept_of_group old r.group) r.lsn) → KeepsIn old.blocks r.group r.block r.lsn new.blocks
+    → (log older : List Redo) → AreLasts old log (r ∷ older) → AreLasts new log older
+lasts-read old new i r is few some groups keeps log older before = record {
+  of_group = λ q h.
+      let within : i < length old.groups = omega (arith, old.each_group, few, is) in
+      let now : kept_of_group new q ≡ (if nat_eq r.group q then first_known (kept_of_group old q) r.lsn else kept_of_group old q) =
+      ap (λ xs. get_or xs q 0) groups ∙ group-entered old.groups i q (first_known (kept_of_group old r.group) r.lsn) (kept_of_group old q) within refl
+      ∙ ap (λ k. if nat_eq k q then first_known (kept_of_group old r.group) r.lsn else kept_of_group old q) is
+      ∙ own (nat_eq r.group q) (kept_of_group old r.group) (kept_of_group old q) r.lsn (λ e. ap (kept_of_group old) (eqb-true r.group q e)) in
+      one-read (nat_eq r.group q) (kept_of_group new q) (kept_of_group old q) (last_of_group q log) (last_of_group q older) r.lsn now some (before.of_group q h);
+  of_block = λ q b.
+      let same = nat_eq r.group q && nat_eq r.block b in
+      let now : kept_of_block new q b ≡ (if nat_eq r.group q && nat_eq r.block b then first_known (kept_of_block old q b) r.lsn else kept_of_block old q b) =
+      keeps q b ∙ own (nat_eq r.group q && nat_eq r.block b) (kept_of_block old r.group r.block) (kept_of_block old q b) r.lsn
+      (λ e. (let parts : (nat_eq r.group q ≡ true) × (nat_eq r.block b ≡ true) = and_parts _ _ e in ap₂ (λ g k. kept_of_block old g k) (eqb-true r.group q parts.0) (eqb-true r.block b parts.1))) in
+      one-read (nat_eq r.group q && nat_eq r.block b) (kept_of_block new q b) (kept_of_block old q b) (last_of_block q b log) (last_of_block q b older) r.lsn now some (before.of_block q b);
+}
+  where
+    own : (same : Bool) (mine known lsn : ℕ) → (same ≡ true → mine ≡ known) → (if same then first_known mine lsn else known) ≡ (if same then first_known known lsn else known)
+    own true mine known lsn e = ap (λ n. first_known n lsn) (e refl)
+    own false mine known lsn e = refl
+
+-- a record is entered behind all others
+pub lasts-entered : (old new : LastLsns) (i : ℕ) (r : Redo) → i ≡ r.group → r.group < 16 → 1 ≤ r.lsn → new.groups ≡ slice_set old.groups i r.lsn → PutsIn old.blocks r.group r.block r.lsn new.blocks
+    → (log older : List Redo) → AreLasts old log older → AreLasts new (r ∷ log) older
+lasts-entered old new i r is few some groups puts log older before = record {
+  of_group = λ q h.
+      let within : i < length old.groups = omega (arith, old.each_group, few, is) in
+      let now : kept_of_group new q ≡ (if nat_eq r.group q then r.lsn else kept_of_group old q) =
+      ap (λ xs. get_or xs q 0) groups ∙ group-entered old.groups i q r.lsn (kept_of_group old q) within refl
+      ∙ ap (λ k. if nat_eq k q then r.lsn else kept_of_group old q) is in
+      one-entered (nat_eq r.group q) (kept_of_group new q) (kept_of_group old q) (last_of_group q log) (last_of_group q older) r.lsn now some (before.of_group q h);
+  of_block = λ q b.
+      one-entered (nat_eq r.group q && nat_eq r.block b) (kept_of_block new q b) (kept_of_block old q b) (last_of_block q b log) (last_of_block q b older) r.lsn (puts q b) some (before.of_block q b);
 }
 
--- all records are a front
-pub all-front : (last_lsns : LastLsns) (records : List SharedRecord) → AreLastsOfAll last_lsns records → AreLastLsnsOfPrefix last_lsns records
-all-front last_lsns records all = record {
-  within = omega (arith, all.counted);
-  front = subst (λ (xs : List SharedRecord). AreLasts last_lsns (log_of xs)) (sym (take_all last_lsns.entered records (omega (arith, all.counted)))) all.all;
+-- the record is then appended to the log
+pub lasts-appended : (old new : LastLsns) (packets : List SharedRecord) (p : SharedRecord) → new.unread ≡ old.unread → ((log older : List Redo) → AreLasts old log older → AreLasts new (shared_redo p ∷ log) older) → AreLastsOf old packets → AreLastsOf new (packets ++ p ∷ [])
+lasts-appended old new packets p same enters before = record {
+  within = omega (arith, same, before.within, length-append packets (p ∷ []));
+  lasts =
+      let kept : take new.unread (packets ++ p ∷ []) ≡ take old.unread packets = ap (λ n. take n (packets ++ p ∷ [])) same ∙ take-append-le old.unread packets (p ∷ []) before.within in
+      subst (λ (xs : List SharedRecord). AreLasts new (log_of (packets ++ p ∷ [])) (log_of xs)) (sym kept)
+      (subst (λ (log : List Redo). AreLasts new log (log_of (take old.unread packets))) (sym (log_of-push packets p)) (enters (log_of packets) (log_of (take old.unread packets)) before.lasts));
 }
-
--- the front is all records, where no more are left
-pub front-all : (last_lsns : LastLsns) (records : List SharedRecord) → length records ≤ last_lsns.entered → AreLastLsnsOfPrefix last_lsns records → AreLastsOfAll last_lsns records
-front-all last_lsns records whole front = record {
-  counted = omega (arith, whole, front.within);
-  all = subst (λ (xs : List SharedRecord). AreLasts last_lsns (log_of xs)) (take_all last_lsns.entered records whole) front.front;
-}
-
--- a record that is entered is then pushed
-pub all-pushed : (old new : LastLsns) (records : List SharedRecord) (p : SharedRecord) (group block lsn : ℕ) → (shared_redo p).group ≡ group → (shared_redo p).block ≡ block → (shared_redo p).lsn ≡ lsn → Enters old new group block lsn → AreLastsOfAll old records → AreLastsOfAll new (records ++ p ∷ [])
-all-pushed old new records p group block lsn on_group on_block has_lsn enters all = record {
-  counted = omega (arith, enters.counted, all.counted, length-append records (p ∷ []));
-  all = subst (AreLasts new) (sym (log_of-push records p)) (enters.last_lsns (shared_redo p) on_group on_block has_lsn (log_of records) all.all);
-}
-
--- the next record of a log is entered
-pub front-entered : (old new : LastLsns) (records : List SharedRecord) (p : SharedRecord) (group block lsn : ℕ) → old.entered < length records → p ≡ get_or records old.entered p
-    → (shared_redo p).group ≡ group → (shared_redo p).block ≡ block → (shared_redo p).lsn ≡ lsn → Enters old new group block lsn → AreLastLsnsOfPrefix old records → AreLastLsnsOfPrefix new records
-front-entered old new records p group block lsn within is on_group on_block has_lsn enters before =
-    let front : List Redo = log_of (take old.entered records) in
-    let more : log_of (take (old.entered + 1) records) ≡ shared_redo p ∷ front = log_of-more records old.entered p within ∙ ap (λ (q : SharedRecord). shared_redo q ∷ front) (sym is) in
-    record {
-      within = omega (arith, enters.counted);
-      front = subst (AreLasts new) (sym more ∙ ap (λ n. log_of (take n records)) (sym enters.counted)) (enters.last_lsns (shared_redo p) on_group on_block has_lsn front before.front);
-    }

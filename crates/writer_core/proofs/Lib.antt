@@ -6,12 +6,12 @@ pub mod Clients
 pub mod Copied
 pub mod Counting
 pub mod Covering
+pub mod Ending
 pub mod Entering
 pub mod Finding
 pub mod Acknowledging
 pub mod Answering
 pub mod Growing
-pub mod Leaving
 pub mod OneMore
 pub mod Placing
 pub mod Raising

@@ -13,7 +13,7 @@ added-push : {A : Type 0} (xs : List A) (x : A) (kept : List A) → added (xs ++
 added-push [] x kept = refl
 added-push (y ∷ xs) x kept = added-push xs x (y ∷ kept)
 
-added_from : (packets : List SharedRecord) (p : SharedRecord) (kept : List Redo) → added (map shared_redo (packets ++ p ∷ [])) kept ≡ shared_redo p ∷ added (map shared_redo packets) kept
+pub added_from : (packets : List SharedRecord) (p : SharedRecord) (kept : List Redo) → added (map shared_redo (packets ++ p ∷ [])) kept ≡ shared_redo p ∷ added (map shared_redo packets) kept
 added_from [] p kept = refl
 added_from (q ∷ rest) p kept = added_from rest p (shared_redo q ∷ kept)
 

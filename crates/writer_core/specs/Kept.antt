@@ -1,5 +1,5 @@
 -- A map from blocks to LSNs.
-use Rattle.std.specs.Prelude.{◌≡◌, ℕ, ◌&&◌, nat_eq, if◌then◌else◌, unwrap_or}
+use Rattle.std.specs.Prelude.{◌≡◌, ℕ, ◌&&◌, ◌==◌, nat_eq, if◌then◌else◌, unwrap_or}
 use Rattle.std.specs.declared.cmp.Ordering.{Ordering}
 use Rattle.std.specs.Ordering.{nat_cmp, ordering_then}
 use Rattle.std.specs.BTreeMap.{BTreeMap, get}
@@ -21,6 +21,10 @@ abbrev pub PutsIn : Blocks → ℕ → ℕ → ℕ → Blocks → Type 0
 PutsIn old group block lsn new = (q b : ℕ) → kept_in new q b ≡ (if nat_eq group q && nat_eq block b then lsn else
     kept_in old q b)
 
--- the LSN of each block is unchanged
-abbrev pub AreSameIn : Blocks → Blocks → Type 0
-AreSameIn old new = (q b : ℕ) → kept_in new q b ≡ kept_in old q b
+-- the LSN that is known, or else another one
+abbrev pub first_known : ℕ → ℕ → ℕ
+first_known known lsn = if known == 0 then lsn else known
+
+-- the LSN of one block is set if it had none, and those of all others are unchanged
+abbrev pub KeepsIn : Blocks → ℕ → ℕ → ℕ → Blocks → Type 0
+KeepsIn old group block lsn new = PutsIn old group block (first_known (kept_in old group block) lsn) new

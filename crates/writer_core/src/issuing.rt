@@ -1,6 +1,6 @@
 //! Makes the records of a transaction, and their messages.
 
-ghost use Rattle.std.specs.Prelude.{◌≡◌, ◌+◌, ◌^◌, ◌<◌, ◌≤◌, ◌++◌, ◌∷◌, [], true, length, max, take, IfOk, IfErr, OnOk, OnErr};
+ghost use Rattle.std.specs.Prelude.{◌≡◌, ◌+◌, ◌^◌, ◌<◌, ◌≤◌, ◌++◌, ◌∷◌, [], true, length, max, take, IfOk, IfErr, OnOk};
 ghost use Rattle.volume_model.specs.declared.fault.Fault.TheVariants.{NoMemory};
 ghost use Rattle.volume_model.specs.Redo.{last_lsn};
 ghost use Rattle.volume_model.specs.Client.{place_of};
@@ -12,7 +12,7 @@ ghost use Rattle.volume_model.specs.Client.{label_of};
 ghost use Rattle.wire.specs.Listed.{listed};
 ghost use Rattle.wire.specs.Message.{messages_of};
 ghost use Rattle.writer_core.specs.Log.{found_of, log_in, packets_in};
-ghost use Rattle.writer_core.specs.LastLsns.{AreLastsOfAll, AreLastLsnsOfPrefix, AreLinkedFrom};
+ghost use Rattle.writer_core.specs.LastLsns.{AreLastsOf};
 ghost use Rattle.writer_core.specs.Groups.{groups_in};
 ghost use Rattle.writer_core.specs.Changes.{change_of, changes_of};
 ghost use Rattle.writer_core.specs.Carried.{carried_write};
@@ -35,8 +35,8 @@ pub struct Span {
     pub ghost assigned: { 1 ≤ volume },
 }
 
-/// Makes the record of a change, to be appended to a log; `point` makes it a consistency point. `last_lsns` must have
-/// all records of the log; the new one is entered too, unless memory runs out.
+/// Makes the record of a change, to be appended to a log, and enters it into `last_lsns`; `point` makes it a
+/// consistency point.
 #[inline(always)]
 fn next_packet(
     alloc: Global,
@@ -46,20 +46,19 @@ fn next_packet(
     change: &Change,
     point: bool,
 ) -> Result<SharedRecord, AllocError>
-    requires last_lsns { AreLastsOfAll last_lsns.old (packets_in log.now) }
+    requires lasts { AreLastsOf last_lsns.old (packets_in log.now) }
     requires room { max (last_lsn (log_in log.now)) span.start < 2 ^ 62 }
     requires group { (change_of change.now).group < 16 }
     requires place { (change_of change.now).offset + length (change_of change.now).bytes ≤ 512 }
     ensures made { IfOk result (λ packet. shared_redo packet ≡ record_of span.volume span.start (log_in log.now)
         (change_of change.now) point) }
-    ensures entered { IfOk result (λ packet. AreLastsOfAll last_lsns.new (packets_in log.now ++ packet ∷ [])) }
-    ensures err { OnErr result (AreLastsOfAll last_lsns.new (packets_in log.now)) }
+    ensures entered { IfOk result (λ packet. AreLastsOf last_lsns.new (packets_in log.now ++ packet ∷ [])) }
 {
     let last = log.last_lsn();
     let lsn = last.max(span.start) + 1;
     let (group, block) = (change.group(), change.block());
-    let prev_group = last_lsns.of_group(group);
-    let prev_block = last_lsns.enter(group, block, lsn)?;
+    let prev_group = last_lsns.of_group(log, group)?;
+    let prev_block = last_lsns.enter(log, group, block, lsn)?;
     let record = Record {
         lsn,
         volume_epoch: span.volume,
@@ -72,13 +71,7 @@ fn next_packet(
         bytes: change.payload(),
         point,
     };
-    match SharedRecord::pack(alloc, record) {
-        Ok(packet) => Ok(packet),
-        Err(error) => {
-            last_lsns.remove_last(group, block, prev_group, prev_block);
-            Err(error)
-        }
-    }
+    SharedRecord::pack(alloc, record)
 }
 
 /// Lends a record for a message to the nodes of its group, with a label of this volume epoch.
@@ -124,8 +117,8 @@ fn add(alloc: Global, messages: &mut Messages, message: Message) -> Result<(), A
     Ok(())
 }
 
-/// Appends the records of a transaction's changes to a log, and their Writes to `messages`. `last_lsns` follows the
-/// log. If memory runs out the log may have grown by some of these records.
+/// Appends the records of a transaction's changes to a log, and their Writes to `messages`. If memory runs out the log
+/// may have grown by some of these records, and `last_lsns` is of no use.
 pub fn append(
     alloc: Global,
     span: Span,
@@ -135,7 +128,7 @@ pub fn append(
     changes: &[Change],
     messages: &mut Messages,
 ) -> Result<(), Fault>
-    requires front { AreLastLsnsOfPrefix last_lsns.old (packets_in log.old) }
+    requires lasts { AreLastsOf last_lsns.old (packets_in log.old) }
     requires room { max (last_lsn (log_in log.old)) span.start + length changes.now ≤ 2 ^ 62 }
     requires few { length (groups_in group_states.now) ≤ 16 }
     requires good { every (is_change (length (groups_in group_states.now))) (changes_of changes.now) ≡ true }
@@ -144,13 +137,11 @@ pub fn append(
     ensures written { OnOk result (messages_of (listed messages.new) ≡ messages_of (listed messages.old)
         ++ issued_writes span.volume (place_of (groups_in group_states.now)) span.start (changes_of changes.now)
         (log_in log.old)) }
-    ensures last_lsns { AreLastLsnsOfPrefix last_lsns.new (packets_in log.new) }
+    ensures lasts { OnOk result (AreLastsOf last_lsns.new (packets_in log.new)) }
     ensures memory { IfErr result (λ e. e ≡ NoMemory) }
     ensures front { take (length (packets_in log.old)) (packets_in log.new) ≡ packets_in log.old }
     ensures found { found_of log.new ≡ found_of log.old }
-    ensures linked { AreLinkedFrom (length (packets_in log.old)) (packets_in log.new) }
 {
-    last_lsns.follow(log)?;
     log.reserve(changes.len())?;
     for (i, change) in changes.iter().enumerate() {
         let packet = next_packet(alloc, span, log, last_lsns, change, i + 1 == changes.len())?;

@@ -1,9 +1,10 @@
 //! The last LSN of each group and of each block of a log.
 
-ghost use Rattle.std.specs.Prelude.{◌≡◌, length, IfOk, OnOk, OnErr};
-ghost use Rattle.writer_core.specs.Kept.{kept_in, PutsIn, AreSameIn};
+ghost use Rattle.std.specs.Prelude.{◌≡◌, length, List, IfOk, OnOk};
+ghost use Rattle.writer_core.specs.Kept.{kept_in, first_known, KeepsIn, PutsIn};
 
 use crate::log::Log;
+use redo_record::Record;
 use std::alloc::{AllocError, Global};
 use std::collections::BTreeMap;
 use std::mem;
@@ -11,12 +12,35 @@ use std::mem;
 /// The most groups that a volume has.
 pub const GROUPS: usize = 16;
 
-/// Sets the LSN of a block. Returns the one before it, 0 if there was none. On error nothing has changed.
+/// A block and its group.
+type Place = (u32, u8);
+
+/// Returns the LSN of a block, 0 if there is none.
+fn known(blocks: &BTreeMap<Place, u64>, place: Place) -> u64
+    ensures { result ≡ kept_in blocks.now place.1 place.0 }
+{
+    match blocks.get(&place) {
+        Some(lsn) => *lsn,
+        None => 0,
+    }
+}
+
+/// Sets the LSN of a block, if it has none.
+fn keep(blocks: &mut BTreeMap<Place, u64>, place: Place, lsn: u64) -> Result<(), AllocError>
+    ensures { OnOk result (KeepsIn blocks.old place.1 place.0 lsn blocks.new) }
+{
+    if known(blocks, place) != 0 {
+        return Ok(());
+    }
+    blocks.insert(place, lsn)?;
+    Ok(())
+}
+
+/// Sets the LSN of a block. Returns the one before it, 0 if there was none.
 #[inline(always)]
-fn put(blocks: &mut BTreeMap<(u32, u8), u64>, place: (u32, u8), lsn: u64) -> Result<u64, AllocError>
+fn put(blocks: &mut BTreeMap<Place, u64>, place: Place, lsn: u64) -> Result<u64, AllocError>
     ensures before { IfOk result (λ before. before ≡ kept_in blocks.old place.1 place.0) }
     ensures ok { OnOk result (PutsIn blocks.old place.1 place.0 lsn blocks.new) }
-    ensures err { OnErr result (AreSameIn blocks.old blocks.new) }
 {
     if let Some(last) = blocks.get_mut(&place) {
         return Ok(mem::replace(last, lsn));
@@ -25,106 +49,109 @@ fn put(blocks: &mut BTreeMap<(u32, u8), u64>, place: (u32, u8), lsn: u64) -> Res
     Ok(0)
 }
 
-/// The last LSN of each group and of each block, in a prefix of a log.
+/// Returns the LSN that is known, or else this one.
+fn known_or(known: u64, lsn: u64) -> u64
+    ensures { result ≡ first_known known lsn }
+{
+    if known == 0 { lsn } else { known }
+}
+
+/// The last LSN of each group and of each block in a log. The log's records are read from the newest on, and only as
+/// far as needed: a writer that opens after a recovery mostly asks for blocks that were written lately.
+///
+/// After running out of memory a table is of no use.
 #[derive(Drop)]
 pub struct LastLsns {
-    /// The number of records that are entered, which are the first ones of the log.
-    entered: usize,
-    /// By group, 0 if it has no record.
+    /// The number of the log's first records that weren't read yet.
+    unread: usize,
+    /// By group, 0 if none is known.
     groups: [u64; GROUPS],
     /// By block and group.
-    blocks: BTreeMap<(u32, u8), u64>,
+    blocks: BTreeMap<Place, u64>,
     ghost each_group: { length groups ≡ 16 },
 }
 
 impl LastLsns {
-    ghost use Rattle.std.specs.Prelude.{◌+◌, ◌^◌, ◌<◌, [], IfOk, OnOk, OnErr, take};
-    ghost use Rattle.writer_core.specs.Log.{packets_in};
-    ghost use Rattle.writer_core.specs.LastLsns.{kept_of_group, kept_of_block, AreLasts, AreLastsOfAll, AreLastLsnsOfPrefix, AreLinkedFrom, Enters, EntersNone, Leaves};
+    ghost use Rattle.std.specs.Prelude.{◌≤◌, ◌<◌, ◌++◌, ◌∷◌, []};
+    ghost use Rattle.volume_model.specs.Redo.{Redo, last_of_group, last_of_block};
+    ghost use Rattle.redo_record.specs.Record.{redo_of};
+    ghost use Rattle.redo_record.specs.SharedRecord.{shared_redo};
+    ghost use Rattle.redo_record.specs.declared.shared_record.SharedRecord.{SharedRecord};
+    ghost use Rattle.writer_core.specs.Log.{log_in, packets_in};
+    ghost use Rattle.writer_core.specs.LastLsns.{AreLasts, AreLastsOf};
 
-    /// Makes the table of no records. Allocates nothing.
-    pub fn new(alloc: Global) -> LastLsns
-        ensures last_lsns { AreLasts result [] }
-        ensures none { result.entered ≡ 0 }
+    /// Makes the table of a log of `records` records, of which none was read. Allocates nothing.
+    pub fn new(alloc: Global, records: usize) -> LastLsns
+        ensures { (packets : List SharedRecord) → length packets ≡ records → AreLastsOf result packets }
     {
         LastLsns {
-            entered: 0,
+            unread: records,
             groups: [0; GROUPS],
             blocks: BTreeMap::new(alloc),
         }
     }
 
-    /// Returns the last LSN of a group, 0 if there is none.
-    pub fn of_group(&self, group: u8) -> u64
-        requires { group < 16 }
-        ensures { result ≡ kept_of_group self.now group }
+    /// Reads a record that is older than all that were read.
+    fn read(&mut self, record: &Record) -> Result<(), AllocError>
+        ensures lasts { OnOk result ((log older : List Redo) → AreLasts self.old log (redo_of «record».now ∷ older)
+            → AreLasts self.new log older) }
+        ensures unread { OnOk result (self.new.unread ≡ self.old.unread) }
     {
-        self.groups[usize::from(group)]
+        keep(&mut self.blocks, (record.block, record.group), record.lsn)?;
+        let group = usize::from(record.group);
+        self.groups[group] = known_or(self.groups[group], record.lsn);
+        Ok(())
     }
 
-    /// Enters the log's next record, with this LSN, on a block of a group. Returns the last LSN on the block before it.
-    /// If memory runs out nothing is entered.
-    #[inline(always)]
-    pub fn enter(&mut self, group: u8, block: u32, lsn: u64) -> Result<u64, AllocError>
-        requires group { group < 16 }
-        requires few { self.old.entered + 1 < 2 ^ 64 }
-        ensures before { IfOk result (λ before. before ≡ kept_of_block self.old group block) }
-        ensures ok { OnOk result (Enters self.old self.new group block lsn) }
-        ensures err { OnErr result (EntersNone self.old self.new) }
+    /// Reads the next older records of the log: those of a run.
+    #[inline(never)]
+    fn read_older(&mut self, log: &Log) -> Result<(), AllocError>
+        requires some { 0 < self.old.unread }
+        requires lasts { AreLastsOf self.old (packets_in log.now) }
+        ensures lasts { OnOk result (AreLastsOf self.new (packets_in log.now)) }
+        ensures fewer { OnOk result (self.new.unread < self.old.unread) }
     {
-        let before = put(&mut self.blocks, (block, group), lsn)?;
-        self.groups[usize::from(group)] = lsn;
-        self.entered += 1;
-        Ok(before)
-    }
-
-    /// Enters the records of the log that aren't entered yet. If memory runs out some of them may be.
-    pub fn follow(&mut self, log: &Log) -> Result<(), AllocError>
-        requires { AreLastLsnsOfPrefix self.old (packets_in log.now) }
-        ensures ok { OnOk result (AreLastsOfAll self.new (packets_in log.now)) }
-        ensures front { AreLastLsnsOfPrefix self.new (packets_in log.now) }
-    {
-        let mut left = log.records_from(self.entered);
-        while let Some(packet) = left.next() {
-            let record = packet.record();
-            self.enter(record.group, record.block, record.lsn)?;
+        let packets = log.before(self.unread);
+        let mut left = packets.len();
+        self.unread -= left;
+        while left > 0 {
+            left -= 1;
+            self.read(packets[left].record())?;
         }
         Ok(())
     }
 
-    /// Removes the record that was entered last: its links are the last LSNs again. Out of line, since this is called
-    /// only when memory ran out.
-    #[inline(never)]
-    pub fn remove_last(&mut self, group: u8, block: u32, prev_group: u64, prev_block: u64)
+    /// Returns the last LSN of a group in the log, 0 if there is none.
+    pub fn of_group(&mut self, log: &Log, group: u8) -> Result<u64, AllocError>
         requires group { group < 16 }
-        requires entered { 0 < self.old.entered }
-        ensures { Leaves self.old self.new group block prev_group prev_block }
+        requires lasts { AreLastsOf self.old (packets_in log.now) }
+        ensures last { IfOk result (λ last. last ≡ last_of_group group (log_in log.now)) }
+        ensures lasts { OnOk result (AreLastsOf self.new (packets_in log.now)) }
     {
-        let place = (block, group);
-        if prev_block == 0 {
-            self.blocks.remove(&place);
-        } else {
-            // The map has the block, so this allocates nothing.
-            let _ = self.blocks.insert(place, prev_block);
+        while self.groups[usize::from(group)] == 0 && self.unread > 0 {
+            self.read_older(log)?;
         }
-        self.groups[usize::from(group)] = prev_group;
-        self.entered -= 1;
+        Ok(self.groups[usize::from(group)])
     }
 
-    /// Removes records, the last first, until at most `records` are entered. Allocates nothing.
-    pub fn go_back(&mut self, log: &Log, records: usize)
-        requires front { AreLastLsnsOfPrefix self.old (packets_in log.now) }
-        requires linked { AreLinkedFrom records (packets_in log.now) }
-        ensures { AreLastLsnsOfPrefix self.new (take records (packets_in log.now)) }
+    /// Enters the record that is to be appended to the log, with this LSN, on a block of a group. Returns the last LSN
+    /// on the block before it, 0 if there is none.
+    #[inline(always)]
+    pub fn enter(&mut self, log: &Log, group: u8, block: u32, lsn: u64) -> Result<u64, AllocError>
+        requires group { group < 16 }
+        requires some { 1 ≤ lsn }
+        requires lasts { AreLastsOf self.old (packets_in log.now) }
+        ensures before { IfOk result (λ before. before ≡ last_of_block group block (log_in log.now)) }
+        ensures entered { OnOk result ((packet : SharedRecord) → (shared_redo packet).group ≡ group
+            → (shared_redo packet).block ≡ block → (shared_redo packet).lsn ≡ lsn
+            → AreLastsOf self.new (packets_in log.now ++ packet ∷ [])) }
     {
-        while self.entered > records {
-            let record = log.packet(self.entered - 1).record();
-            self.remove_last(
-                record.group,
-                record.block,
-                record.prev_group,
-                record.prev_block,
-            );
+        let place = (block, group);
+        while self.unread > 0 && known(&self.blocks, place) == 0 {
+            self.read_older(log)?;
         }
+        let before = put(&mut self.blocks, place, lsn)?;
+        self.groups[usize::from(group)] = lsn;
+        Ok(before)
     }
 }

@@ -4,7 +4,7 @@ ghost use Rattle.std.specs.Prelude.{◌≡◌, ◌<◌, ◌++◌, true, length};
 ghost use Rattle.redo_record.specs.RecordSet.{packets_of};
 ghost use Rattle.writer_core.specs.Logs.{log_of, is_growing};
 
-use crate::lookup::record_at;
+use crate::lookup::{record_at, run_before};
 use redo_record::{RecordSet, Records, SharedRecord};
 use std::alloc::{AllocError, Global};
 
@@ -20,11 +20,12 @@ pub struct Log {
 }
 
 impl Log {
-    ghost use Rattle.std.specs.Prelude.{◌≤◌, ◌+◌, [], ◌∷◌, drop, take, slice_index_or, option_copied, option_map, OnOk, OnErr};
+    ghost use Rattle.std.specs.Prelude.{◌≤◌, ◌+◌, [], ◌∷◌, drop, map, take, slice_index_or, option_copied, option_map, OnOk, OnErr};
     ghost use Rattle.volume_model.specs.Redo.{last_lsn, record_at};
     ghost use Rattle.volume_model.specs.ClientPoints.{is_consistency_point};
     ghost use Rattle.redo_record.specs.SharedRecord.{shared_redo};
     ghost use Rattle.redo_record.specs.RecordSet.{records_of};
+    ghost use Rattle.writer_core.specs.Ending.{EndsWith};
     ghost use Rattle.writer_core.specs.Logs.{log_of_set};
     ghost use Rattle.writer_core.specs.Log.{found_of, packets_in, log_in, log_left, room_in};
 
@@ -68,6 +69,19 @@ impl Log {
             }
         } else {
             &self.issued[place - self.begun]
+        }
+    }
+
+    /// Returns the records that are right before an index: those of one run, or those that were issued.
+    pub(crate) fn before(&self, place: usize) -> &[SharedRecord]
+        requires within { place ≤ length (packets_in self.now) }
+        ensures some { 0 < place → 0 < length result.now }
+        ensures before { EndsWith result.now place (map shared_redo (packets_in self.now)) }
+    {
+        if place > self.begun {
+            &self.issued[..place - self.begun]
+        } else {
+            run_before(self.found.runs(), place)
         }
     }
 

@@ -1,11 +1,14 @@
-//! Looks up records in a list in order of LSN.
+//! Looks up records in lists and runs in order of LSN.
 
-ghost use Rattle.std.specs.Prelude.{◌≡◌, true, option_copied, option_map};
+ghost use Rattle.std.specs.Prelude.{◌≡◌, ◌<◌, ◌≤◌, length, true, option_copied, option_map};
 ghost use Rattle.volume_model.specs.Redo.{last_lsn, record_at};
+ghost use Rattle.redo_record.specs.Joined.{joined};
+ghost use Rattle.redo_record.specs.Run.{runs_in};
 ghost use Rattle.redo_record.specs.SharedRecord.{shared_redo};
+ghost use Rattle.writer_core.specs.Ending.{EndsWith};
 ghost use Rattle.writer_core.specs.Logs.{log_of, is_growing};
 
-use redo_record::SharedRecord;
+use redo_record::{Run, SharedRecord};
 
 /// Returns the record with this LSN, if there is one.
 pub fn record_at(log: &[SharedRecord], lsn: u64) -> Option<&SharedRecord>
@@ -19,4 +22,21 @@ pub fn record_at(log: &[SharedRecord], lsn: u64) -> Option<&SharedRecord>
     } else {
         None
     }
+}
+
+/// Returns the records of a run that are right before a place in all runs.
+pub fn run_before(runs: &[Run], place: usize) -> &[SharedRecord]
+    requires within { place ≤ length (joined (runs_in runs.now)) }
+    ensures some { 0 < place → 0 < length result.now }
+    ensures before { EndsWith result.now place (joined (runs_in runs.now)) }
+{
+    let mut left = place;
+    for run in runs {
+        let packets = run.as_slice();
+        if left <= packets.len() {
+            return &packets[..left];
+        }
+        left -= packets.len();
+    }
+    &[]
 }

@@ -3,7 +3,7 @@
 ghost use Rattle.std.specs.Prelude.{◌≡◌, ◌≤◌, true, length};
 ghost use Rattle.writer_core.specs.Logs.{log_of_set, is_growing};
 ghost use Rattle.writer_core.specs.Log.{log_in, packets_in};
-ghost use Rattle.writer_core.specs.LastLsns.{AreLastLsnsOfPrefix};
+ghost use Rattle.writer_core.specs.LastLsns.{AreLastsOf};
 ghost use Rattle.writer_core.specs.DurabilityTracker.{CoversLog};
 ghost use Rattle.writer_core.specs.Groups.{groups_in, group_states_plan};
 ghost use Rattle.writer_core.specs.Raised.{AreRaised, HaveJoined};
@@ -32,14 +32,14 @@ pub struct Writer {
     volume: u32,
     lineage: Lineage,
     log: Log,
-    /// The last LSN of each group and block in the log's prefix. A transaction enters the rest of the log first.
+    /// The last LSN of each group and block.
     last_lsns: LastLsns,
     /// How much of the log is covered by the points of its groups.
     durability: DurabilityTracker,
     ghost assigned: { 1 ≤ volume },
     ghost raised: { AreRaised (group_states_plan group_states) (groups_in group_states) },
     ghost joined: { HaveJoined (group_states_plan group_states) (groups_in group_states) },
-    ghost front: { AreLastLsnsOfPrefix last_lsns (packets_in log) },
+    ghost lasts: { AreLastsOf last_lsns (packets_in log) },
     ghost covers: { CoversLog durability (group_point_of (groups_in group_states)) (packets_in log) },
 }
 
@@ -73,7 +73,7 @@ impl Writer {
             volume: 1,
             lineage: Lineage::birth(alloc)?,
             log: Log::begin(alloc, RecordSet::new(alloc)),
-            last_lsns: LastLsns::new(alloc),
+            last_lsns: LastLsns::new(alloc, 0),
             durability: DurabilityTracker::none(),
         })
     }
@@ -99,7 +99,7 @@ impl Writer {
         group_states.raise();
         let alloc = group_states.alloc();
         let log = Log::begin(alloc, found);
-        let last_lsns = LastLsns::new(alloc);
+        let last_lsns = LastLsns::new(alloc, log.len());
         let mut durability = DurabilityTracker::none();
         durability.follow(&log, &group_states);
         Writer {
@@ -389,8 +389,8 @@ impl Writer {
                 Ok(messages)
             }
             Err(fault) => {
-                self.last_lsns.go_back(&self.log, length);
                 self.log.truncate(length);
+                self.last_lsns = LastLsns::new(alloc, length);
                 Err(fault)
             }
         }

@@ -1,4 +1,4 @@
-use Rattle.std.proofs.Common.{arith, ◌≡◌, refl, sym, ℕ, ap, subst, ◌∙◌, ◌++◌, ◌∷◌, [], nat_eq, ◌+◌, length}
+use Rattle.std.proofs.Common.{arith, ◌≡◌, ℕ, ap, ◌∙◌, ◌++◌, ◌∷◌, [], nat_eq, ◌+◌, length}
 use Rattle.volume_model.specs.Redo.{Redo}
 use Rattle.volume_model.specs.Message as model
 use Rattle.volume_model.specs.Client.{place_of, label_of}
@@ -8,11 +8,8 @@ use Rattle.wire.specs.Message.{message_of}
 use Rattle.redo_record.specs.SharedRecord.{shared_redo}
 use Rattle.writer_core.specs.Logs.{log_of}
 use Rattle.writer_core.specs.Log.{packets_in}
-use Rattle.writer_core.specs.LastLsns.{IsLinked, AreLinkedFrom}
 use Rattle.writer_core.specs.Changes.{change_of}
 use Rattle.writer_core.specs.Groups.{groups_in}
-use Rattle.writer_core.proofs.Entering.{all-front}
-use Rattle.writer_core.proofs.Leaving.{linked-pushed}
 use Rattle.writer_core.proofs.OneMore.{IsGood, good_here, logged_on, written_on, room_on, good_on, front_on, messages_on}
 use Rattle.writer_core.proofs.issuing.append.Goals as goal
 
@@ -26,28 +23,6 @@ pub next_packet-requires-clause-place : goal.next_packet-requires-clause-place
 next_packet-requires-clause-place c =
     let groups = length (groups_in c.args.group_states.now) in
     (good_here groups c.args.changes.now c.loop-i.i c.index-changes-i.result c.loop-i-test.true c.index-changes-i.is c.loop-i.invariant.good).place
-
--- ---- the message can't be made, or has no room: the record stands in the log, and is entered
-
-pub returns-in_err-message-clause-last_lsns : goal.returns-in_err-message-clause-last_lsns
-returns-in_err-message-clause-last_lsns c = rw c.push_reserved.ensures.packets (all-front c.next_packet.new.last_lsns _ c.in_ok-packet.ensures.entered)
-
-pub returns-in_err-message-clause-linked : goal.returns-in_err-message-clause-linked
-returns-in_err-message-clause-linked c =
-    let records = packets_in c.loop-i.log in
-    let p = c.in_ok-packet.packet in
-    let linked : AreLinkedFrom (length (packets_in c.args.log.now)) records = subst (λ n. AreLinkedFrom n records) (ap length c.reserve.ensures.packets) c.loop-i.invariant.linked in
-    rw c.push_reserved.ensures.packets (linked-pushed (length (packets_in c.args.log.now)) records p (subst (λ s. IsLinked s (log_of records)) (sym c.in_ok-packet.ensures.made) (record { group = refl; block = refl })) linked)
-
-pub returns-in_err-add-clause-last_lsns : goal.returns-in_err-add-clause-last_lsns
-returns-in_err-add-clause-last_lsns c = rw c.push_reserved.ensures.packets (all-front c.next_packet.new.last_lsns _ c.in_ok-packet.ensures.entered)
-
-pub returns-in_err-add-clause-linked : goal.returns-in_err-add-clause-linked
-returns-in_err-add-clause-linked c =
-    let records = packets_in c.loop-i.log in
-    let p = c.in_ok-packet.packet in
-    let linked : AreLinkedFrom (length (packets_in c.args.log.now)) records = subst (λ n. AreLinkedFrom n records) (ap length c.reserve.ensures.packets) c.loop-i.invariant.linked in
-    rw c.push_reserved.ensures.packets (linked-pushed (length (packets_in c.args.log.now)) records p (subst (λ s. IsLinked s (log_of records)) (sym c.in_ok-packet.ensures.made) (record { group = refl; block = refl })) linked)
 
 pub loop-i-preserved : goal.loop-i-preserved
 loop-i-preserved c =
@@ -68,7 +43,7 @@ loop-i-preserved c =
     let said : message_of message ≡ model.Message.Write (change_of change).group (label_of volume places (change_of change).group) (shared_redo p) =
     c.in_ok-message.ensures ∙ c.carry.ensures ∙ ap (λ (g : ℕ). model.Message.Write g (label_of volume places g) (shared_redo p)) (ap (λ (s : Redo). s.group) made) in
     record {
-      last_lsns = rw logs c.in_ok-packet.ensures.entered;
+      lasts = rw logs c.in_ok-packet.ensures.entered;
       spare = omega (arith, c.push_reserved.ensures.room, c.loop-i.invariant.spare, within);
       room = rw logs (room_on volume start places changes i change within is records p made c.loop-i.invariant.room);
       good = (good_on volume start places changes i change within is records p made (length (groups_in c.args.group_states.now)) c.loop-i.invariant.good).1;
@@ -76,8 +51,4 @@ loop-i-preserved c =
       written = rw (logs, messages) (messages_on (listed c.loop-i.messages) message _ _ (written_on volume start places changes i change within is records p made _ said) ∙ c.loop-i.invariant.written);
       front = rw logs (front_on records p _ c.loop-i.invariant.front);
       found = c.push_reserved.ensures.found ∙ c.loop-i.invariant.found;
-      linked = rw logs (linked-pushed _ records p (subst (λ s. IsLinked s (log_of records)) (sym made) (record { group = refl; block = refl })) c.loop-i.invariant.linked);
     }
-
-pub returns-clause-last_lsns : goal.returns-clause-last_lsns
-returns-clause-last_lsns c = all-front c.loop-i.last_lsns (packets_in c.loop-i.log) c.loop-i.invariant.last_lsns

@@ -6,14 +6,14 @@ use Rattle.volume_model.specs.ClientWriter.{is_change, issued_log, issued_writes
 use Rattle.wire.specs.Listed.{listed}
 use Rattle.wire.specs.Message.{messages_of}
 use Rattle.writer_core.specs.Log.{found_of, log_in, packets_in, room_in}
-use Rattle.writer_core.specs.LastLsns.{AreLastsOfAll, AreLinkedFrom}
+use Rattle.writer_core.specs.LastLsns.{AreLastsOf}
 use Rattle.writer_core.specs.Groups.{groups_in}
 use Rattle.writer_core.specs.Changes.{changes_of}
 use Rattle.writer_core.proofs.issuing.append.Given as goal
 
 abbrev pub invariant-loop-i : goal.invariant-loop-i
 invariant-loop-i l = record {
-  last_lsns : AreLastsOfAll l.last_lsns (packets_in l.log);
+  lasts : AreLastsOf l.last_lsns (packets_in l.log);
   spare : length l.changes - l.i ≤ room_in l.log;
   room : max (last_lsn (log_in l.log)) l.span.start + length (drop l.i l.changes) ≤ 2 ^ 62;
   good : every (is_change (length (groups_in l.group_states))) (changes_of (drop l.i l.changes)) ≡ true;
@@ -22,5 +22,4 @@ invariant-loop-i l = record {
       ≡ messages_of (listed l.initial.messages) ++ issued_writes l.span.volume (place_of (groups_in l.group_states)) l.span.start (changes_of l.changes) (log_in l.initial.log);
   front : take (length (packets_in l.initial.log)) (packets_in l.log) ≡ packets_in l.initial.log;
   found : found_of l.log ≡ found_of l.initial.log;
-  linked : AreLinkedFrom (length (packets_in l.initial.log)) (packets_in l.log);
 }

@@ -26,7 +26,7 @@ invariant_of-self c =
       assigned = self.assigned;
       raised = subst (λ p. AreRaised p (groups_in c.count.new.self)) (sym c.in_err-count.ensures.plan) (subst (AreRaised plan) (sym same) self.raised);
       joined = subst (λ p. HaveJoined p (groups_in c.count.new.self)) (sym c.in_err-count.ensures.plan) (subst (HaveJoined plan) (sym same) self.joined);
-      front = self.front;
+      lasts = self.lasts;
       covers = subst (λ (gs : List ClientGroup). CoversLog self.durability (group_point_of gs) (packets_in self.log)) (sym same) self.covers;
     }
 
@@ -47,7 +47,7 @@ invariant_of-self-then-has_joined c =
           (subst (AreRaised plan) (sym counted) (counted_raised plan old ack.group ack.from ack.scl self.raised low));
       joined = subst (λ p. HaveJoined p (groups_in c.count.new.self)) (sym c.in_ok-count.ensures.plan)
           (subst (HaveJoined plan) (sym counted) (counted_joined plan old ack.group ack.from ack.scl self.joined there));
-      front = self.front;
+      lasts = self.lasts;
       covers = covers-same self.durability (group_point_of old) (group_point_of (groups_in c.count.new.self)) (packets_in self.log)
           (λ k. sym (ap (λ gs. group_point_of gs k) counted ∙ group_point_of-counted_in old ack.group ack.from ack.scl k)) self.covers;
     }

@@ -27,7 +27,7 @@ invariant_of-self-in-Break-branch-3 c =
       assigned = self.assigned;
       raised = subst (λ p. AreRaised p (groups_in c.follow.new.self)) (sym c.in_err-follow.ensures.plan) (subst (AreRaised plan) (sym same) self.raised);
       joined = subst (λ p. HaveJoined p (groups_in c.follow.new.self)) (sym c.in_err-follow.ensures.plan) (subst (HaveJoined plan) (sym same) self.joined);
-      front = self.front;
+      lasts = self.lasts;
       covers = subst (λ (gs : List ClientGroup). CoversLog self.durability (group_point_of gs) (packets_in self.log)) (sym same) self.covers;
     }
 
