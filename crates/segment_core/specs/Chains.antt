@@ -1,12 +1,31 @@
--- The complete point and the pending records of a group.
-use Rattle.std.specs.Prelude.{◌≡◌, ℕ, List}
+-- The complete point of a group's records, and whether they form a line.
+use Rattle.std.specs.Prelude.{◌≡◌, ◌==◌, ◌&&◌, ◌⊎◌, ℕ, zero, suc, Bool, true, nat_le, if◌then◌else◌, List, [], ◌∷◌}
+use Rattle.volume_model.specs.Lists.{IsIn}
 use Rattle.volume_model.specs.Redo.{Redo, scl}
 use Rattle.segment_core.specs.declared.chains.Chains.{Chains}
-use Rattle.segment_core.specs.Pending.{IsPending}
-use Rattle.segment_core.specs.PendingRecords.{IsPendingIn}
 
--- The chains are those of these records: the complete point is right, and the pending records are those that are kept.
+-- no record links to an LSN below that of the record before it in order, nor the first one to an LSN below n
+abbrev pub is_line : ℕ → List Redo → Bool
+is_line n [] = true
+is_line n (r ∷ rest) = nat_le n r.prev_group && is_line r.lsn rest
+
+-- the LSN of the record before an index; n at the beginning
+abbrev pub lsn_before : ℕ → List Redo → ℕ → ℕ
+lsn_before n records zero = n
+lsn_before n [] (suc index) = n
+lsn_before n (r ∷ rest) (suc index) = lsn_before r.lsn rest index
+
+-- the last LSN of the longest beginning in which each record links to the one before it, the first one to n; n if it is
+-- empty
+abbrev pub chain_end : ℕ → List Redo → ℕ
+chain_end n [] = n
+chain_end n (r ∷ rest) = if r.prev_group == n then chain_end r.lsn rest else n
+
+-- the record links to 0 or to one of these
+abbrev pub IsLinkedTo : List Redo → Redo → Type 0
+IsLinkedTo records r = (r.prev_group ≡ 0) ⊎ ((s : Redo) × IsIn s records × (s.lsn ≡ r.prev_group))
+
+-- The chains are those of these records.
 pub record AreChainsOf (records : List Redo) (chains : Chains) : Type 0 where
-  pub kept : (k m : ℕ) → IsPending records k m → IsPendingIn chains.pending k m
-  pub add_pending : (k m : ℕ) → IsPendingIn chains.pending k m → IsPending records k m
+  pub line : chains.is_line ≡ true → is_line 0 records ≡ true
   pub point : chains.point ≡ scl records

@@ -8,4 +8,4 @@ use Rattle.segment_core.proofs.block_list.BlockList.ends_by.Goals as goal
 pub returns-in-Some : goal.returns-in-Some
 returns-in-Some c h =
     let low : c.lsn.result ≤ c.args.point = leb-true c.lsn.result c.args.point h in
-    last-greatest (redos_in c.args.self.now) (shared_redo c.in-Some.last.now) c.args.point c.args.self.now.records.in_order c.in-Some.ensures (omega arith)
+    last-greatest (redos_in c.args.self.now) (shared_redo c.in-Some.last.now) c.args.point c.args.self.now.in_order c.in-Some.ensures (omega arith)

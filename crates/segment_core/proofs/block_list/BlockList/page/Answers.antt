@@ -11,5 +11,6 @@ returns-in-Some-clause-page c =
 
 pub invariant_of-self : goal.invariant_of-self
 invariant_of-self c = record {
-  all_applied = page-kept (redos_in c.args.self.now) c.args.block c.args.point c.in_ok-new.field-0 (c.in_ok-new.ensures.ok ∙ c.page_of_set-page.ensures) c.requires (c.ends_by.ensures c.if-not-ends_by.false);
+  in_order = c.args.self.now.in_order;
+  all_applied = page-kept (redos_in c.args.self.now) c.args.block c.args.point c.in_ok-new.field-0 (c.in_ok-new.ensures.ok ∙ c.page-page.ensures) c.requires (c.ends_by.ensures c.if-not-ends_by.false);
 }

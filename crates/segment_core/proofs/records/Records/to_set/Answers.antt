@@ -6,6 +6,6 @@ use Rattle.segment_core.proofs.records.Records.to_set.Goals as goal
 
 pub invariant_of-self : goal.invariant_of-self
 invariant_of-self c = record {
-  chained = subst (λ (rs : List Redo). ∥ AreChainsOf rs c.args.self.now.chains ∥₁) (sym c.share.ensures) c.args.self.now.chained;
+  chained = subst (λ (rs : List Redo). AreChainsOf rs c.args.self.now.chains) (sym c.share.ensures) c.args.self.now.chained;
   parted = subst (λ (rs : List Redo). ∥ IsIndexOf rs c.args.self.now.index ∥₁) (sym c.share.ensures) c.args.self.now.parted;
 }

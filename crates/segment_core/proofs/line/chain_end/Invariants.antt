@@ -1,0 +1,12 @@
+use Rattle.std.proofs.Common.{◌-◌, drop, length}
+use Rattle.redo_record.specs.RecordSet.{records_of, runs_of}
+use Rattle.redo_record.specs.RunPlaces.{index_of}
+use Rattle.segment_core.specs.Chains as chains
+use Rattle.segment_core.proofs.Lines.{IsOnTheWay}
+use Rattle.segment_core.proofs.line.chain_end.Given as goal
+
+abbrev pub invariant-loop-packet : goal.invariant-loop-packet
+invariant-loop-packet l = IsOnTheWay (runs_of l.set) l.next l.last (chains.chain_end l.lsn (drop (index_of (runs_of l.set) l.fn.place) (records_of l.set)))
+
+abbrev pub decreases-loop-packet : goal.decreases-loop-packet
+decreases-loop-packet l = length (records_of l.set) - index_of (runs_of l.set) l.next
