@@ -1,12 +1,17 @@
-use Rattle.std.proofs.Common.{List, sym, ap, ◌∙◌}
+use Rattle.std.proofs.Common.{List, length, Err, sym, ap, ◌∙◌, subst}
+use Rattle.volume_model.specs.declared.fault.Fault.TheVariants.{NoActor}
 use Rattle.volume_model.specs.Journal.{Entry, world_at}
+use Rattle.volume_model.specs.Judging.{Exact}
 use Rattle.volume_model.specs.Lists.{numbered}
 use Rattle.volume_model.specs.World.{World}
+use Rattle.volume_model.specs.World.Event.{Deliver}
 use Rattle.wire.specs.Listed.{listed}
 use Rattle.wire.specs.Message.{messages_of}
 use Rattle.segment_core.specs.Prepared.{step_of}
 use Rattle.segment_core.specs.Segment.{node_of}
 use Rattle.journal.specs.Passes.{journal_of, message_ref_message, message_ref_number, marked, seen_at}
+use Rattle.node_fleet.specs.declared.halt.Halt.{Halt}
+use Rattle.node_fleet.specs.RecordsAttempt.{IsExact}
 use Rattle.node_fleet.proofs.NodeSteps.{answers, becomes, not_joined, same_of, there_joined, unjoined_delivery}
 use Rattle.node_fleet.proofs.node.NodeActor.receive.Goals as goal
 
@@ -15,6 +20,20 @@ refused-requires-clause-exact g c =
     let node = c.args.self.now in
     let now = world_at g.L.Site.plan (journal_of c.catch_up_and_reserve.new.log) in
     unjoined_delivery g.L.Site.plan now node.group node.member c.number.result (not_joined now node.group c.from.result c.joined.result c.joined.ensures c.from.ensures c.if-from-joined.true)
+
+pub returns-then-from-joined-clause-exact : goal.returns-then-from-joined-clause-exact
+returns-then-from-joined-clause-exact g c =
+    let plan = g.L.Site.plan in
+    let slots = g.L.Site.slots in
+    let cells = length g.L.Site.cells in
+    let node = c.args.self.now in
+    let number = message_ref_number c.args.message_ref.now in
+    let es = journal_of c.catch_up_and_reserve.new.log in
+    let now = world_at plan es in
+    let here : Exact plan slots cells es (Deliver node.group node.member c.number.result) NoActor = unjoined_delivery plan now node.group node.member c.number.result (not_joined now node.group c.from.result c.joined.result c.joined.ensures c.from.ensures c.if-from-joined.true) in
+    let named : Exact plan slots cells es (Deliver node.group node.member number) NoActor = subst (λ n. Exact plan slots cells es (Deliver node.group node.member n) NoActor) (c.number.ensures ∙ c.has.ensures.message_ref.0) here in
+    subst (λ (h : Halt). IsExact plan slots cells (journal_of c.args.log.now) (Deliver node.group node.member number) (Err h)) (sym c.refused.ensures.halt)
+    (subst (λ (es : List Entry). Exact plan slots cells es (Deliver node.group node.member number) NoActor) (c.catch_up_and_reserve.ensures.log ∙ c.has.ensures.log) named)
 
 pub enter-requires-clause-goes : goal.enter-requires-clause-goes
 enter-requires-clause-goes g c =
