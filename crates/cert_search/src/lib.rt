@@ -16,6 +16,7 @@ mod searching;
 mod steal_handle;
 mod table;
 mod taking_back;
+mod tree_search;
 mod useful_workers;
 mod working;
 

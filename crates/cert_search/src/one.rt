@@ -11,12 +11,12 @@ ghost use Rattle.cert_search.specs.Answers.{rule_in, IsAnswer};
 ghost use Rattle.cert_search.specs.Plain.{IsPlain};
 
 use crate::plain::plain_tree;
+use crate::tree_search::{Tree, find_tree};
 use bumpalo::Bump;
 use quorum_checker::{Claim, check, children};
 use quorum_expr::Expr;
 use refutation::{Certificate, Refutation};
 use std::alloc::{Allocator, Global};
-use tree_search::{Tree, find_tree};
 use volume_model::Fault;
 
 /// With a budget of this many nodes or more each plain claim is found: its tree has at most as many.

@@ -1,7 +1,7 @@
 //! The place of a certificate's fault.
 
 use crate::trail::Trail;
-use json_node::{Node, TapeNode, count_items};
+use quorum_expr::{Node, TapeNode, count_items};
 use refutation::{MAX_DEPTH, MAX_LIST, MAX_NODES, has_keys, number_to};
 use std::alloc::AllocError;
 

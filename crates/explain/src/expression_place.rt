@@ -1,8 +1,7 @@
 //! The place of an expression's fault.
 
 use crate::trail::Trail;
-use json_node::{Node, TapeItems, TapeNode, count_items};
-use quorum_expr::{Lists, MemberSet};
+use quorum_expr::{Lists, MemberSet, Node, TapeItems, TapeNode, count_items};
 use std::alloc::AllocError;
 
 /// The most levels of an expression.

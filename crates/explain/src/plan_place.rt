@@ -3,9 +3,8 @@
 use crate::certificate_place::certificate_fault;
 use crate::expression_place::expression_fault;
 use crate::trail::{Step, Trail};
-use json_node::{Node, TapeNode, count_items};
 use plan::Format;
-use quorum_expr::{Lists, MemberSet};
+use quorum_expr::{Lists, MemberSet, Node, TapeNode, count_items};
 use refutation::has_keys;
 use std::alloc::AllocError;
 

@@ -4,8 +4,8 @@ use crate::json_walk::{LEVELS, walk_over};
 use crate::plan_place::plan_fault;
 use crate::trail::{Step, Trail, add_path};
 use json::{Reader, Scratch, Tape};
-use json_node::tape_root;
 use plan::PLAN_BYTES;
+use quorum_expr::tape_root;
 use serde::Serialize;
 use std::alloc::{AllocError, Global};
 

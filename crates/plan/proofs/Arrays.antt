@@ -5,7 +5,7 @@ use Rattle.std.specs.FinSet.{empty}
 use Rattle.std.proofs.lemmas.Bool.Decides.{nat_tests}
 use Rattle.serde_json.specs.Data.{Data, null, boolean, number, string, array, object}
 use Rattle.serde_json.specs.Events.{items_len}
-use Rattle.json_node.specs.Nodes.{items_in}
+use Rattle.quorum_expr.specs.Nodes.{items_in}
 use Rattle.volume_model.specs.declared.fault.Fault.TheVariants.{Malformed}
 use Rattle.plan.specs.PlanText.{members_from, members_of, some_members_of}
 

@@ -5,7 +5,7 @@ use Rattle.json.specs.Token.{begin_array, end_array}
 use Rattle.json.specs.Written.{Written}
 use Rattle.serde_json.specs.Data.{unsigned, negative, float, Data, null, boolean, number, string, array, object, Items, no_items, item}
 use Rattle.serde_json.specs.Find.{as_array, as_number, as_u64}
-use Rattle.json_node.specs.Nodes.{items_in}
+use Rattle.quorum_expr.specs.Nodes.{items_in}
 use Rattle.refutation.specs.Writing.{number_data}
 use Rattle.plan.specs.Puts.{Puts, PutsToken, Lists}
 use Rattle.plan.proofs.Joined.{joined, joined-one}

@@ -4,9 +4,9 @@ use Rattle.std.specs.Prelude.{codes}
 use Rattle.serde_json.specs.Data.{Data, null, boolean, number, string, array, object, Members, no_members, member}
 use Rattle.serde_json.specs.Events.{members_len}
 use Rattle.serde_json.specs.Find.{get}
-use Rattle.json_node.specs.Nodes.{keys_up_to}
-use Rattle.json_node.proofs.Exact.{exact}
-use Rattle.json_node.proofs.Sorted.{IsInOrder}
+use Rattle.quorum_expr.specs.Nodes.{keys_up_to}
+use Rattle.quorum_expr.proofs.Exact.{exact}
+use Rattle.quorum_expr.proofs.Sorted.{IsInOrder}
 
 abbrev pub two_keys : Data → Data → Members
 two_keys k of = member (codes "k") k (member (codes "of") of no_members)

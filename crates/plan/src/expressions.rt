@@ -1,7 +1,7 @@
 //! Writes the expressions of a tape as they were read.
 
 ghost use Rattle.std.specs.Prelude.{OnSome};
-ghost use Rattle.json_node.specs.Tapes.{data_of};
+ghost use Rattle.quorum_expr.specs.Tapes.{data_of};
 ghost use Rattle.plan.specs.Known.{EndsThreshold};
 ghost use Rattle.plan.specs.Puts.{Puts};
 
@@ -9,7 +9,7 @@ use crate::puts::{
     close_array, close_object, open_array, open_object, put_key, put_number, put_text,
 };
 use json::Writer;
-use json_node::{Node, TapeNode};
+use quorum_expr::{Node, TapeNode};
 
 /// The most levels of an expression.
 const LEVELS: u8 = 6;

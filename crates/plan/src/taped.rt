@@ -18,7 +18,7 @@ use crate::reading::read_plan_at;
 use crate::sizes::room_for;
 use crate::written::put_plan;
 use json::{Error, Scratch, Tape, Writer};
-use json_node::tape_root;
+use quorum_expr::tape_root;
 use refutation::Certificate;
 use std::alloc::{AllocError, Global};
 use std::marker::Model;

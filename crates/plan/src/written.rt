@@ -1,8 +1,8 @@
 //! Writes the plan of a tape with other certificates.
 
 ghost use Rattle.std.specs.Prelude.{◌≡◌, ◌<◌, OnSome, drop};
-ghost use Rattle.json_node.specs.Nodes.{items_in};
-ghost use Rattle.json_node.specs.Tapes.{data_of};
+ghost use Rattle.quorum_expr.specs.Nodes.{items_in};
+ghost use Rattle.quorum_expr.specs.Tapes.{data_of};
 ghost use Rattle.plan.specs.Rewriting.{fields_object, meets_value, step_value, configuration_written, group_written, plan_written};
 ghost use Rattle.plan.specs.TextForms.{fields_data};
 ghost use Rattle.plan.specs.Certificates.{certificate_values};
@@ -18,7 +18,7 @@ use crate::puts::{
 };
 use crate::reading::{fields_at, group_array, header};
 use json::Writer;
-use json_node::{Node, TapeNode, count_items};
+use quorum_expr::{Node, TapeNode, count_items};
 use refutation::Certificate;
 use std::alloc::Global;
 

@@ -6,7 +6,7 @@ use Rattle.std.proofs.lemmas.Bool.Decides.{nat_tests}
 use Rattle.serde_json.specs.Data.{Data, null, boolean, number, string, array, object, Items, no_items, item}
 use Rattle.serde_json.specs.Events.{members_len, items_len}
 use Rattle.serde_json.specs.Find.{as_number, as_array}
-use Rattle.json_node.specs.Nodes.{items_in, keys_up_to}
+use Rattle.quorum_expr.specs.Nodes.{items_in, keys_up_to}
 use Rattle.volume_model.specs.declared.fault.Fault.{Fault}
 use Rattle.volume_model.specs.declared.fault.Fault.TheVariants.{Malformed}
 use Rattle.volume_model.specs.Answer.{◌>>=◌}

@@ -1,7 +1,7 @@
 -- Views of the types that the reader uses.
 use Rattle.std.specs.Prelude.{◌≡◌, ℕ, ◌+◌, List, [], ◌∷◌, map, Some, None}
 use Rattle.serde_json.specs.Data.{Data}
-use Rattle.json_node.specs.Nodes.{items_in}
+use Rattle.quorum_expr.specs.Nodes.{items_in}
 use Rattle.volume_model.specs.Formula.{Formula}
 use Rattle.quorum_expr.specs.declared.expression.Expr.{Expr}
 use Rattle.quorum_expr.specs.declared.form.Children.{Children}

@@ -4,3 +4,6 @@ pub mod MemberSet
 pub mod MemberSetBits
 pub mod Reading
 pub mod Valid
+pub mod Nodes
+pub mod Placed
+pub mod Tapes

@@ -11,14 +11,15 @@ ghost use Rattle.quorum_expr.specs.Expr.{formula_of};
 ghost use Rattle.quorum_expr.specs.Valid.{nodes, row_nodes, expression_fault};
 ghost use Rattle.quorum_expr.specs.Reading.{at_key, whole_of, child_list_of, child_count, whole_list_of, weights_of};
 ghost use Rattle.quorum_expr.specs.Reading.{good_keys, good_row, choice_of, form_of, children_at, formula_from, formula_at, expression_in};
-ghost use Rattle.json_node.specs.Nodes.{items_in};
+ghost use Rattle.quorum_expr.specs.Nodes.{items_in};
 ghost use Rattle.quorum_expr.specs.Forms.{child_list, form_data, formulas_of, weights_data, HaveWeights};
 
+use crate::counting::count_items;
 use crate::expression::{Expr, wide};
 use crate::form::{Children, Form, ListName, Lists, Weights};
 use crate::member_set::{MEMBERS, MemberSet};
+use crate::node::Node;
 use crate::validity::{LEVELS, NODES};
-use json_node::{Node, count_items};
 use serde_json::Value;
 use std::alloc::Global;
 use volume_model::Fault;

@@ -1,7 +1,7 @@
 //! One level of a JSON node, before its branches are read.
 
 use crate::Side;
-use json_node::{Node, count_items};
+use quorum_expr::{Node, count_items};
 
 /// The name of a rule.
 #[derive(Clone, Copy)]

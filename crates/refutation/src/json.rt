@@ -4,11 +4,10 @@ ghost use Rattle.std.specs.Prelude.{◌≡◌, ◌≢◌, ◌≤◌, IfOk, IfErr
 ghost use Rattle.serde_json.specs.Data.{put as with_member};
 ghost use Rattle.serde_json.specs.View.{view, members_view};
 ghost use Rattle.volume_model.specs.Answer.{Gives};
-ghost use Rattle.json_node.specs.Nodes.{items_in};
+ghost use Rattle.quorum_expr.specs.Nodes.{items_in};
 ghost use Rattle.refutation.specs.Reading.{has_keys, array_of, two_of, number_to, number_at};
 
-use json_node::Node;
-use quorum_expr::{value_at, whole};
+use quorum_expr::{Node, value_at, whole};
 use serde_json::{Map, Value, put};
 use std::alloc::{AllocError, Global};
 use volume_model::Fault;

@@ -3,7 +3,7 @@
 ghost use Rattle.std.specs.Prelude.{◌≡◌, ◌≢◌, IfErr};
 ghost use Rattle.serde_json.specs.View.{view};
 ghost use Rattle.volume_model.specs.Answer.{Gives};
-ghost use Rattle.json_node.specs.Nodes.{items_in};
+ghost use Rattle.quorum_expr.specs.Nodes.{items_in};
 ghost use Rattle.refutation.specs.Refutation.{rule_of};
 ghost use Rattle.refutation.specs.Certificate.{certificate_rule};
 ghost use Rattle.refutation.specs.Forms.{form_data, rules_of};
@@ -15,8 +15,7 @@ use crate::certificate::{Certificate, MAX_DEPTH};
 use crate::form::{Form, RuleName};
 use crate::json::{array, has_keys, listed, number_at, number_to, two};
 use crate::{Refutation, Side};
-use json_node::Node;
-use quorum_expr::value_at;
+use quorum_expr::{Node, value_at};
 use serde_json::Value;
 use std::alloc::Global;
 use volume_model::Fault;

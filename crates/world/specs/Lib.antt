@@ -8,3 +8,7 @@ pub mod Moves
 pub mod Outcomes
 pub mod NodeStates
 pub mod Actors
+pub mod Waiting
+pub mod Lost
+pub mod Readable
+pub mod Onward

@@ -13,7 +13,7 @@ use Rattle.volume_model.specs.Opens.{IsAtItsCut}
 use Rattle.volume_model.specs.Orderly.{IsOrderly}
 use Rattle.volume_model.specs.Outcome as model
 use Rattle.volume_model.specs.Outcome.{writers_in, finds_in}
-use Rattle.progress.specs.Onward.{VolumeGoesOn}
+use Rattle.world.specs.Onward.{VolumeGoesOn}
 use Rattle.writer_core.specs.Log.{log_in}
 use Rattle.writer_core.specs.Logs.{log_of_set}
 use Rattle.lineage.specs.Lineage.{lineage_of}

@@ -17,6 +17,7 @@ mod nodes;
 mod numbering;
 mod orders;
 mod outcome;
+mod progress;
 mod recovering;
 mod running;
 mod split;
@@ -28,5 +29,9 @@ pub use event::{Event, Order};
 pub use node_states::NodeState;
 pub use nodes::{MEMBERS, slot};
 pub use outcome::{Outcome, RecoveryOutcome, WriterOutcome};
+pub use progress::{
+    early_steps_lose, readable_volumes_commit, readable_volumes_recover, volumes_go_on,
+    waiting_keeps_readers,
+};
 pub use recovery::Found;
 pub use running::{promised, run, run_orders};

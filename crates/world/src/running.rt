@@ -11,8 +11,8 @@ use crate::actors::Actors;
 use crate::event::{Event, Order};
 use crate::orders::follow;
 use crate::outcome::Outcome;
+use crate::progress::volumes_go_on;
 use plan::CheckedPlan;
-use progress::volumes_go_on;
 use std::alloc::Global;
 use std::sync::Arc;
 use volume_model::{

@@ -1,7 +1,7 @@
 use Rattle.std.proofs.Common.{◌+◌, ◌*◌}
 use Rattle.serde_json.specs.Events.{items_len}
-use Rattle.json_node.specs.Placed.{items_at, or_none}
-use Rattle.json_node.specs.Tapes.{data_of}
+use Rattle.quorum_expr.specs.Placed.{items_at, or_none}
+use Rattle.quorum_expr.specs.Tapes.{data_of}
 use Rattle.plan.proofs.Copied.{Copies}
 use Rattle.plan.proofs.expressions.+put.Given as goal
 

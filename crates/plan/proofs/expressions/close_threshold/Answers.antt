@@ -1,6 +1,6 @@
 use Rattle.std.proofs.Common.{◌≡◌, ◌∙◌, ap, sym, subst, Some, arith}
-use Rattle.json_node.specs.Tapes.{data_of}
-use Rattle.json_node.proofs.Sorted.{here_in_order}
+use Rattle.quorum_expr.specs.Tapes.{data_of}
+use Rattle.quorum_expr.proofs.Sorted.{here_in_order}
 use Rattle.plan.specs.Known.{EndsThreshold}
 use Rattle.plan.specs.Puts.{Puts}
 use Rattle.plan.proofs.Known.{two_keys, known-two}

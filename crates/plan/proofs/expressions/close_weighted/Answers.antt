@@ -1,7 +1,7 @@
 use Rattle.std.proofs.Common.{sym, subst, refl}
 use Rattle.std.specs.Prelude.{codes}
-use Rattle.json_node.specs.Tapes.{data_of}
-use Rattle.json_node.proofs.Sorted.{here_in_order}
+use Rattle.quorum_expr.specs.Tapes.{data_of}
+use Rattle.quorum_expr.proofs.Sorted.{here_in_order}
 use Rattle.plan.specs.Puts.{Puts}
 use Rattle.plan.proofs.Known.{two_keys, three_keys, known-three}
 use Rattle.plan.proofs.Putting.{then_put, one_more, closed}

@@ -1,5 +1,5 @@
 use Rattle.std.proofs.Common.{Err, ap}
-use Rattle.json_node.proofs.Passing.{read-invalid}
+use Rattle.quorum_expr.proofs.Passing.{read-invalid}
 use Rattle.plan.proofs.TapeTexts.{no-plan}
 use Rattle.plan.proofs.taped.tape_of.Goals as goal
 

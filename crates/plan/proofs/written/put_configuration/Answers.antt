@@ -1,4 +1,4 @@
-use Rattle.json_node.specs.Tapes.{data_of}
+use Rattle.quorum_expr.specs.Tapes.{data_of}
 use Rattle.plan.specs.TextForms.{fields_data}
 use Rattle.plan.specs.Certificates.{certificate_values}
 use Rattle.plan.proofs.Made.{made-configuration}

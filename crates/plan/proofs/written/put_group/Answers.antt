@@ -1,8 +1,8 @@
 use Rattle.std.proofs.Common.{refl}
 use Rattle.std.specs.Prelude.{codes}
 use Rattle.serde_json.specs.Data.{no_members}
-use Rattle.json_node.specs.Nodes.{items_in}
-use Rattle.json_node.specs.Tapes.{data_of}
+use Rattle.quorum_expr.specs.Nodes.{items_in}
+use Rattle.quorum_expr.specs.Tapes.{data_of}
 use Rattle.plan.specs.Certificates.{certificate_values}
 use Rattle.plan.proofs.Made.{made-whole}
 use Rattle.plan.proofs.Putting.{then_put, opened, one_more, closed}

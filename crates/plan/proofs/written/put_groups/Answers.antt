@@ -1,8 +1,8 @@
 use Rattle.std.proofs.Common.{◌≡◌, ◌*◌, ◌-◌, ◌∷◌, ◌∙◌, Ok, ap, subst, arith}
 use Rattle.serde_json.specs.Events.{items_len}
-use Rattle.json_node.specs.Nodes.{items_in}
-use Rattle.json_node.specs.Placed.{items_at, or_none}
-use Rattle.json_node.specs.Tapes.{data_of}
+use Rattle.quorum_expr.specs.Nodes.{items_in}
+use Rattle.quorum_expr.specs.Placed.{items_at, or_none}
+use Rattle.quorum_expr.specs.Tapes.{data_of}
 use Rattle.volume_model.specs.Answer.{◌>>=◌}
 use Rattle.plan.specs.Rewriting.{groups_written}
 use Rattle.plan.specs.Certificates.{certificate_values}

@@ -1,6 +1,6 @@
 use Rattle.std.proofs.Common.{subst}
 use Rattle.std.specs.Prelude.{codes}
-use Rattle.json_node.specs.Tapes.{data_of}
+use Rattle.quorum_expr.specs.Tapes.{data_of}
 use Rattle.plan.specs.TextForms.{header_data}
 use Rattle.refutation.specs.Writing.{number_data}
 use Rattle.plan.specs.Certificates.{certificate_values}

@@ -1,4 +1,0 @@
-pub mod Waiting
-pub mod Lost
-pub mod Readable
-pub mod Onward
