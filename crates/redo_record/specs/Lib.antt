@@ -1,3 +1,4 @@
+pub mod Padding
 pub mod Payload
 pub mod Record
 pub mod SharedRecord

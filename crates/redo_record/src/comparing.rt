@@ -39,14 +39,6 @@ pub fn compare(own: &Record, others: &Record) -> Ordering
         .then(compare_bytes(&own.bytes, &others.bytes))
 }
 
-/// Returns whether two payloads are equal.
-fn are_equal_bytes(own: &Payload, others: &Payload) -> bool
-    ensures { result ≡ same_numbers (length (payload_bytes own.now) ∷ payload_bytes own.now)
-        (length (payload_bytes others.now) ∷ payload_bytes others.now) }
-{
-    own.as_slice() == others.as_slice()
-}
-
 /// Returns whether two records are equal, field by field up to the first difference.
 pub fn are_equal(own: &Record, others: &Record) -> bool
     ensures { result ≡ is_same (redo_of own.now) (redo_of others.now) }
@@ -60,5 +52,5 @@ pub fn are_equal(own: &Record, others: &Record) -> bool
         && own.block == others.block
         && own.offset == others.offset
         && u8::from(own.point) == u8::from(others.point)
-        && are_equal_bytes(&own.bytes, &others.bytes)
+        && own.bytes.is_same(&others.bytes)
 }

@@ -1,6 +1,7 @@
 //! The bytes that a record writes.
 
 ghost use Rattle.std.specs.Prelude.{◌≤◌};
+ghost use Rattle.redo_record.specs.Padding.{IsPadded};
 
 /// The most bytes that a record writes.
 pub const MOST_BYTES: usize = 64;
@@ -12,10 +13,12 @@ pub struct Payload {
     length: u8,
     ghost not_empty: { 1 ≤ length },
     ghost in_place: { length ≤ 64 },
+    ghost padded: { IsPadded place length },
 }
 
 impl Payload {
-    ghost use Rattle.std.specs.Prelude.{◌≡◌, ◌↔◌, length, IsSome, IfSome};
+    ghost use Rattle.std.specs.Prelude.{◌≡◌, ◌↔◌, ◌∷◌, length, IsSome, IfSome};
+    ghost use Rattle.volume_model.specs.Redo.{same_numbers};
     ghost use Rattle.redo_record.specs.Payload.{payload_bytes, HasRoom};
 
     /// Returns these bytes as a payload, if there are 1 to 64.
@@ -33,6 +36,19 @@ impl Payload {
             place,
             length: length as u8,
         })
+    }
+
+    /// Returns whether both have the same bytes. It compares all 64 places, for which the compiler needs no loop.
+    #[inline(always)]
+    pub(crate) fn is_same(&self, other: &Payload) -> bool
+        ensures { result ≡ same_numbers (length (payload_bytes self.now) ∷ payload_bytes self.now)
+            (length (payload_bytes other.now) ∷ payload_bytes other.now) }
+    {
+        let mut same = self.length == other.length;
+        for at in 0..MOST_BYTES {
+            same = same & (self.place[at] == other.place[at]);
+        }
+        same
     }
 
     /// Returns the bytes.
