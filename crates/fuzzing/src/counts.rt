@@ -13,8 +13,6 @@ pub struct Counts {
     pub acknowledged: u64,
     /// The number of recoveries that have cut.
     pub recoveries: u64,
-    /// The number of pairs of a writer and a later recovery that were compared.
-    pub finds: u64,
     /// The number of runs in which the last advance of each group waited.
     pub waited: u64,
 }
@@ -27,7 +25,6 @@ impl Counts {
             events: 0,
             acknowledged: 0,
             recoveries: 0,
-            finds: 0,
             waited: 0,
         }
     }
@@ -38,6 +35,5 @@ impl Counts {
         self.events = self.events.saturating_add(events);
         self.acknowledged = self.acknowledged.saturating_add(shown.acknowledged);
         self.recoveries = self.recoveries.saturating_add(shown.recoveries);
-        self.finds = self.finds.saturating_add(shown.finds);
     }
 }

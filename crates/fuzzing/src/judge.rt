@@ -20,8 +20,6 @@ pub struct Shown {
     pub acknowledged: u64,
     /// Recoveries that have cut.
     pub recoveries: u64,
-    /// Pairs of a writer and a later recovery that were compared.
-    pub finds: u64,
     /// Whether the newest writer has committed a transaction of its own.
     pub continued: bool,
 }
@@ -192,16 +190,14 @@ fn check_pair(writer: Writer, find: Find) -> Result<(), Broken> {
     Ok(())
 }
 
-/// Checks a recovery against all earlier writers. Returns their number.
-fn check_commits(writers: &[Writer], find: Find) -> Result<u64, Broken> {
-    let mut compared = 0u64;
+/// Checks a recovery against all earlier writers.
+fn check_commits(writers: &[Writer], find: Find) -> Result<(), Broken> {
     for writer in writers.iter() {
         if writer.client < find.client {
-            compared = compared.saturating_add(1);
             check_pair(*writer, find)?;
         }
     }
-    Ok(compared)
+    Ok(())
 }
 
 /// Returns how many of a writer's transactions are acknowledged.
@@ -215,17 +211,16 @@ fn acknowledged_by(ends: &[End], writer: Writer) -> u64 {
     acknowledged
 }
 
-/// Checks all recoveries against all earlier writers. Returns the number of pairs.
-pub fn check_promises(outcome: &Outcome) -> Result<u64, Broken> {
+/// Checks all recoveries against all earlier writers.
+pub fn check_promises(outcome: &Outcome) -> Result<(), Broken> {
     for writer in outcome.writers.iter() {
         check_points(outcome, *writer)?;
     }
-    let mut compared = 0u64;
     for find in outcome.finds.iter() {
         check_start(*find)?;
-        compared = compared.saturating_add(check_commits(outcome.writers.as_slice(), *find)?);
+        check_commits(outcome.writers.as_slice(), *find)?;
     }
-    Ok(compared)
+    Ok(())
 }
 
 /// Returns the client of the last transaction that a script issues, 0 if there is none.
@@ -245,7 +240,7 @@ pub fn check_run(
 ) -> Result<Shown, Broken> {
     check_answers(outcome, lines)?;
     let newest = newest_of(issues);
-    let finds = check_promises(outcome)?;
+    check_promises(outcome)?;
     let ends = ends_of(alloc, outcome, issues)?;
     let mut acknowledged = 0u64;
     let mut continued = false;
@@ -261,7 +256,6 @@ pub fn check_run(
     Ok(Shown {
         acknowledged,
         recoveries: outcome.finds.len() as u64,
-        finds,
         continued,
     })
 }

@@ -23,13 +23,5 @@ mod verdicts;
 mod written;
 
 pub use broken::Broken;
-pub use counts::Counts;
-pub use judge::check_promises;
-pub use outcome::Outcome;
-pub use rng::Rng;
-pub use scenario::Scenario;
 pub use schedule::Events;
-pub use shortening::{ScriptTest, shortened};
 pub use simulation::{ScriptRun, ScriptRunner, Simulation, Verdict, simulate};
-pub use text::Text;
-pub use verdicts::CommandOutput;

@@ -1,7 +1,6 @@
-//! Reads back what a run or a fleet prints.
+//! Reads back what a run prints.
 
 use crate::broken::Broken;
-use crate::verdicts::CommandOutput;
 use std::alloc::{AllocError, Global};
 
 /// The answer to a line of the script.
@@ -40,26 +39,17 @@ enum Printed {
     Answer(Answer),
     Writer(Writer),
     Find(Find),
-    Steps(u64),
-    Refused(u64),
-    Journal(bool),
 }
 
 /// The whole output.
 #[derive(Drop)]
 pub struct Outcome {
-    /// The answers to the lines of the script, in order; none in the output of a fleet.
+    /// The answers to the lines of the script, in order.
     pub answers: Vec<Answer>,
     /// The open writers.
     pub writers: Vec<Writer>,
     /// The recoveries that have cut.
     pub finds: Vec<Find>,
-    /// The number of events that were made, in the output of a fleet.
-    pub steps: Option<u64>,
-    /// The number of events that were refused, in the output of a fleet.
-    pub refused: Option<u64>,
-    /// Whether the journal agrees, in the output of a fleet.
-    pub journal: Option<bool>,
     /// The number of lines of any other form.
     pub strange: u64,
 }
@@ -106,8 +96,7 @@ fn of_client(words: [&str; 3], numbers: [u64; 3]) -> Option<Printed> {
 /// Reads a line.
 fn of_line(line: &str) -> Option<Printed> {
     let (words, numbers, counts) = parts(line);
-    let [first, second, _] = words;
-    match (first, counts) {
+    match (words[0], counts) {
         (_, (3, 3)) => of_client(words, numbers),
         ("ok", (1, 2)) => Some(Printed::Answer(Answer {
             line: numbers[0],
@@ -117,9 +106,6 @@ fn of_line(line: &str) -> Option<Printed> {
             line: numbers[0],
             made: None,
         })),
-        ("steps", (1, 1)) => Some(Printed::Steps(numbers[0])),
-        ("refused", (1, 1)) => Some(Printed::Refused(numbers[0])),
-        ("journal", (2, 0)) => Some(Printed::Journal(second == "yes")),
         _ => None,
     }
 }
@@ -130,9 +116,6 @@ impl Outcome {
             answers: Vec::new(alloc),
             writers: Vec::new(alloc),
             finds: Vec::new(alloc),
-            steps: None,
-            refused: None,
-            journal: None,
             strange: 0,
         }
     }
@@ -143,9 +126,6 @@ impl Outcome {
             Some(Printed::Answer(answer)) => self.answers.push(answer)?,
             Some(Printed::Writer(writer)) => self.writers.push(writer)?,
             Some(Printed::Find(find)) => self.finds.push(find)?,
-            Some(Printed::Steps(steps)) => self.steps = Some(steps),
-            Some(Printed::Refused(refused)) => self.refused = Some(refused),
-            Some(Printed::Journal(journal)) => self.journal = Some(journal),
             None => self.strange = self.strange.saturating_add(1),
         }
         Ok(())
@@ -162,7 +142,7 @@ impl Outcome {
         Ok(outcome)
     }
 
-    /// Reads what a run or a fleet prints.
+    /// Reads what a run prints.
     ///
     /// # Errors
     /// That a line has no known form, or that memory ran out.
@@ -173,18 +153,6 @@ impl Outcome {
             return Err(Broken::new("lines of no known form (lines)", numbers));
         }
         Ok(outcome)
-    }
-
-    /// Reads the output of a job.
-    ///
-    /// # Errors
-    /// That the job was refused or a line has no known form, or that memory ran out.
-    pub fn of(alloc: Global, output: &CommandOutput) -> Result<Outcome, Broken> {
-        if output.status > 1 || !output.stderr.is_empty() {
-            let numbers = [u64::from(output.status), 0, 0, 0];
-            return Err(Broken::new("a job reports an error (status)", numbers));
-        }
-        Outcome::of_text(alloc, output.stdout.as_str())
     }
 
     /// Returns the number of lines that weren't refused.

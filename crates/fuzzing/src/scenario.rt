@@ -17,8 +17,6 @@ pub struct Scenario {
     pub script: String,
     /// The number of its lines.
     lines: u64,
-    /// The number of `wait` lines.
-    waits: u64,
     /// The transactions that it issues.
     issues: Vec<Issue>,
 }
@@ -41,7 +39,6 @@ impl Scenario {
         let Written {
             text,
             lines,
-            waits,
             issues,
             ..
         } = written;
@@ -49,14 +46,8 @@ impl Scenario {
         Ok(Scenario {
             script,
             lines,
-            waits,
             issues,
         })
-    }
-
-    /// Returns the number of events of the script.
-    pub fn events(&self) -> u64 {
-        self.lines.saturating_sub(self.waits)
     }
 
     /// Checks what a run of the script prints: an answer to each line, and that the volume's promises are kept.

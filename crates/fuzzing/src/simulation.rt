@@ -65,8 +65,8 @@ struct Tested<'a, R> {
 }
 
 impl<R: ScriptRunner> Tested<'_, R> {
-    /// Checks the promises in a run of a script. Returns the number of pairs of a writer and a later recovery.
-    fn promises(&self, script: &str) -> Result<u64, Broken> {
+    /// Checks the promises in a run of a script.
+    fn promises(&self, script: &str) -> Result<(), Broken> {
         let run = self.runner.run(self.alloc, script)?;
         let outcome = Outcome::of_text(self.alloc, run.text.as_str())?;
         check_promises(&outcome)
@@ -76,7 +76,7 @@ impl<R: ScriptRunner> Tested<'_, R> {
 impl<R: ScriptRunner> ScriptTest for Tested<'_, R> {
     fn is_broken(&self, script: &str) -> bool {
         match self.promises(script) {
-            Ok(_) => false,
+            Ok(()) => false,
             Err(broken) => !broken.is_memory(),
         }
     }

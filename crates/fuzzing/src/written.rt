@@ -51,8 +51,6 @@ pub struct Written {
     pub text: Text,
     /// The number of lines.
     pub lines: u64,
-    /// The number of `wait` lines.
-    pub waits: u64,
     pub issues: Vec<Issue>,
     pub messages: Vec<Message>,
     pub deliveries: Vec<Delivered>,
@@ -64,7 +62,6 @@ impl Written {
         Written {
             text: Text::new(alloc),
             lines: 0,
-            waits: 0,
             issues: Vec::new(alloc),
             messages: Vec::new(alloc),
             deliveries: Vec::new(alloc),
@@ -176,6 +173,5 @@ impl Written {
     /// Adds a `wait` line.
     pub fn wait(&mut self) {
         self.put("wait", &[]);
-        self.waits = self.waits.saturating_add(1);
     }
 }
