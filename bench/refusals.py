@@ -11,9 +11,9 @@ text; `replace` of a member; `run` and `fleet` of two scripts, one that writes t
 memory, or with status 2, nothing on standard output, and `input: 9 NoMemory` on standard error.
 
 With `--calls`, then the calls of the library, by two small programs that are built in other folders, each in some two minutes, without a
-proof and with the run-time checks of `rt try`. Each runs its scenarios twice. `core_stories.py` prints what `TapedPlan`'s calls, `read_plan`, `lent_claims`,
+proof and with the run-time checks of `rt try`. Each runs its scenarios twice. `core_scenarios.py` prints what `TapedPlan`'s calls, `read_plan`, `lent_claims`,
 `claims`, `check`, `check_plan`, `copy_in`, `search_one`, `search_all` by one worker and by three, and `write_plan` answer, over plans of every format, with
-full members and members that keep only the log, with weights, with certificates of each rule, and over texts with faults. `fleet_stories.py`
+full members and members that keep only the log, with weights, with certificates of each rule, and over texts with faults. `fleet_scenarios.py`
 prints the results of a fleet's calls with one pass or three over the same two scripts: each step's numbers, the closed journal and the end of
 the world's run of it. It also compares them with a run in which a member restarts between lines and between the pieces of a copy. An
 allocation fails during the first of the two times. A call that answers `NoMemory` is made again, on the same values, and the scenario goes on
@@ -29,8 +29,8 @@ import tempfile
 
 sys.dont_write_bytecode = True
 from building import TOP, tried
-from core_stories import CORES
-from fleet_stories import FLEETS, SITE
+from core_scenarios import CORES
+from fleet_scenarios import FLEETS, SITE
 
 REFUSING = r"""
 #include <errno.h>
@@ -71,10 +71,10 @@ int posix_memalign(void **to, size_t align, size_t size) {
 }
 """
 
-MAIN = r"""//! Tells stories, in the first of which a growth may be refused.
+MAIN = r"""//! Runs a scenario twice; during the first time a growth may be refused.
 #![tactic(auto)]
 
-mod stories;
+mod scenarios;
 mod texts;
 
 use std::alloc::AllocError;
@@ -82,24 +82,24 @@ use std::process::ExitCode;
 use std::sync::Wait;
 use std::thread::Threads;
 use std::{env, io};
-use stories::told;
+use scenarios::output_of;
 
-/// A story that is told, unless memory ran out around its calls.
-pub type Told = Result<String, AllocError>;
+/// A scenario's output, unless memory ran out around its calls.
+pub type ScenarioOutput = Result<String, AllocError>;
 
-/// Tells the story of a name twice, and prints both where they differ, the second where that is asked for.
+/// Runs the scenario with this name twice. Prints both outputs if they differ, else the second if `aloud`.
 fn compare<H: Threads + Wait + Sync>(
     rt: &HostRuntime,
     threads: &H,
     name: &str,
     aloud: bool,
 ) -> io::Result<()> {
-    // Where memory ran out for what stands around the calls, it is told once more.
-    let first = match told(threads, rt.alloc(), name) {
+    // If memory ran out around the calls, the scenario runs once more.
+    let first = match output_of(threads, rt.alloc(), name) {
         Ok(first) => Ok(first),
-        Err(_) => told(threads, rt.alloc(), name),
+        Err(_) => output_of(threads, rt.alloc(), name),
     };
-    match (first, told(threads, rt.alloc(), name)) {
+    match (first, output_of(threads, rt.alloc(), name)) {
         (Ok(first), Ok(second)) => {
             if aloud || first != second {
                 println!(rt; "{second}")?;
@@ -109,7 +109,7 @@ fn compare<H: Threads + Wait + Sync>(
             }
             Ok(())
         }
-        (_, _) => println!(rt; "a story isn't told"),
+        (_, _) => println!(rt; "a scenario has no output"),
     }
 }
 
@@ -133,8 +133,8 @@ CORE_CRATES = ["volume_model", "quorum_expr", "refutation", "quorum_checker", "p
 FLEET_CRATES = ["volume_model", "plan", "redo_record", "wire", "epochs", "writer_core", "recovery", "world", "board", "journal", "node_fleet"]
 
 # The scenarios with one pass and with three, and those of the cores.
-FLEET_STORIES = ["one pass", "three passes"]
-CORE_STORIES = ["reading", "claims", "checking", "copying", "searching", "searching by three", "writing"]
+FLEET_SCENARIOS = ["one pass", "three passes"]
+CORE_SCENARIOS = ["reading", "claims", "checking", "copying", "searching", "searching by three", "writing"]
 
 PLANS = ["six_copies.json", "member_replaced.json", "every_rule.json", "large_and_small.json", "uncertified.json", "growing.json", "write_three.json", "two_zones.json"]
 
@@ -276,12 +276,12 @@ def sweep_program(refusing, folder, tool):
     return right
 
 
-def sweep_stories(refusing, program, stories):
+def sweep_scenarios(refusing, program, scenarios):
     """Sweeps the scenarios of a program. Returns whether nothing was wrong."""
     right = True
-    for name in stories:
-        told = subprocess.run([program, name, "aloud"], capture_output=True, text=True, check=True).stdout
-        print(f"{name}: {told[:160]}..", flush=True)
+    for name in scenarios:
+        output = subprocess.run([program, name, "aloud"], capture_output=True, text=True, check=True).stdout
+        print(f"{name}: {output[:160]}..", flush=True)
         words = [program, name]
         right &= refusing.sweep(name, words, refusing.growths(words) // 2, lambda *said: said == (0, "", ""))
     return right
@@ -289,32 +289,32 @@ def sweep_stories(refusing, program, stories):
 
 def core_program():
     """The program for the cores: its name, its crates, the texts of its proofs and its modules."""
-    return "core_stories", CORE_CRATES, {}, {"stories": CORES, "texts": constants(plan_texts(), True)}
+    return "core_scenarios", CORE_CRATES, {}, {"scenarios": CORES, "texts": constants(plan_texts(), True)}
 
 
 def fleet_program():
     """The same for a fleet's calls."""
     shown = {"SIX": example_text("six_copies.json"), "REPLACED": example_text("member_replaced.json"), "LONG": example_text("long_log.json")}
-    return "fleet_stories", FLEET_CRATES, {"stories/over/Invariants.antt": SITE}, {"stories": FLEETS, "texts": constants(shown, False)}
+    return "fleet_scenarios", FLEET_CRATES, {"scenarios/over/Invariants.antt": SITE}, {"scenarios": FLEETS, "texts": constants(shown, False)}
 
 
 def sweep_calls(refusing, folder):
     """Sweeps the calls of the library. Returns whether nothing was wrong."""
     right = True
-    for (name, crates, proofs, modules), stories in ((core_program(), CORE_STORIES), (fleet_program(), FLEET_STORIES)):
+    for (name, crates, proofs, modules), scenarios in ((core_program(), CORE_SCENARIOS), (fleet_program(), FLEET_SCENARIOS)):
         work = folder / name
         work.mkdir()
-        program = str(tried(work, name, MAIN, crates, [stories[0]], proofs, modules))
-        right &= sweep_stories(refusing, program, stories)
-        if name == "fleet_stories":
+        program = str(tried(work, name, MAIN, crates, [scenarios[0]], proofs, modules))
+        right &= sweep_scenarios(refusing, program, scenarios)
+        if name == "fleet_scenarios":
             right &= all(compare(program, *one) for one in COMPARED.items())
     return right
 
 
-def compare(program, story, due):
+def compare(program, scenario, due):
     """Compares a program's output for a scenario with the expected one. Returns whether they are equal."""
-    said = subprocess.run([program, story, "aloud"], capture_output=True, text=True).stdout
-    print(f"{story}: {said}", end="", flush=True)
+    said = subprocess.run([program, scenario, "aloud"], capture_output=True, text=True).stdout
+    print(f"{scenario}: {said}", end="", flush=True)
     return said == due
 
 

@@ -37,7 +37,7 @@ struct ClientState {
 
 /// What is known of a run while its lines are read.
 #[derive(Drop)]
-struct Story {
+struct RunState {
     /// The messages that were made.
     sent: Vec<Sent>,
     /// For each event the number of messages that were made before it, and how many it made.
@@ -45,7 +45,7 @@ struct Story {
     clients: Vec<ClientState>,
 }
 
-impl Story {
+impl RunState {
     /// Returns the place of a client, which is added if it is new.
     fn client(&mut self, volume: u32) -> Result<usize, AllocError> {
         let mut place = 0usize;
@@ -145,7 +145,7 @@ fn advanced(client: &mut ClientState, act: Act, finds: &[RecoveryOutcome]) -> Ac
 /// Adds what is drawn of a line, and the messages that it made.
 fn add_row(
     rows: &mut Vec<Row>,
-    story: &mut Story,
+    state: &mut RunState,
     line: u32,
     order: &Order,
     answer: Result<u32, Fault>,
@@ -153,15 +153,15 @@ fn add_row(
 ) -> Result<(), AllocError> {
     let (actor, plain, named) = order_act(order);
     let mut act = match plain {
-        Act::Takes(_) => Act::Takes(story.message(named)),
+        Act::Takes(_) => Act::Takes(state.message(named)),
         _ => plain,
     };
     let (mut has_cut, mut is_open) = (false, false);
     if let Actor::Client(volume) = actor
         && answer.is_ok()
     {
-        let place = story.client(volume)?;
-        if let Some(client) = story.clients.get_mut(place) {
+        let place = state.client(volume)?;
+        if let Some(client) = state.clients.get_mut(place) {
             act = advanced(client, act, finds);
             has_cut = client.has_cut;
             is_open = client.is_open;
@@ -171,7 +171,7 @@ fn add_row(
         Ok(made) => (made, None),
         Err(fault) => (0, Some(fault)),
     };
-    story.add_made(actor, act, has_cut, made)?;
+    state.add_made(actor, act, has_cut, made)?;
     let may_commit = is_open && matches!(act, Act::Takes(_) | Act::Open);
     rows.push(Row {
         line,
@@ -187,7 +187,7 @@ fn add_row(
 /// Adds what is drawn of each line with an event.
 fn add_rows(
     rows: &mut Vec<Row>,
-    story: &mut Story,
+    state: &mut RunState,
     lines: &[u32],
     orders: &[Order],
     outcome: &Outcome,
@@ -197,7 +197,7 @@ fn add_rows(
     for order in orders {
         let line = lines.get(at).copied().unwrap_or(0);
         if let Some(answer) = outcome.results.get(at) {
-            add_row(rows, story, line, order, *answer, finds)?;
+            add_row(rows, state, line, order, *answer, finds)?;
         }
         at = at.saturating_add(1);
     }
@@ -211,12 +211,12 @@ pub(crate) fn rows_of(
     orders: &[Order],
     outcome: &Outcome,
 ) -> Result<Vec<Row>, AllocError> {
-    let mut story = Story {
+    let mut state = RunState {
         sent: Vec::new(alloc),
         made: Vec::new(alloc),
         clients: Vec::new(alloc),
     };
     let mut rows = Vec::new(alloc);
-    add_rows(&mut rows, &mut story, lines, orders, outcome)?;
+    add_rows(&mut rows, &mut state, lines, orders, outcome)?;
     Ok(rows)
 }

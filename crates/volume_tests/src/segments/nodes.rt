@@ -59,7 +59,7 @@ const HYDRATION: &[Input] = &[
 ];
 
 /// Returns the inputs that lead to the node.
-fn story(at: At) -> &'static [Input] {
+fn inputs_before(at: At) -> &'static [Input] {
     match at {
         At::Promised => PROMISE,
         At::Fresh | At::Joined => STEP,
@@ -83,7 +83,7 @@ fn born(alloc: Global, at: At) -> Result<Segment, Fault> {
 /// Returns the node.
 pub fn node(alloc: Global, at: At) -> Result<Segment, Fault> {
     let mut node = born(alloc, at)?;
-    for input in story(at) {
+    for input in inputs_before(at) {
         answer(alloc, &mut node, *input)?;
     }
     if let At::Holding(last) = at {

@@ -10,7 +10,7 @@ ghost use Rattle.plan.specs.PlanText.{plan_of};
 ghost use Rattle.plan.specs.Taped.{HasClaims};
 ghost use Rattle.cert_search.specs.Answers.{rule_in, AreAnswersOf};
 
-use crate::Told;
+use crate::ScenarioOutput;
 use crate::texts::PLANS;
 use cert_search::{Gate, search_all, search_one};
 use plan::{
@@ -282,125 +282,125 @@ fn written_from_text(
 fn of_expression(
     expr: &Expr<Global>,
     members: MemberSet,
-    story: &mut String,
+    output: &mut String,
 ) -> Result<(), AllocError> {
     match valid(expr) {
-        Ok(()) => story.push_str("valid ")?,
-        Err(fault) => write!(story, "{fault} ")?,
+        Ok(()) => output.push_str("valid ")?,
+        Err(fault) => write!(output, "{fault} ")?,
     }
     let mut first = MemberSet::empty();
     for member in 0..64u8 {
         if members.contains(member) {
             first = first.with(member);
-            story.push_str(if holds(expr, first) { "+" } else { "-" })?;
+            output.push_str(if holds(expr, first) { "+" } else { "-" })?;
         }
     }
-    story.push_str(";")
+    output.push_str(";")
 }
 
 /// Adds what a configuration says.
-fn of_configuration(this: &Configuration, story: &mut String) -> Result<(), AllocError> {
+fn of_configuration(this: &Configuration, output: &mut String) -> Result<(), AllocError> {
     let (members, full) = (this.members.len(), this.full.len());
     let (meets, step) = (this.meets.is_some(), this.step.is_some());
-    write!(story, "{members} {full} {meets} {step} ")?;
+    write!(output, "{members} {full} {meets} {step} ")?;
     match this.parent {
-        Some(parent) => write!(story, "{parent};")?,
-        None => story.push_str("root;")?,
+        Some(parent) => write!(output, "{parent};")?,
+        None => output.push_str("root;")?,
     }
-    of_expression(&this.read, this.members, story)?;
-    of_expression(&this.write, this.members, story)
+    of_expression(&this.read, this.members, output)?;
+    of_expression(&this.write, this.members, output)
 }
 
 /// Adds what a plan says.
-fn of_plan(plan: &Plan, story: &mut String) -> Result<(), AllocError> {
+fn of_plan(plan: &Plan, output: &mut String) -> Result<(), AllocError> {
     let (lal, born, groups) = (plan.lal, plan.born, plan.groups.len());
-    write!(story, "plan {lal} {born} {groups};")?;
+    write!(output, "plan {lal} {born} {groups};")?;
     for group in &plan.groups {
         for this in &group.configurations {
-            of_configuration(this, story)?;
+            of_configuration(this, output)?;
         }
     }
     Ok(())
 }
 
 /// Adds how long a text is, and a sum of its bytes by their places.
-fn of_bytes(text: &[u8], story: &mut String) -> Result<(), AllocError> {
+fn of_bytes(text: &[u8], output: &mut String) -> Result<(), AllocError> {
     let mut sum = 0u64;
     for byte in text {
         sum = sum.wrapping_mul(31).wrapping_add(u64::from(*byte));
     }
     let length = text.len();
-    write!(story, "text {length} {sum};")
+    write!(output, "text {length} {sum};")
 }
 
 /// Adds whether a certificate refutes a claim.
-fn of_verdict(verdict: Result<(), FaultAt>, story: &mut String) -> Result<(), AllocError> {
+fn of_verdict(verdict: Result<(), FaultAt>, output: &mut String) -> Result<(), AllocError> {
     match verdict {
-        Ok(()) => story.push_str("refuted;"),
-        Err(fault) => write!(story, "{fault};"),
+        Ok(()) => output.push_str("refuted;"),
+        Err(fault) => write!(output, "{fault};"),
     }
 }
 
 /// `read_plan`
-fn reading(alloc: Global, text: &[u8], story: &mut String) -> Result<(), AllocError> {
+fn reading(alloc: Global, text: &[u8], output: &mut String) -> Result<(), AllocError> {
     match read(alloc, text) {
-        Ok(plan) => of_plan(&plan, story)?,
-        Err(fault) => write!(story, "{fault};")?,
+        Ok(plan) => of_plan(&plan, output)?,
+        Err(fault) => write!(output, "{fault};")?,
     }
     match read_by_plan(alloc, text) {
-        Ok(plan) => of_plan(&plan, story),
-        Err(fault) => write!(story, "{fault};"),
+        Ok(plan) => of_plan(&plan, output),
+        Err(fault) => write!(output, "{fault};"),
     }
 }
 
 /// Adds the sides of a claim.
-fn of_claim(claim: &Claim<Global>, members: MemberSet, story: &mut String) -> Result<(), AllocError> {
+fn of_claim(claim: &Claim<Global>, members: MemberSet, output: &mut String) -> Result<(), AllocError> {
     let clear = claim.clear.len();
-    write!(story, "claim {clear} ")?;
-    of_expression(&claim.left, members, story)?;
-    of_expression(&claim.right, members, story)
+    write!(output, "claim {clear} ")?;
+    of_expression(&claim.left, members, output)?;
+    of_expression(&claim.right, members, output)
 }
 
 /// Adds a claim that is lent, and the same in memory of its own.
-fn of_lent(alloc: Global, lent: &ClaimRef<'_>, story: &mut String) -> Result<(), AllocError> {
+fn of_lent(alloc: Global, lent: &ClaimRef<'_>, output: &mut String) -> Result<(), AllocError> {
     let (group, configuration, step) = (lent.group, lent.configuration, lent.parent.is_some());
-    write!(story, "{group} {configuration} {step} ")?;
+    write!(output, "{group} {configuration} {step} ")?;
     match claim_of(alloc, lent) {
-        Ok(claim) => of_claim(&claim, lent.this.members, story),
-        Err(fault) => write!(story, "{fault};"),
+        Ok(claim) => of_claim(&claim, lent.this.members, output),
+        Err(fault) => write!(output, "{fault};"),
     }
 }
 
 /// Adds a claim that isn't lent.
-fn of_named(named: &NamedClaim, story: &mut String) -> Result<(), AllocError> {
+fn of_named(named: &NamedClaim, output: &mut String) -> Result<(), AllocError> {
     let (group, configuration, step) = (named.group, named.configuration, named.step);
-    write!(story, "{group} {configuration} {step} ")?;
-    of_claim(&named.claim, MemberSet::empty().complement(), story)
+    write!(output, "{group} {configuration} {step} ")?;
+    of_claim(&named.claim, MemberSet::empty().complement(), output)
 }
 
 /// `lent_claims`
-fn lending(alloc: Global, plan: &Plan, story: &mut String) -> Result<(), AllocError> {
+fn lending(alloc: Global, plan: &Plan, output: &mut String) -> Result<(), AllocError> {
     match lent(alloc, plan) {
         Ok(list) => {
             for claim in &list {
-                of_lent(alloc, claim, story)?;
+                of_lent(alloc, claim, output)?;
             }
             Ok(())
         }
-        Err(fault) => write!(story, "{fault};"),
+        Err(fault) => write!(output, "{fault};"),
     }
 }
 
 /// `claims`
-fn listing(alloc: Global, plan: &Plan, story: &mut String) -> Result<(), AllocError> {
+fn listing(alloc: Global, plan: &Plan, output: &mut String) -> Result<(), AllocError> {
     match listed(alloc, plan) {
         Ok(list) => {
             for claim in &list {
-                of_named(claim, story)?;
+                of_named(claim, output)?;
             }
             Ok(())
         }
-        Err(fault) => write!(story, "{fault};"),
+        Err(fault) => write!(output, "{fault};"),
     }
 }
 
@@ -417,12 +417,12 @@ fn checking_claim(
     alloc: Global,
     lent: &ClaimRef<'_>,
     certificate: &Certificate<Global>,
-    story: &mut String,
+    output: &mut String,
 ) -> Result<(), AllocError> {
-    of_verdict(refuted_lent(alloc, lent, certificate), story)?;
+    of_verdict(refuted_lent(alloc, lent, certificate), output)?;
     match claim_of(alloc, lent) {
-        Ok(claim) => of_verdict(refuted(alloc, &claim, certificate), story),
-        Err(fault) => write!(story, "{fault};"),
+        Ok(claim) => of_verdict(refuted(alloc, &claim, certificate), output),
+        Err(fault) => write!(output, "{fault};"),
     }
 }
 
@@ -431,17 +431,17 @@ fn copying_claim(
     alloc: Global,
     lent: &ClaimRef<'_>,
     certificate: &Certificate<Global>,
-    story: &mut String,
+    output: &mut String,
 ) -> Result<(), AllocError> {
     for expr in [&lent.this.read, &lent.this.write] {
         match expression_copied(alloc, expr) {
-            Ok(copy) => of_expression(&copy, lent.this.members, story)?,
-            Err(fault) => write!(story, "{fault};")?,
+            Ok(copy) => of_expression(&copy, lent.this.members, output)?,
+            Err(fault) => write!(output, "{fault};")?,
         }
     }
     match certificate_copied(alloc, certificate) {
-        Ok(copy) => of_verdict(refuted_lent(alloc, lent, &copy), story),
-        Err(fault) => write!(story, "{fault};"),
+        Ok(copy) => of_verdict(refuted_lent(alloc, lent, &copy), output),
+        Err(fault) => write!(output, "{fault};"),
     }
 }
 
@@ -450,28 +450,28 @@ fn each_certified(
     alloc: Global,
     plan: &Plan,
     copies: bool,
-    story: &mut String,
+    output: &mut String,
 ) -> Result<(), AllocError> {
     match lent(alloc, plan) {
         Ok(list) => {
             for claim in &list {
                 match certificate_of(claim) {
-                    Some(certificate) if copies => copying_claim(alloc, claim, certificate, story)?,
-                    Some(certificate) => checking_claim(alloc, claim, certificate, story)?,
-                    None => story.push_str("none;")?,
+                    Some(certificate) if copies => copying_claim(alloc, claim, certificate, output)?,
+                    Some(certificate) => checking_claim(alloc, claim, certificate, output)?,
+                    None => output.push_str("none;")?,
                 }
             }
             Ok(())
         }
-        Err(fault) => write!(story, "{fault};"),
+        Err(fault) => write!(output, "{fault};"),
     }
 }
 
 /// `check_plan`
-fn checking_plan(alloc: Global, plan: Plan, story: &mut String) -> Result<(), AllocError> {
+fn checking_plan(alloc: Global, plan: Plan, output: &mut String) -> Result<(), AllocError> {
     match checked(alloc, plan) {
-        Ok(_) => story.push_str("yes;"),
-        Err(fault) => write!(story, "{fault};"),
+        Ok(_) => output.push_str("yes;"),
+        Err(fault) => write!(output, "{fault};"),
     }
 }
 
@@ -480,11 +480,11 @@ fn of_found(
     alloc: Global,
     claim: &ClaimRef<'_>,
     found: Option<&Certificate<Global>>,
-    story: &mut String,
+    output: &mut String,
 ) -> Result<(), AllocError> {
     match found {
-        Some(certificate) => of_verdict(refuted_lent(alloc, claim, certificate), story),
-        None => story.push_str("unfound;"),
+        Some(certificate) => of_verdict(refuted_lent(alloc, claim, certificate), output),
+        None => output.push_str("unfound;"),
     }
 }
 
@@ -492,14 +492,14 @@ fn of_found(
 fn searching_one(
     alloc: Global,
     lent: &ClaimRef<'_>,
-    story: &mut String,
+    output: &mut String,
 ) -> Result<(), AllocError> {
     let Ok(claim) = claim_of(alloc, lent) else {
-        return story.push_str("no claim;");
+        return output.push_str("no claim;");
     };
     match searched_one(alloc, &claim) {
-        Ok(found) => of_found(alloc, lent, found.as_ref(), story),
-        Err(fault) => write!(story, "{fault};"),
+        Ok(found) => of_found(alloc, lent, found.as_ref(), output),
+        Err(fault) => write!(output, "{fault};"),
     }
 }
 
@@ -509,24 +509,24 @@ fn searching<H: Threads + Wait + Sync>(
     alloc: Global,
     plan: &Plan,
     workers: u8,
-    story: &mut String,
+    output: &mut String,
 ) -> Result<(), AllocError>
     requires { (0 < workers) × (workers ≤ 16) }
 {
     let Ok(list) = lent(alloc, plan) else {
-        return story.push_str("no claims;");
+        return output.push_str("no claims;");
     };
     match searched(rt, alloc, plan, workers) {
         Ok(found) => {
             for (claim, found) in list.iter().zip(found.iter()) {
-                of_found(alloc, claim, found.as_ref(), story)?;
+                of_found(alloc, claim, found.as_ref(), output)?;
             }
         }
-        Err(fault) => write!(story, "{fault};")?,
+        Err(fault) => write!(output, "{fault};")?,
     }
     if workers == 1 {
         for claim in &list {
-            searching_one(alloc, claim, story)?;
+            searching_one(alloc, claim, output)?;
         }
     }
     Ok(())
@@ -537,17 +537,17 @@ fn of_written(
     alloc: Global,
     text: &[u8],
     found: &[Option<Certificate<Global>>],
-    story: &mut String,
+    output: &mut String,
 ) -> Result<(), AllocError>
     requires { HasClaims text.now (length found.now) }
 {
     match written(alloc, text, found) {
-        Ok(line) => of_bytes(line.as_slice(), story)?,
-        Err(fault) => write!(story, "{fault};")?,
+        Ok(line) => of_bytes(line.as_slice(), output)?,
+        Err(fault) => write!(output, "{fault};")?,
     }
     match written_from_text(alloc, text, found) {
-        Ok(line) => of_bytes(line.as_slice(), story),
-        Err(fault) => write!(story, "{fault};"),
+        Ok(line) => of_bytes(line.as_slice(), output),
+        Err(fault) => write!(output, "{fault};"),
     }
 }
 
@@ -556,17 +556,17 @@ fn writing<H: Threads + Wait + Sync>(
     rt: &H,
     alloc: Global,
     text: &[u8],
-    story: &mut String,
+    output: &mut String,
 ) -> Result<(), AllocError> {
     let Ok(plan) = read(alloc, text) else {
-        return story.push_str("no plan;");
+        return output.push_str("no plan;");
     };
     let Ok(_list) = lent(alloc, &plan) else {
-        return story.push_str("no claims;");
+        return output.push_str("no claims;");
     };
     match searched(rt, alloc, &plan, 1) {
-        Ok(found) => of_written(alloc, text, found.as_slice(), story),
-        Err(fault) => write!(story, "{fault};"),
+        Ok(found) => of_written(alloc, text, found.as_slice(), output),
+        Err(fault) => write!(output, "{fault};"),
     }
 }
 
@@ -576,19 +576,19 @@ fn over_plan<H: Threads + Wait + Sync>(
     alloc: Global,
     part: Part,
     plan: Plan,
-    story: &mut String,
+    output: &mut String,
 ) -> Result<(), AllocError> {
     match part {
         Part::Claims => {
-            lending(alloc, &plan, story)?;
-            listing(alloc, &plan, story)
+            lending(alloc, &plan, output)?;
+            listing(alloc, &plan, output)
         }
         Part::Checking => {
-            each_certified(alloc, &plan, false, story)?;
-            checking_plan(alloc, plan, story)
+            each_certified(alloc, &plan, false, output)?;
+            checking_plan(alloc, plan, output)
         }
-        Part::Copying => each_certified(alloc, &plan, true, story),
-        Part::Searching(workers) => searching(rt, alloc, &plan, workers.clamp(1, 16), story),
+        Part::Copying => each_certified(alloc, &plan, true, output),
+        Part::Searching(workers) => searching(rt, alloc, &plan, workers.clamp(1, 16), output),
         Part::Reading | Part::Writing => Ok(()),
     }
 }
@@ -599,29 +599,29 @@ fn over_text<H: Threads + Wait + Sync>(
     alloc: Global,
     part: Part,
     text: &[u8],
-    story: &mut String,
+    output: &mut String,
 ) -> Result<(), AllocError> {
     match part {
-        Part::Reading => reading(alloc, text, story),
-        Part::Writing => writing(rt, alloc, text, story),
+        Part::Reading => reading(alloc, text, output),
+        Part::Writing => writing(rt, alloc, text, output),
         _ => match read(alloc, text) {
-            Ok(plan) => over_plan(rt, alloc, part, plan, story),
-            Err(fault) => write!(story, "{fault};"),
+            Ok(plan) => over_plan(rt, alloc, part, plan, output),
+            Err(fault) => write!(output, "{fault};"),
         },
     }
 }
 
 /// What the cores answer over the plans.
-fn cores<H: Threads + Wait + Sync>(rt: &H, alloc: Global, part: Part) -> Told {
-    let mut story = String::with_capacity(alloc, 65_536)?;
+fn cores<H: Threads + Wait + Sync>(rt: &H, alloc: Global, part: Part) -> ScenarioOutput {
+    let mut output = String::with_capacity(alloc, 65_536)?;
     for text in PLANS {
-        over_text(rt, alloc, part, text.as_bytes(), &mut story)?;
+        over_text(rt, alloc, part, text.as_bytes(), &mut output)?;
     }
-    Ok(story)
+    Ok(output)
 }
 
-/// Tells the story of a name.
-pub fn told<H: Threads + Wait + Sync>(rt: &H, alloc: Global, name: &str) -> Told {
+/// Returns the output of the scenario with this name.
+pub fn output_of<H: Threads + Wait + Sync>(rt: &H, alloc: Global, name: &str) -> ScenarioOutput {
     let part = match name {
         "reading" => Part::Reading,
         "claims" => Part::Claims,

@@ -8,7 +8,7 @@ ghost use Rattle.plan.specs.CheckedModel.{checked_model};
 ghost use Rattle.journal.specs.Tokens.{ids_of};
 ghost use Rattle.node_fleet.specs.Bases.{passes_of, IsBaseOf};
 
-use crate::Told;
+use crate::ScenarioOutput;
 use crate::texts::{LONG, REPLACED, SIX};
 use node_fleet::{Base, Fleet, FleetSite, Journal, Pass, Receipt, Row, StepGate};
 use plan::{CheckedPlan, check_plan, read_plan};
@@ -159,7 +159,7 @@ fn make_all<'a, L: FleetSite, R: Wait>(
     fleet: &Fleet<'a, L>,
     passes: &mut [Pass<'a, L>],
     calls: &[Call],
-    story: &mut String,
+    output: &mut String,
 ) -> Result<(), Fault> {
     let count = passes.len();
     if count == 0 {
@@ -174,31 +174,31 @@ fn make_all<'a, L: FleetSite, R: Wait>(
             answer => answer,
         };
         match answer {
-            Ok(told) => {
-                let (number, first, count, durable) = (told.number, told.first_message, told.made, told.durable);
-                write!(story, "step {number} {first} {count} {durable};")?
+            Ok(receipt) => {
+                let (number, first, count, durable) = (receipt.number, receipt.first_message, receipt.made, receipt.durable);
+                write!(output, "step {number} {first} {count} {durable};")?
             }
-            Err(fault) => write!(story, "{fault};")?,
+            Err(fault) => write!(output, "{fault};")?,
         }
     }
     Ok(())
 }
 
 /// What is said of how a run ends.
-fn of_outcome(outcome: &Outcome, story: &mut String) -> Result<(), AllocError> {
-    for told in outcome.results.iter() {
-        match told {
-            Ok(made) => write!(story, "{made};")?,
-            Err(fault) => write!(story, "{fault};")?,
+fn of_outcome(outcome: &Outcome, output: &mut String) -> Result<(), AllocError> {
+    for result in outcome.results.iter() {
+        match result {
+            Ok(made) => write!(output, "{made};")?,
+            Err(fault) => write!(output, "{fault};")?,
         }
     }
     for writer in outcome.writers.iter() {
         let (volume, start, length, durable) = (writer.volume, writer.start, writer.log.len(), writer.durable);
-        write!(story, "writer {volume} {start} {length} {durable};")?;
+        write!(output, "writer {volume} {start} {length} {durable};")?;
     }
     for find in outcome.finds.iter() {
         let (volume, cut, length) = (find.volume, find.found.cut, find.found.log.len());
-        write!(story, "find {volume} {cut} {length};")?;
+        write!(output, "find {volume} {cut} {length};")?;
     }
     Ok(())
 }
@@ -208,7 +208,7 @@ fn of_events(
     alloc: Global,
     plan: &Arc<CheckedPlan>,
     events: &[Event],
-    story: &mut String,
+    output: &mut String,
 ) -> Result<(), AllocError> {
     let first = run(alloc, plan, events);
     let outcome = match first {
@@ -216,8 +216,8 @@ fn of_events(
         outcome => outcome,
     };
     match outcome {
-        Ok(outcome) => of_outcome(&outcome, story),
-        Err(fault) => write!(story, "{fault};"),
+        Ok(outcome) => of_outcome(&outcome, output),
+        Err(fault) => write!(output, "{fault};"),
     }
 }
 
@@ -226,17 +226,17 @@ fn of_journal<L: FleetSite>(
     alloc: Global,
     journal: &Journal<'_, L>,
     plan: &Arc<CheckedPlan>,
-    story: &mut String,
+    output: &mut String,
 ) -> Result<(), AllocError> {
-    write!(story, "steps {};", journal.len())?;
+    write!(output, "steps {};", journal.len())?;
     let first = journal.events(alloc);
     let events = match first {
         Err(_) => journal.events(alloc),
         events => events,
     };
     match events {
-        Ok(events) => of_events(alloc, plan, events.as_slice(), story),
-        Err(fault) => write!(story, "{fault};"),
+        Ok(events) => of_events(alloc, plan, events.as_slice(), output),
+        Err(fault) => write!(output, "{fault};"),
     }
 }
 
@@ -248,7 +248,7 @@ fn drive<L: FleetSite, R: Wait>(
     base: Base,
     plan: Arc<CheckedPlan>,
     calls: &[Call],
-    story: &mut String,
+    output: &mut String,
 ) -> Result<(), Fault>
     requires plan { checked_model (arc_value plan) ≡ L.plan }
     requires cells { ids_of row.old ≡ L.cells }
@@ -258,9 +258,9 @@ fn drive<L: FleetSite, R: Wait>(
 {
     let copy = plan.clone()?;
     let (fleet, mut passes) = Fleet::<L>::new(alloc, row, base, copy, 2)?;
-    make_all(rt, alloc, &fleet, passes.as_mut_slice(), calls, story)?;
+    make_all(rt, alloc, &fleet, passes.as_mut_slice(), calls, output)?;
     let journal = fleet.close(passes);
-    Ok(of_journal(alloc, &journal, &plan, story)?)
+    Ok(of_journal(alloc, &journal, &plan, output)?)
 }
 
 /// What a fleet's calls over a plan give.
@@ -270,7 +270,7 @@ fn over<R: Wait>(
     text: &str,
     passes: usize,
     calls: &[Call],
-    story: &mut String,
+    output: &mut String,
 ) -> Result<(), Fault>
     requires { 0 < passes }
 {
@@ -283,18 +283,18 @@ fn over<R: Wait>(
     let plan = Arc::new(alloc, plan)?;
     let mut row = Row::new(alloc, calls.len())?;
     let base = Base::new(alloc, &plan, passes)?;
-    drive::<Brand, R>(rt, alloc, &mut row, base, plan, calls, story)
+    drive::<Brand, R>(rt, alloc, &mut row, base, plan, calls, output)
 }
 
 /// What the calls give by so many passes.
-fn calls<R: Wait>(rt: &R, alloc: Global, passes: usize) -> Told
+fn calls<R: Wait>(rt: &R, alloc: Global, passes: usize) -> ScenarioOutput
     requires { 0 < passes }
 {
-    let mut story = String::with_capacity(alloc, 16_384)?;
-    let first = over(rt, alloc, SIX, passes, WRITTEN.as_slice(), &mut story);
-    let second = over(rt, alloc, REPLACED, passes, JOINED.as_slice(), &mut story);
+    let mut output = String::with_capacity(alloc, 16_384)?;
+    let first = over(rt, alloc, SIX, passes, WRITTEN.as_slice(), &mut output);
+    let second = over(rt, alloc, REPLACED, passes, JOINED.as_slice(), &mut output);
     match (first, second) {
-        (Ok(()), Ok(())) => Ok(story),
+        (Ok(()), Ok(())) => Ok(output),
         (_, _) => Err(AllocError),
     }
 }
@@ -372,14 +372,14 @@ fn restarted(alloc: Global, calls: &[Call], at: usize, member: u8) -> Result<Vec
 
 /// What a fleet's calls answer by one pass, a line each.
 fn answers<R: Wait>(rt: &R, alloc: Global, text: &str, calls: &[Call]) -> Result<String, Fault> {
-    let mut story = String::new(alloc);
-    over(rt, alloc, text, 1, calls, &mut story)?;
-    Ok(story)
+    let mut output = String::new(alloc);
+    over(rt, alloc, text, 1, calls, &mut output)?;
+    Ok(output)
 }
 
-/// What a run of the calls' events answers, as the story of a fleet's calls tells it: of each step its number in the journal, the number
-/// of its first message, how many it made and the durable point, which the run doesn't tell, so that it is taken from the story.
-fn is_as_run(alloc: Global, text: &str, calls: &[Call], story: &str) -> Result<bool, Fault> {
+/// What a run of the calls' events answers, in the form of the output of a fleet's calls: of each step its number in the journal, the number
+/// of its first message, how many it made and the durable point, which the run doesn't have, so that it is taken from that output.
+fn is_as_run(alloc: Global, text: &str, calls: &[Call], output: &str) -> Result<bool, Fault> {
     let Ok(plan) = read_plan(alloc, text.as_bytes()) else {
         return Err(Fault::NoMemory);
     };
@@ -393,7 +393,7 @@ fn is_as_run(alloc: Global, text: &str, calls: &[Call], story: &str) -> Result<b
     }
     let outcome = run(alloc, &plan, events.as_slice())?;
     let (mut steps, mut messages) = (0_u64, 1_u64);
-    let mut lines = story.split(';');
+    let mut lines = output.split(';');
     for result in outcome.results.iter() {
         let line = lines.next().unwrap_or("");
         match result {
@@ -428,9 +428,9 @@ fn restarts<R: Wait>(
 ) -> Result<(), Fault> {
     for at in first..last + 1 {
         let all = restarted(alloc, calls, at, member)?;
-        let story = answers(rt, alloc, text, all.as_slice())?;
+        let output = answers(rt, alloc, text, all.as_slice())?;
         counts.0 += 1;
-        if !is_as_run(alloc, text, all.as_slice(), story.as_str())? {
+        if !is_as_run(alloc, text, all.as_slice(), output.as_str())? {
             counts.1 += 1;
         }
     }
@@ -521,7 +521,7 @@ fn drive_threads<L: FleetSite + Send + Sync, R: Threads + Wait + Sync>(
     row: &mut Row,
     base: Base,
     plan: Arc<CheckedPlan>,
-    story: &mut String,
+    output: &mut String,
 ) -> Result<(), Fault>
     requires plan { checked_model (arc_value plan) ≡ L.plan }
     requires cells { ids_of row.old ≡ L.cells }
@@ -556,12 +556,12 @@ fn drive_threads<L: FleetSite + Send + Sync, R: Threads + Wait + Sync>(
         passes.push(pass)?;
     }
     let (number, durable) = last;
-    write!(story, "a new fleet reads {new}; {count} steps on threads, durable {sum} in all and {durable} of step {number}, {read} read by three")?;
+    write!(output, "a new fleet reads {new}; {count} steps on threads, durable {sum} in all and {durable} of step {number}, {read} read by three")?;
     let _ = fleet.close(passes);
     Ok(())
 }
 
-/// The story of passes on threads.
+/// Returns the output of passes on threads.
 fn on_threads<R: Threads + Wait + Sync>(rt: &R, alloc: Global) -> Result<String, Fault> {
     let Ok(plan) = read_plan(alloc, SIX.as_bytes()) else {
         return Err(Fault::NoMemory);
@@ -572,21 +572,21 @@ fn on_threads<R: Threads + Wait + Sync>(rt: &R, alloc: Global) -> Result<String,
     let plan = Arc::new(alloc, plan)?;
     let mut row = Row::new(alloc, 17)?;
     let base = Base::new(alloc, &plan, 3)?;
-    let mut story = String::new(alloc);
-    drive_threads::<Brand, R>(rt, alloc, &mut row, base, plan, &mut story)?;
-    Ok(story)
+    let mut output = String::new(alloc);
+    drive_threads::<Brand, R>(rt, alloc, &mut row, base, plan, &mut output)?;
+    Ok(output)
 }
 
-/// The story that was told, where memory sufficed.
-fn whole(story: Result<String, Fault>) -> Told {
-    match story {
-        Ok(story) => Ok(story),
+/// Returns the output, unless memory ran out.
+fn whole(output: Result<String, Fault>) -> ScenarioOutput {
+    match output {
+        Ok(output) => Ok(output),
         Err(_) => Err(AllocError),
     }
 }
 
-/// Tells the story of a name.
-pub fn told<R: Threads + Wait + Sync>(rt: &R, alloc: Global, name: &str) -> Told {
+/// Returns the output of the scenario with this name.
+pub fn output_of<R: Threads + Wait + Sync>(rt: &R, alloc: Global, name: &str) -> ScenarioOutput {
     match name {
         "threads" => whole(on_threads(rt, alloc)),
         "one pass" => calls(rt, alloc, 1),
@@ -603,7 +603,7 @@ use Rattle.plan.specs.CheckedModel.{checked_model}
 use Rattle.journal.specs.Fronts.{book_of}
 use Rattle.journal.specs.Tokens.{ids_of}
 use Rattle.node_fleet.specs.Bases.{mail_in, passes_of}
-use Rattle.fleet_stories.proofs.stories.over.Given as goal
+use Rattle.fleet_scenarios.proofs.scenarios.over.Given as goal
 
 abbrev pub ghosts-drive-L-Ledger : goal.ghosts-drive-L-Ledger
 ghosts-drive-L-Ledger g a = record { name = a.base.blank.name; parts = passes_of a.base }
