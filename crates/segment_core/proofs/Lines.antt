@@ -4,16 +4,19 @@ use Rattle.std.proofs.lemmas.Bool.{cases_Bool, and_parts, and_from, eqb-true, eq
 use Rattle.std.proofs.lemmas.Bool.Decides.{nat_tests}
 use Rattle.std.proofs.lemmas.List.{take-append-drop}
 use Rattle.std.proofs.lemmas.Option.{slice_get-get_or, get_or_from_slice_get}
+use Rattle.std.specs.Borrow.{Bor}
 use Rattle.std.specs.List.{insert, slice_get}
 use Rattle.volume_model.specs.Lists.{IsIn}
 use Rattle.volume_model.specs.Redo.{Redo, scl, with_record}
 use Rattle.volume_model.specs.Grounded.{IsGrounded, IsGroundedNumber, GroupLinksFall}
 use Rattle.volume_model.specs.Grounded.IsGrounded.{from_none, from_one}
 use Rattle.volume_model.proofs.Basics.{IsIn-append_right}
+use Rattle.redo_record.specs.declared.record_set.RecordSet.{RecordSet}
 use Rattle.redo_record.specs.declared.run_place.RunPlace.{RunPlace}
-use Rattle.redo_record.specs.Joined.{joined}
+use Rattle.redo_record.specs.declared.shared_record.SharedRecord.{SharedRecord}
+use Rattle.redo_record.specs.RecordSet.{records_of, runs_of}
 use Rattle.redo_record.specs.RunPlaces.{index_of, record_before, IsPlaceIn}
-use Rattle.segment_core.specs.Chains.{chain_end, is_line, lsn_before}
+use Rattle.segment_core.specs.Chains.{chain_end, is_line, lsn_before, IsFoundAt}
 use Rattle.segment_core.proofs.Chained.{fewer_fall, point_is}
 
 -- a line, as a relation
@@ -154,10 +157,11 @@ scl-line r records i fall joins line more at =
 
 -- ---- the walk along a chain
 
--- The place of the walk, whose end is this one.
-pub record IsOnTheWay (runs : List (List Redo)) (place : RunPlace) (last end : ℕ) : Type 0 where
-  pub inside : IsPlaceIn runs place
-  pub same : chain_end last (drop (index_of runs place) (joined runs)) ≡ end
+-- The place of the walk and the record found there. The walk's end is this one.
+pub record IsOnTheWay (set : RecordSet) (place : RunPlace) (found : Option (Bor SharedRecord)) (last end : ℕ) : Type 0 where
+  pub inside : IsPlaceIn (runs_of set) place
+  pub here : IsFoundAt set place found
+  pub same : chain_end last (drop (index_of (runs_of set) place) (records_of set)) ≡ end
 
 pub drop-here : (records : List Redo) (i : ℕ) (r : Redo) → Some r ≡ slice_get records i → drop i records ≡ r ∷ drop (i + 1) records
 drop-here [] i r h = cc

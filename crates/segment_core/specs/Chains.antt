@@ -1,7 +1,14 @@
 -- The complete point of a group's records, and whether they form a line.
-use Rattle.std.specs.Prelude.{◌≡◌, ◌==◌, ◌&&◌, ◌⊎◌, ℕ, zero, suc, Bool, true, nat_le, if◌then◌else◌, List, [], ◌∷◌}
+use Rattle.std.specs.Prelude.{◌≡◌, ◌==◌, ◌&&◌, ◌⊎◌, ℕ, zero, suc, Bool, true, nat_le, if◌then◌else◌, List, [], ◌∷◌, Option, option_map, slice_get}
+use Rattle.std.specs.Borrow.{Bor}
 use Rattle.volume_model.specs.Lists.{IsIn}
 use Rattle.volume_model.specs.Redo.{Redo, scl}
+use Rattle.redo_record.specs.RecordSet.{records_of, runs_of}
+use Rattle.redo_record.specs.RunPlaces.{index_of}
+use Rattle.redo_record.specs.SharedRecord.{shared_redo}
+use Rattle.redo_record.specs.declared.record_set.RecordSet.{RecordSet}
+use Rattle.redo_record.specs.declared.run_place.RunPlace.{RunPlace}
+use Rattle.redo_record.specs.declared.shared_record.SharedRecord.{SharedRecord}
 use Rattle.segment_core.specs.declared.chains.Chains.{Chains}
 
 -- no record links to an LSN below that of the record before it in order, nor the first one to an LSN below n
@@ -24,6 +31,10 @@ chain_end n (r ∷ rest) = if r.prev_group == n then chain_end r.lsn rest else n
 -- the record links to 0 or to one of these
 abbrev pub IsLinkedTo : List Redo → Redo → Type 0
 IsLinkedTo records r = (r.prev_group ≡ 0) ⊎ ((s : Redo) × IsIn s records × (s.lsn ≡ r.prev_group))
+
+-- this is the record at a place of a set, if there is one
+abbrev pub IsFoundAt : RecordSet → RunPlace → Option (Bor SharedRecord) → Type 0
+IsFoundAt set place found = option_map (λ packet. shared_redo packet.now) found ≡ slice_get (records_of set) (index_of (runs_of set) place)
 
 -- The chains are those of these records.
 pub record AreChainsOf (records : List Redo) (chains : Chains) : Type 0 where

@@ -74,7 +74,8 @@ impl Chains {
             → AreChainsOf (with_record (shared_redo packet.now) (records_of set.now)) chains) }
     {
         let before = packet.prev_group();
-        let is_line = self.is_line && keeps_line(set, place, packet);
+        let found = set.get(place);
+        let is_line = self.is_line && keeps_line(set, place, found, packet);
         if before > self.point {
             return Ok(Chains {
                 is_line,
@@ -84,7 +85,7 @@ impl Chains {
         if is_line && before == self.point {
             return Ok(Chains {
                 is_line,
-                point: chain_end(set, place, packet.lsn()),
+                point: chain_end(set, place, found, packet.lsn()),
             });
         }
         Chains::recounted(alloc, set, packet)

@@ -6,6 +6,7 @@ ghost use Rattle.redo_record.specs.RecordSet.{records_of, runs_of, StandsAt};
 ghost use Rattle.redo_record.specs.RunPlaces.{index_of, IsPlaceIn};
 ghost use Rattle.redo_record.specs.SharedRecord.{shared_redo};
 ghost use Rattle.segment_core.specs.Chains as chains;
+ghost use Rattle.segment_core.specs.Chains.{IsFoundAt};
 
 use redo_record::{RecordSet, RunPlace, SharedRecord};
 
@@ -36,37 +37,52 @@ fn lsn_before(set: &RecordSet, place: RunPlace) -> u64
     }
 }
 
-/// Returns whether a line remains one when a record is inserted at its place. Looks at the records before and after it.
+/// Returns whether a line remains one when a record is inserted at its place: between the record before the place and
+/// the one found at it.
 #[inline(always)]
-pub fn keeps_line(set: &RecordSet, place: RunPlace, packet: &SharedRecord) -> bool
-    requires { StandsAt place set.now (shared_redo packet.now) }
+pub fn keeps_line(
+    set: &RecordSet,
+    place: RunPlace,
+    found: Option<&SharedRecord>,
+    packet: &SharedRecord,
+) -> bool
+    requires stands { StandsAt place set.now (shared_redo packet.now) }
+    requires found { IsFoundAt set.now place found }
     ensures { IsTrue result → chains.is_line 0 (records_of set.now) ≡ true
         → chains.is_line 0 (with_record (shared_redo packet.now) (records_of set.now)) ≡ true }
 {
     if lsn_before(set, place) > packet.prev_group() {
         return false;
     }
-    match set.get(place) {
+    match found {
         Some(next) => packet.lsn() <= next.prev_group(),
         None => true,
     }
 }
 
-/// Returns the end of the chain that begins with an LSN and goes on with the records from a place on, up to the first
-/// one that doesn't link to the one before it.
+/// Returns the end of the chain that begins with an LSN and goes on with the record found at a place and those after
+/// it, up to the first one that doesn't link to the one before it.
 #[inline(always)]
-pub fn chain_end(set: &RecordSet, place: RunPlace, lsn: u64) -> u64
-    requires { IsPlaceIn (runs_of set.now) place }
+pub fn chain_end<'a>(
+    set: &'a RecordSet,
+    place: RunPlace,
+    found: Option<&'a SharedRecord>,
+    lsn: u64,
+) -> u64
+    requires within { IsPlaceIn (runs_of set.now) place }
+    requires found { IsFoundAt set.now place found }
     ensures { result ≡ chains.chain_end lsn (drop (index_of (runs_of set.now) place) (records_of set.now)) }
 {
     let mut last = lsn;
-    let mut next = place;
-    while let Some(packet) = set.get(next) {
+    let mut at = place;
+    let mut next = found;
+    while let Some(packet) = next {
         if packet.prev_group() != last {
             return last;
         }
         last = packet.lsn();
-        next = set.next(next);
+        at = set.next(at);
+        next = set.get(at);
     }
     last
 }

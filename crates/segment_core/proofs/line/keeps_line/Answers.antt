@@ -1,10 +1,11 @@
-use Rattle.std.proofs.Common.{◌≤◌, ℕ, List, arith}
+use Rattle.std.proofs.Common.{◌≤◌, ℕ, List, subst, arith}
 use Rattle.std.proofs.lemmas.Bool.{leb-true}
 use Rattle.volume_model.specs.Redo.{Redo}
 use Rattle.redo_record.specs.RecordSet.{records_of, runs_of}
 use Rattle.redo_record.specs.RunPlaces.{index_of}
 use Rattle.redo_record.specs.SharedRecord.{shared_redo}
 use Rattle.segment_core.specs.Chains as chains
+use Rattle.segment_core.specs.Chains.{IsFoundAt}
 use Rattle.segment_core.proofs.Lines.{line-kept, line-kept_last}
 use Rattle.segment_core.proofs.line.keeps_line.Goals as goal
 
@@ -16,7 +17,7 @@ returns-in-Some c kept line =
     let s : Redo = shared_redo c.in-Some.next.now in
     let low : chains.lsn_before 0 records i ≤ r.prev_group = omega (arith, c.lsn_before.ensures, c.prev_group.ensures) in
     let high : c.lsn.result ≤ c.prev_group-in-Some.result = leb-true c.lsn.result c.prev_group-in-Some.result kept in
-    line-kept records i r c.requires.stands.joins low line s c.in-Some.ensures (omega (arith, c.lsn.ensures, c.prev_group-in-Some.ensures))
+    line-kept records i r c.requires.stands.stands.joins low line s (subst (IsFoundAt c.args.set.now c.args.place) c.in-Some.is c.requires.found) (omega (arith, c.lsn.ensures, c.prev_group-in-Some.ensures))
 
 pub returns-in-None : goal.returns-in-None
 returns-in-None c kept line =
@@ -24,4 +25,4 @@ returns-in-None c kept line =
     let i : ℕ = index_of (runs_of c.args.set.now) c.args.place in
     let r : Redo = shared_redo c.args.packet.now in
     let low : chains.lsn_before 0 records i ≤ r.prev_group = omega (arith, c.lsn_before.ensures, c.prev_group.ensures) in
-    line-kept_last records i r c.requires.stands.joins low line c.in-None.ensures
+    line-kept_last records i r c.requires.stands.stands.joins low line (subst (IsFoundAt c.args.set.now c.args.place) c.in-None.is c.requires.found)
