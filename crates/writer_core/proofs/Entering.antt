@@ -1,8 +1,6 @@
 -- The last numbers of groups and blocks, and one record more.
-use Rattle.std.proofs.Common.{◌≡◌, ◌≢◌, ℕ, ◌<◌, ◌≤◌, Bool, true, false, ◌&&◌, nat_eq, List, [], ◌∷◌, ◌++◌, length, length-append, get_or, take, if◌then◌else◌, Some, cond, sym, ap, ap₂, ◌∙◌, subst, inl, inr, arith, get_or-set_same, get_or-set_other}
-use Rattle.std.specs.Prelude.{Option, slice_set, unwrap_or, refl}
-use Rattle.std.specs.Ordering.{is_eq}
-use Rattle.std.specs.BTreeMap.{Updates, get}
+use Rattle.std.proofs.Common.{◌≡◌, ◌≢◌, ℕ, ◌<◌, ◌≤◌, Bool, true, false, ◌&&◌, nat_eq, List, [], ◌∷◌, ◌++◌, length, length-append, get_or, take, if◌then◌else◌, sym, ap, ap₂, ◌∙◌, subst, inl, inr, arith, get_or-set_same, get_or-set_other}
+use Rattle.std.specs.Prelude.{slice_set, refl}
 use Rattle.std.proofs.lemmas.List.{take_all, take-append-le}
 use Rattle.std.proofs.lemmas.Bool.{cases_eq, ne_eqb, eqb-true, and_parts}
 use Rattle.std.proofs.lemmas.Bool.Decides.{nat_tests}
@@ -10,7 +8,7 @@ use Rattle.volume_model.specs.Redo.{Redo, last_of_group, last_of_block}
 use Rattle.redo_record.specs.declared.shared_record.SharedRecord.{SharedRecord}
 use Rattle.redo_record.specs.SharedRecord.{shared_redo}
 use Rattle.writer_core.specs.Logs.{log_of}
-use Rattle.writer_core.specs.Kept.{Blocks, block_cmp, first_known, KeepsIn, PutsIn}
+use Rattle.writer_core.specs.Kept.{first_known, KeepsIn, PutsIn}
 use Rattle.writer_core.specs.LastLsns.{kept_of_group, kept_of_block, IsLast, AreLasts, AreLastsOf}
 use Rattle.writer_core.specs.declared.last_lsns.LastLsns.{LastLsns}
 use Rattle.writer_core.proofs.Logs.{log_of-push}
@@ -22,23 +20,6 @@ group-entered groups g q lsn last within is =
       | inl e ↦ (let t : nat_eq g q ≡ true = grind (arith, nat_tests) in rw t (subst (λ k. get_or (slice_set groups g lsn) k 0 ≡ lsn) e (get_or-set_same groups g lsn 0 within)))
       | inr e ↦ (let t : nat_eq g q ≡ false = grind (arith, nat_tests) in let apart : q ≢ g = λ h. e (sym h) in rw t (get_or-set_other groups g q lsn 0 apart ∙ is))
     ]
-
--- the order distinguishes two blocks by both numbers
-block-same : (a b c d : ℕ) → is_eq (block_cmp (b, a) (d, c)) ≡ (nat_eq a c && nat_eq b d)
-block-same a b c d = grind (arith, nat_tests)
-
--- a block's number, where another is put
-block-put : (test same : Bool) (found : Option ℕ) (lsn : ℕ) → test ≡ same → unwrap_or (cond test (Some lsn) found) 0 ≡ (if same then lsn else unwrap_or found 0)
-block-put true true found lsn e = refl
-block-put true false found lsn e = cc
-block-put false true found lsn e = cc
-block-put false false found lsn e = refl
-
--- the map has a number at the block
-pub puts-some : (old : Blocks) (group block lsn : ℕ) (new : Blocks) → Updates block_cmp old new (block, group) (Some lsn) → PutsIn old group block lsn new
-puts-some old group block lsn new updates q b =
-    ap (λ (found : Option ℕ). unwrap_or found 0) (updates.0 (b, q))
-    ∙ block-put _ (nat_eq group q && nat_eq block b) (get block_cmp old (b, q)) lsn (block-same group block q b)
 
 -- ---- what is known of one group or block
 
@@ -81,7 +62,7 @@ lasts-new table packets groups blocks all = record {
 }
 
 -- the next older record is read
-pub lasts-read : (old new : LastLsns) (i : ℕ) (r : Redo) → i ≡ r.group → r.group < 16 → 1 ≤ r.lsn → new.groups ≡ slice_set old.groups i (first_known (kept_of_group old r.group) r.lsn) → KeepsIn old.blocks r.group r.block r.lsn new.blocks
+pub lasts-read : (old new : LastLsns) (i : ℕ) (r : Redo) → i ≡ r.group → r.group < 16 → 1 ≤ r.lsn → new.groups ≡ slice_set old.groups i (first_known (kept_of_group old r.group) r.lsn) → KeepsIn (kept_of_block old) r.group r.block r.lsn (kept_of_block new)
     → (log older : List Redo) → AreLasts old log (r ∷ older) → AreLasts new log older
 lasts-read old new i r is few some groups keeps log older before = record {
   of_group = λ q h.
@@ -104,7 +85,7 @@ lasts-read old new i r is few some groups keeps log older before = record {
     own false mine known lsn e = refl
 
 -- a record is entered behind all others
-pub lasts-entered : (old new : LastLsns) (i : ℕ) (r : Redo) → i ≡ r.group → r.group < 16 → 1 ≤ r.lsn → new.groups ≡ slice_set old.groups i r.lsn → PutsIn old.blocks r.group r.block r.lsn new.blocks
+pub lasts-entered : (old new : LastLsns) (i : ℕ) (r : Redo) → i ≡ r.group → r.group < 16 → 1 ≤ r.lsn → new.groups ≡ slice_set old.groups i r.lsn → PutsIn (kept_of_block old) r.group r.block r.lsn (kept_of_block new)
     → (log older : List Redo) → AreLasts old log older → AreLasts new (r ∷ log) older
 lasts-entered old new i r is few some groups puts log older before = record {
   of_group = λ q h.

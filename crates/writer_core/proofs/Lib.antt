@@ -17,4 +17,5 @@ pub mod Placing
 pub mod Raising
 pub mod Rising
 pub mod Speaking
+pub mod Trees
 pub mod Views

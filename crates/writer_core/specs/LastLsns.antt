@@ -3,7 +3,7 @@ use Rattle.std.specs.Prelude.{◌≡◌, ◌≢◌, ℕ, ◌<◌, ◌≤◌, Lis
 use Rattle.volume_model.specs.Redo.{Redo, last_of_group, last_of_block}
 use Rattle.redo_record.specs.declared.shared_record.SharedRecord.{SharedRecord}
 use Rattle.writer_core.specs.Logs.{log_of}
-use Rattle.writer_core.specs.Kept.{kept_in}
+use Rattle.writer_core.specs.BlockLsns.{kept_in}
 use Rattle.writer_core.specs.declared.last_lsns.LastLsns.{LastLsns}
 
 -- the LSN that is known of a group, 0 if none is

@@ -1,6 +1,7 @@
 pub mod Logs
 pub mod Log
 pub mod Kept
+pub mod BlockLsns
 pub mod Ending
 pub mod LastLsns
 pub mod DurabilityTracker

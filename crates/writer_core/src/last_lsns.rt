@@ -1,53 +1,15 @@
 //! The last LSN of each group and of each block of a log.
 
 ghost use Rattle.std.specs.Prelude.{◌≡◌, length, List, IfOk, OnOk};
-ghost use Rattle.writer_core.specs.Kept.{kept_in, first_known, KeepsIn, PutsIn};
+ghost use Rattle.writer_core.specs.Kept.{first_known};
 
+use crate::block_lsns::BlockLsns;
 use crate::log::Log;
 use redo_record::Record;
 use std::alloc::{AllocError, Global};
-use std::collections::BTreeMap;
-use std::mem;
 
 /// The most groups that a volume has.
 pub const GROUPS: usize = 16;
-
-/// A block and its group.
-type Place = (u32, u8);
-
-/// Returns the LSN of a block, 0 if there is none.
-fn known(blocks: &BTreeMap<Place, u64>, place: Place) -> u64
-    ensures { result ≡ kept_in blocks.now place.1 place.0 }
-{
-    match blocks.get(&place) {
-        Some(lsn) => *lsn,
-        None => 0,
-    }
-}
-
-/// Sets the LSN of a block, if it has none.
-fn keep(blocks: &mut BTreeMap<Place, u64>, place: Place, lsn: u64) -> Result<(), AllocError>
-    ensures { OnOk result (KeepsIn blocks.old place.1 place.0 lsn blocks.new) }
-{
-    if known(blocks, place) != 0 {
-        return Ok(());
-    }
-    blocks.insert(place, lsn)?;
-    Ok(())
-}
-
-/// Sets the LSN of a block. Returns the one before it, 0 if there was none.
-#[inline(always)]
-fn put(blocks: &mut BTreeMap<Place, u64>, place: Place, lsn: u64) -> Result<u64, AllocError>
-    ensures before { IfOk result (λ before. before ≡ kept_in blocks.old place.1 place.0) }
-    ensures ok { OnOk result (PutsIn blocks.old place.1 place.0 lsn blocks.new) }
-{
-    if let Some(last) = blocks.get_mut(&place) {
-        return Ok(mem::replace(last, lsn));
-    }
-    blocks.insert(place, lsn)?;
-    Ok(0)
-}
 
 /// Returns the LSN that is known, or else this one.
 fn known_or(known: u64, lsn: u64) -> u64
@@ -66,8 +28,7 @@ pub struct LastLsns {
     unread: usize,
     /// By group, 0 if none is known.
     groups: [u64; GROUPS],
-    /// By block and group.
-    blocks: BTreeMap<Place, u64>,
+    blocks: BlockLsns,
     ghost each_group: { length groups ≡ 16 },
 }
 
@@ -87,7 +48,7 @@ impl LastLsns {
         LastLsns {
             unread: records,
             groups: [0; GROUPS],
-            blocks: BTreeMap::new(alloc),
+            blocks: BlockLsns::new(alloc),
         }
     }
 
@@ -97,7 +58,7 @@ impl LastLsns {
             → AreLasts self.new log older) }
         ensures unread { OnOk result (self.new.unread ≡ self.old.unread) }
     {
-        keep(&mut self.blocks, (record.block, record.group), record.lsn)?;
+        self.blocks.keep((record.block, record.group), record.lsn)?;
         let group = usize::from(record.group);
         self.groups[group] = known_or(self.groups[group], record.lsn);
         Ok(())
@@ -147,10 +108,10 @@ impl LastLsns {
             → AreLastsOf self.new (packets_in log.now ++ packet ∷ [])) }
     {
         let place = (block, group);
-        while self.unread > 0 && known(&self.blocks, place) == 0 {
+        while self.unread > 0 && self.blocks.known(place) == 0 {
             self.read_older(log)?;
         }
-        let before = put(&mut self.blocks, place, lsn)?;
+        let before = self.blocks.put(place, lsn)?;
         self.groups[usize::from(group)] = lsn;
         Ok(before)
     }

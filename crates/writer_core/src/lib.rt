@@ -1,6 +1,7 @@
 //! The writer of a volume epoch, which numbers redo records and tracks how far the log is durable.
 #![tactic(auto)]
 
+mod block_lsns;
 mod change;
 mod count;
 mod counts;
