@@ -55,6 +55,7 @@ impl Messages {
     }
 
     /// Appends the messages to a list that has room for them.
+    #[inline(always)]
     pub fn append_to(self, messages: &mut Vec<Message>)
         requires { vec_len messages.old + length (listed self) ≤ vec_capacity messages.old }
         ensures { messages.new.items ≡ messages.old.items ++ listed self }
