@@ -1,23 +1,60 @@
-use Rattle.std.proofs.Common.{◌≡◌, ◌<◌, ◌-◌, ◌∙◌, List, true, length, map, ap, ap₂, sym, arith}
-use Rattle.std.proofs.lemmas.List.{get_or-map, length-map}
-use Rattle.volume_model.specs.Lineage.{is_live}
+use Rattle.std.proofs.Common.{◌≡◌, ◌<◌, ◌≤◌, ◌-◌, ◌∙◌, ℕ, List, length, map, take, drop, ap, sym, subst, arith}
+use Rattle.std.proofs.lemmas.List.{length-map}
+use Rattle.volume_model.specs.Redo.{Redo}
+use Rattle.redo_record.specs.Run.{run_records}
 use Rattle.redo_record.specs.SharedRecord.{shared_redo}
 use Rattle.redo_record.specs.declared.shared_record.SharedRecord.{SharedRecord}
+use Rattle.redo_record.proofs.Parts.{part-shown}
 use Rattle.lineage.specs.Lineage.{lineage_of}
-use Rattle.lineage.proofs.LiveRecords.{parts-record}
+use Rattle.lineage.specs.Live.{AreOfOneEpoch}
+use Rattle.lineage.proofs.LiveRecords.{IsAmong, in_order-among, packets-among, parts-among_dead, parts-among_live}
 use Rattle.lineage.proofs.live.place_in_run.Goals as goal
+
+-- the records of one volume epoch, among those of the run
+epoch-among : (packets : List SharedRecord) (records : List Redo) (from to : ℕ) → map shared_redo packets ≡ records → from < to → to ≤ length packets → IsAmong records (map shared_redo (take (to - from) (drop from packets))) from to
+epoch-among packets records from to shown before within =
+    subst (λ (xs : List Redo). IsAmong xs (map shared_redo (take (to - from) (drop from packets))) from to) shown (packets-among packets from to (omega (arith, before)) within)
+
+pub epoch_start-start-requires-clause-within : goal.epoch_start-start-requires-clause-within
+epoch_start-start-requires-clause-within c =
+    omega (arith, c.loop-left.invariant.left, length-map c.as_slice-packets.result.now shared_redo, ap length c.as_slice-packets.ensures.records)
+
+pub place_in_epoch-requires-clause-in_order : goal.place_in_epoch-requires-clause-in_order
+place_in_epoch-requires-clause-in_order c =
+    let packets : List SharedRecord = c.as_slice-packets.result.now in
+    let from = c.epoch_start-start.result in
+    let to = c.loop-left.left in
+    let records : List Redo = run_records c.args.run.now in
+    in_order-among records (map shared_redo (take (to - from) (drop from packets))) from to
+    (epoch-among packets records from to c.as_slice-packets.ensures.records c.epoch_start-start.ensures.before c.loop-left.invariant.left) c.requires.in_order
+
+pub place_in_epoch-requires-clause-alike : goal.place_in_epoch-requires-clause-alike
+place_in_epoch-requires-clause-alike c =
+    let packets : List SharedRecord = c.as_slice-packets.result.now in
+    let from = c.epoch_start-start.result in
+    let to = c.loop-left.left in
+    subst AreOfOneEpoch (sym (part-shown shared_redo packets from (to - from) ∙ ap (λ (xs : List Redo). take (to - from) (drop from xs)) c.as_slice-packets.ensures.records)) c.epoch_start-start.ensures.alike
+
+pub loop-left-preserved-in-Some : goal.loop-left-preserved-in-Some
+loop-left-preserved-in-Some c =
+    let packets : List SharedRecord = c.as_slice-packets.result.now in
+    let from = c.epoch_start-start.result in
+    let to = c.loop-left.left in
+    record {
+      parts = parts-among_dead (lineage_of c.args.lineage.now) (map shared_redo packets) (map shared_redo (take (to - from) (drop from packets))) from to c.in-Some.within
+          (packets-among packets from to (omega (arith, c.epoch_start-start.ensures.before)) c.loop-left.invariant.left) c.in-Some.ensures.parts;
+      left = omega (arith, c.epoch_start-start.ensures.before, c.loop-left.invariant.left);
+      walks = c.place_in_epoch.ensures.walks;
+    }
 
 pub loop-left-preserved : goal.loop-left-preserved
 loop-left-preserved c =
-    let lineage = lineage_of c.args.lineage.now in
     let packets : List SharedRecord = c.as_slice-packets.result.now in
-    let n = c.loop-left.left in
-    let p : SharedRecord = c.index-packets-left.result in
-    let within : n - 1 < length packets = omega (arith, c.loop-left-test.true, c.loop-left.invariant.left) in
-    let live : is_live lineage (shared_redo p).volume (shared_redo p).lsn ≡ true = sym (c.is_live_by.ensures.live ∙ ap₂ (is_live lineage) c.volume_epoch.ensures c.lsn.ensures) ∙ c.if-not-is_live_by.false in
+    let from = c.epoch_start-start.result in
+    let to = c.loop-left.left in
     record {
-      parts = parts-record lineage (map shared_redo packets) n c.loop-left.place (shared_redo p) c.loop-left-test.true (omega (arith, c.loop-left.invariant.left, length-map packets shared_redo))
-          (λ d. ap shared_redo c.index-packets-left.is ∙ sym (get_or-map shared_redo packets (n - 1) p d within)) live c.loop-left.invariant.parts;
-      left = omega (arith, within);
-      walks = c.is_live_by.ensures.walks;
+      parts = parts-among_live (lineage_of c.args.lineage.now) (map shared_redo packets) (map shared_redo (take (to - from) (drop from packets))) from to c.loop-left.place
+          (packets-among packets from to (omega (arith, c.epoch_start-start.ensures.before)) c.loop-left.invariant.left) c.in_default.ensures.parts c.loop-left.invariant.parts;
+      left = omega (arith, c.epoch_start-start.ensures.before, c.loop-left.invariant.left);
+      walks = c.place_in_epoch.ensures.walks;
     }
