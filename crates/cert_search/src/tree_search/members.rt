@@ -1,34 +1,15 @@
 //! The members that expressions name.
 
 use crate::tree_search::state::{Row, State};
-use quorum_expr::{Expr, MEMBERS, MemberSet};
+use quorum_checker::members_named;
+use quorum_expr::MemberSet;
 use std::alloc::Allocator;
-
-/// Returns the members that an expression names.
-fn members_of<A: Allocator>(expr: &Expr<A>) -> MemberSet {
-    match expr {
-        Expr::Member(member) => {
-            if *member < MEMBERS {
-                MemberSet::empty().with(*member)
-            } else {
-                MemberSet::empty()
-            }
-        }
-        Expr::KOf { of, .. } => {
-            let mut members = MemberSet::empty();
-            for (_, child) in of {
-                members = members.union(members_of(child));
-            }
-            members
-        }
-    }
-}
 
 /// Returns the members that the items name and that aren't absent.
 fn members_in<A: Allocator>(row: &Row<'_, A>) -> MemberSet {
     let mut members = MemberSet::empty();
     for item in row.items {
-        members = members.union(members_of(*item));
+        members = members.union(members_named(*item));
     }
     members.difference(row.absent)
 }
