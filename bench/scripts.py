@@ -1,4 +1,4 @@
-"""Times `plan_tool run` on scripts of six kinds, each of about 1,000, 10,000 and 100,000 lines, in one run on one core.
+"""Times `plan_tool run` on scripts of eight kinds, each of about 1,000, 10,000 and 100,000 lines, in one run on one core.
 
     python3 bench/scripts.py [crates/plan_tool/out/plan_tool]
 
@@ -6,6 +6,7 @@ Whole processes are timed from their start to their end; each time is the least 
 """
 import json
 import os
+import random
 import resource
 import signal
 import sys
@@ -60,11 +61,11 @@ class Script:
         for message in messages:
             self.add("take", self.volume, message)
 
-    def issue(self, groups):
-        """Issues a transaction with a record in each of these groups. Returns the records' LSNs and the names of their messages."""
+    def issue(self, groups, block=None):
+        """Issues a transaction with a record in each of these groups, on this block or on one of 16 in turn. Returns the records' LSNs and the names of their messages."""
         first = max(self.last, self.start) + 1
         lsns = list(range(first, first + len(groups)))
-        block = self.transactions % 16
+        block = self.transactions % 16 if block is None else block
         changes = [f"{group}:{block}:{lsn % 64 * 8}:{lsn:016x}" for group, lsn in zip(groups, lsns)]
         line = self.add("issue", self.volume, *changes)
         self.last = lsns[-1]
@@ -127,6 +128,16 @@ def reverse(size):
             script.take(script.deliver(0, four_from(0), message))
         script.durable = script.last
         script.records += len(messages)
+    return script
+
+
+def one_block(size, arrange):
+    """Full transactions on one block, all issued first. One member gets their records, in the order that `arrange` gives the list of their messages."""
+    script = Script("one block")
+    messages = [message for _ in range(size // 33) for message in script.issue([0] * 32, block=0)[1]]
+    arrange(messages)
+    for message in messages:
+        script.deliver(0, [0], message)
     return script
 
 
@@ -316,6 +327,8 @@ def main():
         went = [
             measure_kind(tool, "steady writing", steady, six_copies(1), folder),
             measure_kind(tool, "records in reverse", reverse, six_copies(1), folder),
+            measure_kind(tool, "one block in random order", lambda size: one_block(size, random.Random(1).shuffle), six_copies(1), folder),
+            measure_kind(tool, "one block in reverse", lambda size: one_block(size, list.reverse), six_copies(1), folder),
             measure_kind(tool, "recoveries between", recoveries, six_copies(1), folder),
             measure_kind(tool, "recoveries after each record", quick_recoveries, six_copies(1), folder),
             measure_kind(tool, "a member replaced", replaced, member_replaced(), folder),
