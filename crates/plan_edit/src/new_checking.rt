@@ -223,8 +223,8 @@ fn are_outlasting(alloc: Global, configuration: &Configuration, lost: u8) -> Res
     outlasts(alloc, &configuration.write, members, lost)
 }
 
-/// Returns whether both expressions of a configuration survive the loss of each zone, and the read expression that of one
-/// more member too.
+/// Returns whether both expressions of a configuration survive the loss of each zone, and the read expression that of
+/// one more member too.
 fn are_outlasting_zones(
     configuration: &Configuration,
     zones: &[MemberSet],

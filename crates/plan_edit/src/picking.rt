@@ -6,8 +6,8 @@
 //! - Any `n` of `m` members may be lost: a set writes with `m - n` members, and reads with `n + 1`.
 //! - A zone may be lost: the same, with the size of the largest zone as `n`, if read sets survive what is asked then.
 //! - Else a set writes that has a part of all zones but one, and a set reads that has a part of two zones. The parts of
-//!   a zone of `z` members are `z / 2 + 1` of them for writes, and for reads as many as meet these. With three zones, of
-//!   which read sets survive one and one more member, a part is the whole zone for writes, and one member for reads.
+//!   a zone of `z` members are `z / 2 + 1` of them for writes, and for reads as many as meet these. With three zones,
+//!   of which read sets survive one and one more member, a part is the whole zone for writes, and one member for reads.
 
 use crate::new_refusal::NewRefusal;
 use quorum_expr::{MEMBERS, MemberSet};

@@ -31,8 +31,8 @@ fn texts<'a>(alloc: Global, words: &'a [String]) -> Result<Vec<&'a str>, AllocEr
     words.iter().map(|word| word.as_str()).collect(alloc)
 }
 
-/// Performs a job. A search, a replacement, a new plan and a fleet start their threads with the second handle. A file is
-/// opened when it is read, a script after the plan was checked: opening a named pipe waits for its writer.
+/// Performs a job. A search, a replacement, a new plan and a fleet start their threads with the second handle. A file
+/// is opened when it is read, a script after the plan was checked: opening a named pipe waits for its writer.
 fn perform_job<H: Threads + Wait + Sync, O: Write, E: Write>(
     rt: &HostRuntime,
     threads: &H,

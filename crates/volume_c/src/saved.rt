@@ -83,8 +83,8 @@ pub fn read_segment(alloc: Global, bytes: &[u8]) -> Result<SegmentSnapshot, Faul
     })
 }
 
-/// Returns what stands before the records in the bytes of a segment's snapshot. With the records behind it, `read_segment`
-/// reads it back as the snapshot.
+/// Returns what stands before the records in the bytes of a segment's snapshot. With the records behind it,
+/// `read_segment` reads it back as the snapshot.
 ///
 /// # Errors
 /// `Full` if a list is longer than four bytes can count; `NoMemory`.

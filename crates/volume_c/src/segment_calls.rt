@@ -81,9 +81,9 @@ pub extern "C" fn volume_segment_new(
     }
 }
 
-/// Makes a segment from the bytes of a snapshot, all that `volume_snapshot_read` wrote: the segment that was saved, after a restart.
-/// Then pass it, by `volume_segment_take`, each message that was logged since, in the order of the log, and drop the
-/// answers. `out` must be empty. On success it holds the segment.
+/// Makes a segment from the bytes of a snapshot, all that `volume_snapshot_read` wrote: the segment that was saved,
+/// after a restart. Then pass it, by `volume_segment_take`, each message that was logged since, in the order of the
+/// log, and drop the answers. `out` must be empty. On success it holds the segment.
 ///
 /// Refused 1, 2 or 3 where the bytes aren't a snapshot's, and 82 where the plan names no such member.
 #[unsafe(no_mangle)]

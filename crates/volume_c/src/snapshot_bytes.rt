@@ -98,7 +98,7 @@ impl SnapshotBytes {
         bytes
     }
 
-    /// Hands out the next bytes to the front of a buffer, of the records as many as fit whole, and returns their number.
+    /// Hands out the next bytes to the front of a buffer, of the records as many as fit whole. Returns their number.
     pub fn read(&mut self, out: &mut [u8]) -> usize
         ensures moves { bytes_left self.old ≡ take result out.new ++ bytes_left self.new }
         ensures back { drop result out.new ≡ drop result out.old }

@@ -75,9 +75,9 @@ fn save_held(alloc: Global, held: &mut Held, out: &mut Handle) -> u8
 }
 
 /// Takes a snapshot of a segment, and drops the pieces of copies and installs that are under way, as a restart does.
-/// `out` must be empty. On success it holds the snapshot, whose bytes `volume_snapshot_read` hands out, and the segment's
-/// handle holds exactly what the bytes are resumed to. A resumed segment that takes the messages logged since, in order,
-/// reaches the same state.
+/// `out` must be empty. On success it holds the snapshot, whose bytes `volume_snapshot_read` hands out, and the
+/// segment's handle holds exactly what the bytes are resumed to. A resumed segment that takes the messages logged since,
+/// in order, reaches the same state.
 ///
 /// The snapshot shares the segment's records: it takes some 8 bytes for each of them, and stays as it is whatever the
 /// segment does meanwhile. It may be read in another thread.
@@ -126,8 +126,8 @@ fn read_held(held: &mut Held, out: &mut [u8], written: &mut usize) -> u8
 }
 
 /// Writes the next bytes of a snapshot to the front of `out`, as docs/WIRE.md lays them out: of its records as many as
-/// fit whole. `written` is their number. What the calls write, one after the other, is what `volume_segment_resume` takes.
-/// A snapshot has some 50 to 109 bytes for each record; a buffer that is large enough gets all bytes at once.
+/// fit whole. `written` is their number. What the calls write, one after the other, is what `volume_segment_resume`
+/// takes. A snapshot has some 50 to 109 bytes for each record; a buffer that is large enough gets all bytes at once.
 ///
 /// Returns 93 where all bytes were written before, 92 where `out` is too short for the next record: 109 bytes suffice.
 #[unsafe(no_mangle)]

@@ -36,8 +36,8 @@ pub fn readable_volumes_commit()
     ensures { ReadableVolumesCommit }
 {}
 
-/// Proves both for the runs of all lists of events over a plan without a fault: a group whose last advance waited can be
-/// read, and a volume whose groups can be read goes on.
+/// Proves both for the runs of all lists of events over a plan without a fault: a group whose last advance waited can
+/// be read, and a volume whose groups can be read goes on.
 pub fn volumes_go_on(plan: &CheckedPlan)
     ensures goes_on { (events : List Event) → VolumeGoesOn (checked_model plan.now) events }
     ensures can_be_read { WaitingGroupsCanBeRead (checked_model plan.now) }
