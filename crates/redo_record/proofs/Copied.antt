@@ -1,7 +1,5 @@
 -- Lists of packets that are cloned
-use Rattle.std.proofs.Common.{◌≡◌, ◌⊎◌, List, [], ◌∷◌, ◌++◌, Vec, vec_len, Result, Ok, Err, map, refl, ap, ◌∙◌, inl, inr}
-use Rattle.std.specs.Result.{OnErr}
-use Rattle.std.specs.Global.{Global}
+use Rattle.std.proofs.Common.{◌≡◌, List, [], ◌∷◌, ◌++◌, map, refl, ap, ◌∙◌}
 use Rattle.std.proofs.lemmas.List.{map-append}
 use Rattle.std.specs.List.{AllZip, AppendsClones}
 use Rattle.volume_model.specs.Redo.{Redo}
@@ -28,13 +26,3 @@ redos-copied (packet ∷ packets) (copy ∷ copies) h =
 pub redos-appended : (old now more : List SharedRecord) → AppendsClones IsCopy old now more → redos now ≡ redos old ++ redos more
 redos-appended old now more h =
     ap redos h.1 ∙ map-append shared_redo old h.0 ∙ ap (λ rs. redos old ++ rs) (redos-copied more h.0 h.2)
-
--- packets that may be written to are those that were there, or clones of them
-pub redos-made : (old now : Vec SharedRecord Global) → (now ≡ old) ⊎ (AllZip IsCopy old.items now.items × (vec_len now ≡ vec_len old)) → redos now.items ≡ redos old.items
-redos-made old now (inl same) = ap (λ v. redos v.items) same
-redos-made old now (inr copied) = redos-copied old.items now.items copied.0
-
--- what holds anyhow holds at an error
-pub on_err : {A E : Type 0} (result : Result A E) (P : Type 0) → P → OnErr result P
-on_err (Ok a) P p = tt
-on_err (Err e) P p = p

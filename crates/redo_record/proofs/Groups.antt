@@ -1,22 +1,15 @@
 -- Records of one group
-use Rattle.std.proofs.Common.{◌≡◌, ◌==◌, ◌&&◌, ℕ, Bool, true, false, List, [], ◌∷◌, ◌++◌, Option, Some, None, refl, sym, ap, subst, inl, inr, eq-eqb, eqb-true}
-use Rattle.std.proofs.lemmas.Bool.{and_parts}
+use Rattle.std.proofs.Common.{◌≡◌, ◌==◌, ◌&&◌, ℕ, Bool, true, false, List, [], ◌∷◌, ◌++◌, Option, Some, None, refl, sym, ap, subst, inl, inr, eq-eqb}
 use Rattle.volume_model.specs.Lists.{every}
-use Rattle.volume_model.specs.Redo.{Redo, with_record, with_records}
+use Rattle.volume_model.specs.Redo.{Redo, with_record}
 use Rattle.volume_model.proofs.Basics.{IsIn-append}
 use Rattle.redo_record.specs.Groups.{AreOf, IsKnownGroup}
 use Rattle.redo_record.proofs.Places.{with_record-from}
-use Rattle.redo_record.proofs.Merging.{with_records-from}
 
 -- the test that each passes, and what it says
 pub every-of : (group : ℕ) (records : List Redo) → AreOf group records → every (λ r. r.group == group) records ≡ true
 every-of group [] all = refl
 every-of group (r ∷ rest) all = rw (eq-eqb r.group group (all r (inl refl)), every-of group rest (λ s i. all s (inr i))) refl
-
-pub of-every : (group : ℕ) (records : List Redo) → every (λ r. r.group == group) records ≡ true → AreOf group records
-of-every group [] h s i = absurd i
-of-every group (r ∷ rest) h s (inl e) = subst (λ (z : Redo). z.group ≡ group) (sym e) (eqb-true r.group group (and_parts (r.group == group) (every (λ t. t.group == group) rest) h).0)
-of-every group (r ∷ rest) h s (inr i) = of-every group rest (and_parts (r.group == group) (every (λ t. t.group == group) rest) h).1 s i
 
 -- a group that is kept, and none
 pub known_group-some : (group : ℕ) (records : List Redo) → AreOf group records → IsKnownGroup (Some group) records
@@ -25,12 +18,6 @@ known_group-some group records all other e = subst (λ n. AreOf n records) (ap (
     held : Option ℕ → ℕ
     held None = group
     held (Some n) = n
-
-pub known_group-none : (records : List Redo) → IsKnownGroup None records
-known_group-none records group e = absurd (none_some group e)
-  where
-    none_some : (n : ℕ) → None ≡ Some n → ⊥
-    none_some n h = cc
 
 -- one more of the group
 pub of-more : (group : ℕ) (r : Redo) (records : List Redo) → group ≡ r.group → AreOf group records → AreOf group (r ∷ records)
@@ -44,10 +31,6 @@ of-both group records more all also s i = elim (IsIn-append records more s i) [ 
 -- what is kept for a list is kept for the same records in another order
 pub known_group-with_record : (known_group : Option ℕ) (r : Redo) (records : List Redo) → IsKnownGroup known_group (r ∷ records) → IsKnownGroup known_group (with_record r records)
 known_group-with_record known_group r records kept group e s i = kept group e s (with_record-from r records s i)
-
-pub known_group-with_records : (known_group : Option ℕ) (records others : List Redo) → IsKnownGroup known_group records → IsKnownGroup known_group others → IsKnownGroup known_group (with_records records others)
-known_group-with_records known_group records others own also group e s i =
-    elim (with_records-from records others s i) [ inl j ↦ own group e s j | inr j ↦ also group e s j ]
 
 -- the test of two lists
 pub every-both : (test : Redo → Bool) (xs ys : List Redo) → every test (xs ++ ys) ≡ (every test xs && every test ys)

@@ -1,6 +1,6 @@
 -- Parts of a list of records
 use Rattle.std.proofs.Common.{◌≡◌, ℕ, zero, suc, ◌+◌, ◌-◌, ◌*◌, ◌≤◌, min, List, [], ◌∷◌, length, take, drop, map, Option, sym, ap, ◌∙◌, subst, arith}
-use Rattle.std.proofs.lemmas.List.{take_all, take-take, drop-take, drop-drop, drop_min, take_min, length-take, length-drop, take-map, drop-map}
+use Rattle.std.proofs.lemmas.List.{take-take, drop-take, drop-drop, drop_min, take_min, length-take, length-drop, take-map, drop-map}
 use Rattle.volume_model.specs.Pieces.{piece_records}
 use Rattle.volume_model.specs.Redo.{Redo}
 use Rattle.volume_model.proofs.Basics.{IsIn-take, IsIn-drop}
@@ -29,10 +29,6 @@ part-of_part xs first all from len within inside =
     ∙ take-take len (all - from) (drop from (drop first xs)) few
     ∙ ap (take len) (drop-drop from first xs)
     )
-
--- the part that is all of it
-pub part-whole : {A : Type 0} (xs : List A) (from len : ℕ) → from ≡ 0 → len ≡ length xs → take len (drop from xs) ≡ xs
-part-whole xs from len none all = ap (λ n. take len (drop n xs)) none ∙ take_all len xs (omega arith)
 
 -- the part of the records that a piece is
 pub part-piece : (records : List Redo) (number from len : ℕ) → from ≡ min (number * 256) (length records) → len ≡ min (length records - from) 256 → take len (drop from records) ≡ piece_records records number
