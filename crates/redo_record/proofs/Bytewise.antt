@@ -1,7 +1,7 @@
 -- Payloads that are compared byte by byte
 use Rattle.std.proofs.Common.{◌≡◌, ℕ, zero, suc, ◌<◌, ◌≤◌, ◌+◌, ◌-◌, ◌&&◌, Bool, true, false, nat_eq, List, [], ◌∷◌, ◌++◌, length, get_or, drop, replicate, slice_index, refl, sym, ap, ◌∙◌, subst, inl, inr, arith}
 use Rattle.std.proofs.lemmas.Bool.{cases_lt, and_parts, and_from, eqb-true, eq-eqb}
-use Rattle.std.proofs.lemmas.List.{ext_get_or, get_or-drop, get_or-take, length-append, length-drop, length-replicate, length-take-le}
+use Rattle.std.proofs.lemmas.List.{ext_get_or, get_or-drop, get_or-take, get_or_append_left, get_or_past, length-append, length-drop, length-replicate, length-take-le}
 use Rattle.std.proofs.Math.Seq.{get_or-append_right}
 use Rattle.volume_model.specs.Redo.{same_numbers}
 use Rattle.redo_record.specs.declared.payload.Payload.{Payload}
@@ -87,10 +87,17 @@ zeros zero k = refl
 zeros (suc n) zero = refl
 zeros (suc n) (suc k) = zeros n k
 
-pub is-padded : (bytes : List ℕ) (n : ℕ) → length bytes ≡ n → n ≤ 64 → IsPadded (bytes ++ drop n (replicate 64 0)) n
-is-padded bytes n e l =
+-- bytes of which those behind the first count are 0, with zeros behind them
+pub padded-behind : (bytes : List ℕ) (n count : ℕ) → length bytes ≡ n → n ≤ 64 → ((at : ℕ) → count ≤ at → slice_index bytes at ≡ 0) → IsPadded (bytes ++ drop n (replicate 64 0)) count
+padded-behind bytes n count e l cleared =
     let room : List ℕ = replicate 64 0 in
     record {
       sized = length-append bytes (drop n room) ∙ omega (arith, e, l, length-drop n room, length-replicate 64 zero);
-      cleared = λ at h. get_or-append_right bytes (drop n room) at 0 (omega (arith, e, h)) ∙ get_or-drop n room (at - length bytes) 0 ∙ zeros 64 (n + (at - length bytes));
+      cleared = λ at h. elim (cases_lt at n) [
+        | inl m ↦ get_or_append_left bytes (drop n room) 0 at (omega (arith, e)) ∙ cleared at h
+        | inr m ↦ get_or-append_right bytes (drop n room) at 0 (omega (arith, e)) ∙ get_or-drop n room (at - length bytes) 0 ∙ zeros 64 (n + (at - length bytes))
+      ];
     }
+
+pub is-padded : (bytes : List ℕ) (n : ℕ) → length bytes ≡ n → n ≤ 64 → IsPadded (bytes ++ drop n (replicate 64 0)) n
+is-padded bytes n e l = padded-behind bytes n n e l (λ at h. get_or_past bytes at 0 (omega (arith, e)))

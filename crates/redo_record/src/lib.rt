@@ -24,7 +24,7 @@ pub use decoding::decode;
 pub use encoding::encode;
 pub use head::LAST_LSN;
 pub use packet::Packet;
-pub use payload::{MOST_BYTES, Payload};
+pub use payload::{FEW_BYTES, MOST_BYTES, Payload};
 pub use record::Record;
 pub use record_set::RecordSet;
 pub use records::Records;

@@ -1,7 +1,7 @@
 //! Changes, of which a transaction consists.
 
-use crate::inline_bytes::{InlineBytes, MOST_INLINE};
-use redo_record::Payload;
+use crate::inline_bytes::InlineBytes;
+use redo_record::{FEW_BYTES, Payload};
 use std::alloc::{AllocError, Global};
 
 /// A change. Short bytes are inline, longer ones are boxed.
@@ -52,7 +52,7 @@ impl Change {
           bytes = bytes.now;
         }) }
     {
-        if bytes.len() <= MOST_INLINE {
+        if bytes.len() <= FEW_BYTES {
             let bytes = InlineBytes::new(bytes);
             return Ok(Change {
                 form: Form::Few {

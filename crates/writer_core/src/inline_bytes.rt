@@ -1,19 +1,17 @@
 //! Short byte strings, stored inline.
 
-ghost use Rattle.std.specs.Prelude.{◌≤◌};
+ghost use Rattle.std.specs.Prelude.{◌≡◌, ◌≤◌, ℕ, slice_index};
 
-use redo_record::Payload;
+use redo_record::{FEW_BYTES, Payload};
 
-/// The most bytes that are stored inline.
-pub const MOST_INLINE: usize = 7;
-
-/// 1 to 7 bytes, stored inline.
+/// 1 to 7 bytes, stored inline, with zeros after them.
 #[derive(Clone, Copy)]
 pub struct InlineBytes {
     length: u8,
-    place: [u8; MOST_INLINE],
+    place: [u8; FEW_BYTES],
     ghost not_empty: { 1 ≤ length },
     ghost in_place: { length ≤ 7 },
+    ghost cleared: { (at : ℕ) → length ≤ at → slice_index place at ≡ 0 },
 }
 
 impl InlineBytes {
@@ -25,11 +23,11 @@ impl InlineBytes {
     #[inline(always)]
     pub fn new(bytes: &[u8]) -> InlineBytes
         requires some { 1 ≤ length bytes.now }
-        requires few { length bytes.now ≤ MOST_INLINE }
+        requires few { length bytes.now ≤ 7 }
         ensures { inline_bytes result ≡ bytes.now }
     {
-        let mut place = [0; MOST_INLINE];
-        for at in 0..MOST_INLINE {
+        let mut place = [0; FEW_BYTES];
+        for at in 0..FEW_BYTES {
             if at < bytes.len() {
                 place[at] = bytes[at];
             }
@@ -50,12 +48,10 @@ impl InlineBytes {
     }
 
     /// Returns the bytes as a record's payload.
+    #[inline(always)]
     pub fn payload(&self) -> Payload
         ensures { payload_bytes result ≡ inline_bytes self.now }
     {
-        match Payload::new(self.as_slice()) {
-            Some(payload) => payload,
-            None => unreachable!(),
-        }
+        Payload::from_few(&self.place, self.length)
     }
 }
