@@ -4,16 +4,16 @@ use Rattle.std.specs.Prelude.{nat_le, is_some, if◌then◌else◌, Option, ◌�
 use Rattle.std.proofs.Common.{inl, inr}
 use Rattle.std.proofs.lemmas.Bool.Decides.{nat_tests}
 use Rattle.serde_json.specs.Data.{Data, null, boolean, number, string, array, object, Items, no_items, item}
-use Rattle.serde_json.specs.Events.{members_len, items_len}
+use Rattle.serde_json.specs.Events.{members_len}
 use Rattle.serde_json.specs.Find.{as_number, as_array}
-use Rattle.quorum_expr.specs.Nodes.{items_in, keys_up_to}
+use Rattle.quorum_expr.specs.Nodes.{keys_up_to}
 use Rattle.volume_model.specs.declared.fault.Fault.{Fault}
 use Rattle.volume_model.specs.declared.fault.Fault.TheVariants.{Malformed}
 use Rattle.volume_model.specs.Answer.{◌>>=◌}
 use Rattle.volume_model.specs.Lists.{each_below}
 use Rattle.volume_model.specs.Sets.{listed}
 use Rattle.std.specs.Ordering.{nat_cmp}
-use Rattle.std.specs.FinSet.{FinSet, contains, empty}
+use Rattle.std.specs.FinSet.{FinSet, contains}
 use Rattle.quorum_expr.specs.declared.form.Lists.{Lists}
 use Rattle.quorum_expr.specs.Reading.{Weights, single, whole_of, good_keys, good_row, choice_of, form_of, wholes_of, whole_list_of}
 use Rattle.quorum_expr.proofs.Rows.{row-long}

@@ -1,5 +1,5 @@
 -- The members of an object on a tape stand in order of their keys, each key once.
-use Rattle.std.proofs.Common.{◌≡◌, List, true, Option, Some, is_some, refl, sym, ap, ◌∙◌, subst}
+use Rattle.std.proofs.Common.{◌≡◌, List, true, Some, is_some, sym, subst}
 use Rattle.std.specs.Prelude.{⊤}
 use Rattle.json.specs.Token.{Token}
 use Rattle.json.specs.Json as json
@@ -9,7 +9,7 @@ use Rattle.serde_json.specs.Read.{of_json, of_members}
 use Rattle.quorum_expr.specs.Placed.{data_at, or_null}
 use Rattle.quorum_expr.proofs.Keys.{IsAscending, ascending_put}
 use Rattle.quorum_expr.proofs.Converted.{then, by_kind}
-use Rattle.quorum_expr.proofs.Places.{Placed, placed, data-placed}
+use Rattle.quorum_expr.proofs.Places.{placed, data-placed}
 
 -- an object's members are in order
 abbrev pub IsInOrder : Data → Type 0

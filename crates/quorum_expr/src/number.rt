@@ -65,6 +65,7 @@ fn is_from_zero(numeral: &Numeral<'_>) -> bool
 }
 
 /// Decides the general case of `is_in_range`.
+#[inline(never)]
 fn is_any_in_range(text: &str) -> bool
     ensures { result ≡ is_some (number_of text.now) }
 {
@@ -86,6 +87,7 @@ fn whole(numeral: &Numeral<'_>) -> Option<u64>
 }
 
 /// Decides the general case of `whole_number`.
+#[inline(never)]
 fn any_whole_number(text: &str) -> Option<u64>
     ensures { result ≡ option_and_then as_u64 (number_of text.now) }
 {

@@ -28,6 +28,7 @@ pub struct TapeItems<'t, 'a> {
 const KEYS: usize = 8;
 
 /// Returns whether two texts are equal. Most unequal ones differ in length or in their first byte.
+#[inline(always)]
 fn is_equal(a: &str, b: &str) -> bool
     ensures { result ≡ bytes_eq a.now b.now }
 {
@@ -42,6 +43,7 @@ fn is_equal(a: &str, b: &str) -> bool
 }
 
 /// Returns the last member with a key, as [`Element::get`] does.
+#[inline(always)]
 fn find<'t, 'a>(element: &Element<'t, 'a>, key: &str) -> Option<Element<'t, 'a>>
     ensures { (j : json.Json) → BeginsWith element.now j → Finds result (get key.now j) }
 {
@@ -106,6 +108,7 @@ impl<'t, 'a> Node for TapeNode<'t, 'a> {
         }
     }
 
+    #[inline(always)]
     fn as_u64(&self) -> Option<u64> {
         match self.element.as_number() {
             Some(text) => whole_number(text),
@@ -113,9 +116,10 @@ impl<'t, 'a> Node for TapeNode<'t, 'a> {
         }
     }
 
+    #[inline(always)]
     fn is_text(&self, text: &str) -> bool {
         match self.element.as_str() {
-            Some(found) => found == text,
+            Some(found) => is_equal(found, text),
             None => false,
         }
     }
@@ -127,6 +131,7 @@ impl<'t, 'a> Node for TapeNode<'t, 'a> {
         }
     }
 
+    #[inline(always)]
     fn get(&self, key: &str) -> Option<TapeNode<'t, 'a>> {
         match find(&self.element, key) {
             Some(element) => Some(TapeNode { element }),

@@ -28,6 +28,7 @@ use volume_model::Fault;
 ///
 /// # Errors
 /// [`Fault::Malformed`] if there is none, or the node isn't an object.
+#[inline(always)]
 pub fn value_at<N: Node>(value: &N, key: &str) -> Result<N, Fault>
     ensures { Gives N.means result (at_key key.now (N.means value.now)) }
 {
@@ -41,6 +42,7 @@ pub fn value_at<N: Node>(value: &N, key: &str) -> Result<N, Fault>
 ///
 /// # Errors
 /// [`Fault::Malformed`] for any other value.
+#[inline(always)]
 pub fn whole<N: Node>(value: &N) -> Result<u64, Fault>
     ensures given { Gives (λ n. n) result (whole_of (N.means value.now)) }
     ensures own { IfErr result (λ fault. fault ≢ Fault.NoMemory) }
@@ -231,12 +233,12 @@ fn each_member(
     ensures weights { IfOk result (λ v. HaveWeights (weights_data weights.now) 0 v.items) }
     ensures counted { IfOk result (λ v. room.new ≡ room.old - row_nodes (each_once (formulas_of v.items))) }
 {
-    let mut of = Vec::new(alloc);
-    for m in 0..MEMBERS {
-        if members.contains(m) {
-            of.push((weights.at(of.len()), Expr::Member(m)))?;
-            *room = room.saturating_sub(1);
-        }
+    let mut of = Vec::with_capacity(alloc, usize::from(members.len()))?;
+    let mut rest = members;
+    while let Some(m) = rest.first() {
+        of.push((weights.at(of.len()), Expr::Member(m)))?;
+        *room = room.saturating_sub(1);
+        rest = rest.without(m);
     }
     Ok(of)
 }

@@ -1,28 +1,34 @@
-use Rattle.std.proofs.Common.{◌≡◌, ◌∙◌, ap, sym, map, arith, Ok, rules}
-use Rattle.std.specs.FinSet as set
+use Rattle.std.proofs.Common.{◌++◌, ◌∷◌, ◌∙◌, ap, sym, length, map, arith, Ok, rules}
 use Rattle.volume_model.specs.Formula.{member}
-use Rattle.volume_model.specs.Lists.{each_below}
-use Rattle.quorum_expr.proofs.MemberLists.{member_pushed, member_skipped, member_counted}
-use Rattle.quorum_expr.specs.Forms.{weights_data}
+use Rattle.volume_model.specs.Sets.{listed}
+use Rattle.quorum_expr.specs.Forms.{formulas_of, weights_data}
+use Rattle.quorum_expr.proofs.MemberLists.{empty_listed, first_removed, member_moved, member_counted, nil_right}
 use Rattle.quorum_expr.proofs.Rows.{weights_pushed}
 use Rattle.quorum_expr.proofs.reading.each_member.Goals as goal
-use Rattle.quorum_expr.proofs.reading.each_member.Goals.{then-contains+in_ok-push, else-contains}
 
-pub returns-clause-read : goal.returns-clause-read
-returns-clause-read c =
-    let all : c.loop-m.m ≡ 64 = omega (arith, c.loop-m.auto.m-end) in
-    ap Ok (sym (c.loop-m.invariant.read ∙ ap (λ n. map member (each_below n (set.contains c.args.members) (λ x. x))) all))
+pub without-rest-requires : goal.without-rest-requires
+without-rest-requires c = (first_removed c.loop-m.rest c.in-Some.m c.in-Some.ensures.first c.in-Some.ensures.least.0 c.in-Some.ensures.least.1).0
+
+pub loop-m-init : goal.loop-m-init
+loop-m-init c = record {
+  read = ap (λ es. formulas_of es ++ map member (listed c.args.members)) c.in_ok-of.ensures.items;
+  weights = rw c.in_ok-of.ensures.items tt;
+  counted = rw c.in_ok-of.ensures.items (omega arith);
+}
+
+pub loop-m-smaller : goal.loop-m-smaller
+loop-m-smaller c =
+    let next = (first_removed c.loop-m.rest c.in-Some.m c.in-Some.ensures.first c.in-Some.ensures.least.0 c.in-Some.ensures.least.1).1 in
+    omega (arith, ap length next, ap (λ s. length (listed s)) c.without-rest.ensures)
 
 pub loop-m-preserved : goal.loop-m-preserved
-loop-m-preserved c = elim c.if-contains.branch [
-  | then-contains+in_ok-push w ↦ record {
-    read = rw w.of-is (member_pushed _ _ _ c.loop-m.m _ w.in_ok-push.ensures.items (sym w.if-contains.ensures.is_in) c.loop-m.invariant.read);
-    weights = rw w.of-is (weights_pushed (weights_data c.args.weights.now) _ _ _ w.len.result w.in_ok-push.ensures.items (search rules) w.at.ensures c.loop-m.invariant.weights);
-    counted = rw (w.of-is, w.room-is) (member_counted _ _ _ c.loop-m.m _ _ _ w.in_ok-push.ensures.items w.saturating_sub.ensures c.loop-m.invariant.counted);
-  }
-  | else-contains w ↦ record {
-    read = rw w.of-is (member_skipped _ c.loop-m.m _ (sym w.if-contains.ensures.is_in) c.loop-m.invariant.read);
-    weights = rw w.of-is c.loop-m.invariant.weights;
-    counted = rw (w.of-is, w.room-is) c.loop-m.invariant.counted;
-  }
-]
+loop-m-preserved c =
+    let next = (first_removed c.loop-m.rest c.in-Some.m c.in-Some.ensures.first c.in-Some.ensures.least.0 c.in-Some.ensures.least.1).1 ∙ ap (λ s. c.in-Some.m ∷ listed s) (sym c.without-rest.ensures) in
+    record {
+      read = member_moved _ _ _ c.in-Some.m (listed c.loop-m.rest) (listed c.without-rest.result) (listed c.args.members) c.in_ok-push.ensures.items next c.loop-m.invariant.read;
+      weights = weights_pushed (weights_data c.args.weights.now) _ _ _ c.len-in-Some.result c.in_ok-push.ensures.items (search rules) c.at.ensures c.loop-m.invariant.weights;
+      counted = member_counted _ _ _ c.in-Some.m _ _ _ c.in_ok-push.ensures.items c.saturating_sub.ensures c.loop-m.invariant.counted;
+    }
+
+pub returns-clause-read : goal.returns-clause-read
+returns-clause-read c = ap Ok (sym c.loop-m.invariant.read ∙ ap (λ ms. formulas_of c.loop-m.of.items ++ map member ms) (empty_listed c.loop-m.rest c.in_default.ensures.least) ∙ nil_right _)
