@@ -44,29 +44,21 @@ good_few : (w : Bool) (n : ℕ) → good_keys w (min n 4) ≡ true → min n 4 �
 good_few true n h = grind (arith, nat_tests, h)
 good_few false n h = grind (arith, nat_tests, h)
 
-pub choice_form : (lists : Lists) (d : Data) (n : ℕ) → Some n ≡ keys_up_to 4 d → good_keys lists.is_weighted n ≡ true → form_of lists d ≡ choice_of lists n d
+pub keyed_form : (lists : Lists) (d : Data) (n : ℕ) → Some n ≡ keys_up_to 4 d → form_of lists d ≡ (if good_keys lists.is_weighted n then choice_of lists n d else Err Malformed)
 unfolding form_of
-choice_form lists null n h good = absurd (cc)
-choice_form lists (boolean b) n h good = absurd (cc)
-choice_form lists (number x) n h good = absurd (cc)
-choice_form lists (string s) n h good = absurd (cc)
-choice_form lists (array ds) n h good = absurd (cc)
-choice_form lists (object ms) n h good =
+keyed_form lists null n h = absurd (cc)
+keyed_form lists (boolean b) n h = absurd (cc)
+keyed_form lists (number x) n h = absurd (cc)
+keyed_form lists (string s) n h = absurd (cc)
+keyed_form lists (array ds) n h = absurd (cc)
+keyed_form lists (object ms) n h =
     let same : n ≡ min (members_len ms) 4 = some_same n (min (members_len ms) 4) h in
-    let capped_good : good_keys lists.is_weighted (min (members_len ms) 4) ≡ true = ap (good_keys lists.is_weighted) (sym same) ∙ good in
-    let few : min (members_len ms) 4 ≡ members_len ms = good_few lists.is_weighted (members_len ms) capped_good in
-    ap (λ b. if b then choice_of lists (members_len ms) (object ms) else Err Malformed) (sym (keys_capped lists.is_weighted (members_len ms)) ∙ capped_good) ∙ ap (λ k. choice_of lists k (object ms)) (sym (same ∙ few))
-
-pub other_form : (lists : Lists) (d : Data) (n : ℕ) → Some n ≡ keys_up_to 4 d → good_keys lists.is_weighted n ≡ false → form_of lists d ≡ Err Malformed
-unfolding form_of
-other_form lists null n h bad = absurd (cc)
-other_form lists (boolean b) n h bad = absurd (cc)
-other_form lists (number x) n h bad = absurd (cc)
-other_form lists (string s) n h bad = absurd (cc)
-other_form lists (array ds) n h bad = absurd (cc)
-other_form lists (object ms) n h bad =
-    let same : n ≡ min (members_len ms) 4 = some_same n (min (members_len ms) 4) h in
-    ap (λ b. if b then choice_of lists (members_len ms) (object ms) else Err Malformed) (sym (keys_capped lists.is_weighted (members_len ms)) ∙ ap (good_keys lists.is_weighted) (sym same) ∙ bad)
+    elim (good_keys lists.is_weighted n) as (λ b. good_keys lists.is_weighted n ≡ b → (if good_keys lists.is_weighted (members_len ms) then choice_of lists (members_len ms) (object ms) else Err Malformed) ≡ (if b then choice_of lists n (object ms) else Err Malformed)) [
+      | true ↦ λ e.
+          let good : good_keys lists.is_weighted (min (members_len ms) 4) ≡ true = ap (good_keys lists.is_weighted) (sym same) ∙ e in
+          ap (λ b. if b then choice_of lists (members_len ms) (object ms) else Err Malformed) (sym (keys_capped lists.is_weighted (members_len ms)) ∙ good) ∙ ap (λ k. choice_of lists k (object ms)) (sym (same ∙ good_few lists.is_weighted (members_len ms) good))
+      | false ↦ λ e. ap (λ b. if b then choice_of lists (members_len ms) (object ms) else Err Malformed) (sym (keys_capped lists.is_weighted (members_len ms)) ∙ ap (good_keys lists.is_weighted) (sym same) ∙ e)
+    ] refl
 
 pub no_form : (lists : Lists) (d : Data) → is_some (as_number d) ≡ false → None ≡ keys_up_to 4 d → form_of lists d ≡ Err Malformed
 unfolding form_of

@@ -1,9 +1,11 @@
-use Rattle.std.proofs.Common.{Ok, sym, ap, ◌∙◌}
+use Rattle.std.proofs.Common.{Ok, Err, sym, ap, ◌∙◌}
 use Rattle.std.proofs.lemmas.Result.{err_from_is_err_and}
 use Rattle.volume_model.specs.Answer.{◌>>=◌}
-use Rattle.quorum_expr.specs.Reading.{single, whole_of}
+use Rattle.std.specs.Prelude.{if◌then◌else◌}
+use Rattle.volume_model.specs.declared.fault.Fault.TheVariants.{Malformed}
+use Rattle.quorum_expr.specs.Reading.{choice_of, single, whole_of}
 use Rattle.quorum_expr.proofs.Levels.{Fails-at}
-use Rattle.quorum_expr.proofs.NodeForms.{number_form, choice_form, other_form, no_form}
+use Rattle.quorum_expr.proofs.NodeForms.{number_form, keyed_form, no_form}
 use Rattle.quorum_expr.proofs.reading.form_at.Goals as goal
 
 pub returns-in_err-whole : goal.returns-in_err-whole
@@ -19,7 +21,13 @@ pub returns-in_default : goal.returns-in_default
 returns-in_default g c = no_form c.args.lists.now (g.N.Node.means c.args.value.now) (sym c.if-is_number.ensures) (sym c.in_default.is ∙ c.keys.ensures)
 
 pub returns-then-not-is_good_keys : goal.returns-then-not-is_good_keys
-returns-then-not-is_good_keys g c = other_form c.args.lists.now (g.N.Node.means c.args.value.now) c.in-Some.keys c.in-Some.ensures (sym c.if-not-is_good_keys.ensures)
+returns-then-not-is_good_keys g c =
+    let lists = c.args.lists.now in
+    let d = g.N.Node.means c.args.value.now in
+    keyed_form lists d c.in-Some.keys c.in-Some.ensures ∙ ap (λ b. if b then choice_of lists c.in-Some.keys d else Err Malformed) (sym c.if-not-is_good_keys.ensures)
 
 pub returns : goal.returns
-returns g c = rw (choice_form c.args.lists.now (g.N.Node.means c.args.value.now) c.in-Some.keys c.in-Some.ensures (sym c.if-not-is_good_keys.ensures)) c.choice.ensures
+returns g c =
+    let lists = c.args.lists.now in
+    let d = g.N.Node.means c.args.value.now in
+    rw (keyed_form lists d c.in-Some.keys c.in-Some.ensures ∙ ap (λ b. if b then choice_of lists c.in-Some.keys d else Err Malformed) (sym c.if-not-is_good_keys.ensures)) c.choice.ensures
