@@ -85,6 +85,7 @@ pub fn two<N: Node>(value: &N) -> Result<(N, N), Fault>
 /// # Errors
 /// `Malformed` for any other value.
 #[tactic(auto, unfolding(crate::specs::Reading::number_to))]
+#[inline(always)]
 pub fn number_to<N: Node>(value: &N, most: u64) -> Result<u64, Fault>
     ensures given { Gives (λ n. n) result (number_to most (N.means value.now)) }
     ensures own { IfErr result (λ fault. fault ≢ Fault.NoMemory) }
@@ -102,6 +103,7 @@ pub fn number_to<N: Node>(value: &N, most: u64) -> Result<u64, Fault>
 /// # Errors
 /// `Malformed` if there is none.
 #[tactic(auto, unfolding(crate::specs::Reading::number_at))]
+#[inline(always)]
 pub fn number_at<N: Node>(value: &N, key: &str, most: u64) -> Result<u64, Fault>
     ensures given { Gives (λ n. n) result (number_at key.now most (N.means value.now)) }
     ensures within { IfOk result (λ n. n ≤ most) }

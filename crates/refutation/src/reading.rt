@@ -15,7 +15,7 @@ use crate::certificate::{Certificate, MAX_DEPTH};
 use crate::form::{Form, RuleName};
 use crate::json::{array, has_keys, listed, number_at, number_to, two};
 use crate::{Refutation, Side};
-use quorum_expr::{Node, value_at};
+use quorum_expr::{Node, count_items, value_at};
 use serde_json::Value;
 use std::alloc::Global;
 use volume_model::Fault;
@@ -79,7 +79,7 @@ fn pair<N: Node>(value: &N) -> Result<(u8, u8), Fault>
 fn pairs<N: Node>(alloc: Global, rest: &mut N::Rest) -> Result<Vec<(u8, u8)>, Fault>
     ensures { Gives (λ v. v.items) result (pairs_of (N.left rest.old)) }
 {
-    let mut list = Vec::new(alloc);
+    let mut list = Vec::with_capacity(alloc, 12)?;
     while let Some(value) = N::next(rest) {
         list.push(pair(&value)?)?;
     }
@@ -217,7 +217,7 @@ fn tree_of_branches<N: Node>(
         Form::Dead(side, item) => Ok(Refutation::Dead { side, item }),
         Form::Clash(left, right) => Ok(Refutation::Clash { left, right }),
         Form::Open(side, item, node) => {
-            let then = Box::new(alloc, tree(alloc, left, &node)?)?;
+            let then = boxed(alloc, left, &node)?;
             Ok(Refutation::Open { side, item, then })
         }
         Form::Pick(side, item, children, list) => {
@@ -239,8 +239,8 @@ fn tree_of_branches<N: Node>(
             })
         }
         Form::Split(member, without_left, without_right) => {
-            let first = Box::new(alloc, tree(alloc, left, &without_left)?)?;
-            let second = Box::new(alloc, tree(alloc, left, &without_right)?)?;
+            let first = boxed(alloc, left, &without_left)?;
+            let second = boxed(alloc, left, &without_right)?;
             Ok(Refutation::Split {
                 member,
                 left: first,
@@ -250,6 +250,15 @@ fn tree_of_branches<N: Node>(
     }
 }
 
+/// Reads a refutation of at most `left` levels into a box. Isn't inlined, because it would enlarge the frame of `tree`.
+#[cycle(tree)]
+#[inline(never)]
+fn boxed<N: Node>(alloc: Global, left: u8, value: &N) -> Result<Box<Refutation<Global>>, Fault>
+    ensures { Gives (λ b. rule_of b.value) result (rule_at left (N.means value.now)) }
+{
+    Ok(Box::new(alloc, tree(alloc, left, value)?)?)
+}
+
 #[cycle(tree)]
 fn branches<N: Node>(alloc: Global, left: u8, list: &N) -> Result<Vec<Refutation<Global>>, Fault>
     ensures { Gives (λ v. rules_of v.items) result (each_rule (rule_at left) (items_in (N.means list.now))) }
@@ -257,7 +266,7 @@ fn branches<N: Node>(alloc: Global, left: u8, list: &N) -> Result<Vec<Refutation
     let Some(mut rest) = list.items() else {
         return Ok(Vec::new(alloc));
     };
-    let mut rules = Vec::new(alloc);
+    let mut rules = Vec::with_capacity(alloc, count_items(list, 256))?;
     'branches: while let Some(value) = N::next(&mut rest) {
         rules.push(tree(alloc, left, &value)?)?;
     }

@@ -8,6 +8,9 @@ use Rattle.refutation.proofs.reading.+tree.Given as goal
 abbrev pub decreases-branches : goal.decreases-branches
 decreases-branches g l = 4 * l.left + 2
 
+abbrev pub decreases-boxed : goal.decreases-boxed
+decreases-boxed g l = 4 * l.left + 2
+
 abbrev pub decreases-tree : goal.decreases-tree
 decreases-tree g l = 4 * l.left + 1
 
