@@ -1,7 +1,7 @@
 -- What complete copies bring.
 use Rattle.std.proofs.Common.{◌≡◌, ℕ, ◌+◌, ◌-◌, ◌<◌, Bool, true, false, ◌&&◌, ◌||◌, if◌then◌else◌, List, [], ◌∷◌, ◌++◌, length, get_or, take, drop, map, nat_eq, refl, sym, ap, ◌∙◌, arith}
 use Rattle.std.proofs.lemmas.Bool.Decides.{nat_tests}
-use Rattle.std.proofs.lemmas.List.{drop_more, take_more, take_all, map-append}
+use Rattle.std.proofs.lemmas.List.{drop_more, take_all, map-append}
 use Rattle.std.specs.Prelude.{Option, Some, None, Result, Ok, Err, IfOk}
 use Rattle.std.proofs.lemmas.List.Sorted.{IsPermutation-map}
 use Rattle.std.specs.FinSet.{FinSet, contains, insert}
@@ -30,16 +30,6 @@ use Rattle.hydration.specs.Pieces.{seen_pieces}
 united-all : (kept : List KeptPiece) → all_records (map (λ (piece : KeptPiece). piece.contents.records) kept) ≡ united (map (λ (piece : KeptPiece). piece.contents) kept)
 united-all [] = refl
 united-all (piece ∷ rest) = ap (with_records piece.contents.records) (united-all rest)
-
--- one set more
-pub sets-more : (kept : List Kept) (i : ℕ) (piece : Kept) (parts now : List RecordSet) (copy : RecordSet) → i < length kept → piece ≡ get_or kept i piece → now ≡ parts ++ copy ∷ [] → records_of copy ≡ records_of piece.contents.records
-    → map records_of parts ≡ sets_kept (take i kept) → map records_of now ≡ sets_kept (take (i + 1) kept)
-sets-more kept i piece parts now copy within is more same h =
-    ap (map records_of) more
-    ∙ map-append records_of parts (copy ∷ [])
-    ∙ ap (λ (rs : List (List Redo)). rs ++ records_of copy ∷ []) h
-    ∙ ap (λ (r : List Redo). sets_kept (take i kept) ++ r ∷ []) (same ∙ ap (λ (k : Kept). records_of k.contents.records) is)
-    ∙ sym (ap sets_kept (take_more kept i piece within) ∙ ap (map (λ (piece : KeptPiece). piece.contents.records)) (map-append kept_of (take i kept) (get_or kept i piece ∷ [])) ∙ map-append (λ (piece : KeptPiece). piece.contents.records) (all_kept (take i kept)) (kept_of (get_or kept i piece) ∷ []))
 
 -- the joined sets, where they could be joined, in whatever order
 pub in-any-order : {E : Type 0} (parts sorted : List RecordSet) (r : Result RecordSet E) → IsPermutation parts sorted → IfOk r (λ set. records_of set ≡ all_records (map records_of sorted)) → IfOk r (λ set. records_of set ≡ all_records (map records_of parts))
@@ -93,9 +83,6 @@ newest-complete copy rest last behind now complete is h =
     ∙ sym (newest_with-append last (contents_in copy.pieces) (brought rest))
     ∙ ap (λ (cs : List model.Contents). newest_with last (cs ++ brought rest)) (sym (brought-by true copy complete))
 
-pub newest-broken : (copy : Copy) (rest : List Copy) (last behind : model.Lineage) → is_complete copy.pieces ≡ false → behind ≡ newest_with last (brought rest) → behind ≡ newest_with last (brought (copy ∷ rest))
-newest-broken copy rest last behind broken h = h ∙ ap (λ (cs : List model.Contents). newest_with last (cs ++ brought rest)) (sym (brought-by false copy broken))
-
 -- the first copy, before the rest
 pub copies-first : (copies : List KeptCopy) (c : KeptCopy) → 0 < length copies → c ≡ get_or copies 0 c → all_kept_copies copies ≡ kept_copy_of c ∷ all_kept_copies (take (length copies - 1) (drop 1 copies))
 copies-first [] c within is = absurd (omega arith)
@@ -110,13 +97,6 @@ pub newest-front : (copies : List KeptCopy) (c : KeptCopy) (last behind now : mo
 newest-front copies c last behind now within is complete newest h =
     newest-complete (kept_copy_of c) (all_kept_copies (take (length copies - 1) (drop 1 copies))) last behind now complete newest h
     ∙ sym (ap (λ l. newest_with last (brought l)) (copies-first copies c within is))
-
--- the records of a copy, by the test
-pub united-complete : (copy : Copy) (records : List Redo) → is_complete copy.pieces ≡ true → records ≡ united (contents_in copy.pieces) → records ≡ united (brought_by copy)
-united-complete copy records complete h = h ∙ ap united (sym (brought-by true copy complete))
-
-pub united-broken : (copy : Copy) (records : List Redo) → is_complete copy.pieces ≡ false → records ≡ [] → records ≡ united (brought_by copy)
-united-broken copy records broken h = h ∙ ap united (sym (brought-by false copy broken))
 
 -- the copy at hand, before the rest
 opened : (copies : List KeptCopy) (i : ℕ) (c : KeptCopy) → i < length copies → c ≡ get_or copies i c → all_kept_copies (drop i copies) ≡ kept_copy_of c ∷ all_kept_copies (drop (i + 1) copies)

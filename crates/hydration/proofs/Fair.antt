@@ -1,6 +1,6 @@
 -- Pieces that aren't refused.
-use Rattle.std.proofs.Common.{◌≡◌, ℕ, ◌<◌, ◌≤◌, Bool, true, false, not, ◌&&◌, ◌||◌, ◌==◌, nat_lt, nat_le, List, Option, Some, Result, Ok, Err, refl, sym, ap, ◌∙◌, arith}
-use Rattle.std.proofs.lemmas.Bool.{and_parts, ltb-true, eqb-true, eq-eqb, le-leb, true≢false}
+use Rattle.std.proofs.Common.{◌≡◌, ℕ, ◌<◌, ◌≤◌, Bool, true, false, not, ◌||◌, nat_lt, nat_le, List, Option, Result, Ok, refl, ap, ◌∙◌, arith}
+use Rattle.std.proofs.lemmas.Bool.{and_parts, ltb-true, le-leb, true≢false}
 use Rattle.std.proofs.lemmas.Bool.Decides.{nat_tests}
 use Rattle.volume_model.specs.Lineage.{Contents}
 use Rattle.volume_model.specs.Pieces.{Piece, Pieces, Copy, is_piece, is_of_other, is_bad_piece}
@@ -21,19 +21,6 @@ fair-number kept series piece c h =
     let whole : is_piece piece c ≡ true = (fair_parts (is_piece piece c) (is_of_other kept series piece) h).0 in
     ltb-true piece.number piece.of (and_parts (nat_lt piece.number piece.of) _ whole).0
 
--- and it is below that of the kept pieces, where they are of the same series
-pub fair-joins : (pieces : Pieces) (series : ℕ) (piece : Piece) (c : Contents) → is_bad_piece (Some pieces) series piece c ≡ false → pieces.series ≡ series → piece.number < pieces.of
-fair-joins pieces series piece c h same =
-    let other : is_of_other (Some pieces) series piece ≡ false = (fair_parts (is_piece piece c) (is_of_other (Some pieces) series piece) h).1 in
-    let below : piece.number < piece.of = fair-number (Some pieces) series piece c h in
-    let of : pieces.of ≡ piece.of = eqb-true pieces.of piece.of (doubled (pieces.series == series) (pieces.of == piece.of) (eq-eqb pieces.series series same) other) in
-    omega arith
-  where
-    doubled : (a b : Bool) → a ≡ true → (a && not b) ≡ false → b ≡ true
-    doubled true true e k = refl
-    doubled true false e k = absurd (true≢false k)
-    doubled false b e k = absurd (true≢false (sym e))
-
 low : (n : ℕ) → n < 64 → nat_le 64 n ≡ false
 low n h = grind (arith, nat_tests)
 
@@ -43,13 +30,6 @@ high n h = le-leb 64 n h
 -- what a piece amounts to, by both tests
 abbrev tested : CopyReport → List Copy → Bool → Bool → Result (List Copy) Fault
 tested report copies unknown bad = refuse_if unknown NotAddressed (refuse_if bad BadPiece (Ok (with_report report copies)))
-
--- what a piece amounts to: its sender is no member, it can't be a piece, or it is kept
-pub kept-unknown : (report : CopyReport) (copies : List Copy) → 64 ≤ report.from → kept_after report copies ≡ Err NotAddressed
-kept-unknown report copies h = ap (λ unknown. tested report copies unknown (is_bad report copies)) (high report.from h)
-
-pub kept-bad : (report : CopyReport) (copies : List Copy) → report.from < 64 → is_bad report copies ≡ true → kept_after report copies ≡ Err BadPiece
-kept-bad report copies h bad = ap (λ unknown. tested report copies unknown (is_bad report copies)) (low report.from h) ∙ ap (tested report copies false) bad
 
 pub kept-good : (report : CopyReport) (copies : List Copy) → report.from < 64 → is_bad report copies ≡ false → kept_after report copies ≡ Ok (with_report report copies)
 kept-good report copies h fair = ap (λ unknown. tested report copies unknown (is_bad report copies)) (low report.from h) ∙ ap (tested report copies false) fair

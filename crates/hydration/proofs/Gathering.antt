@@ -140,31 +140,8 @@ further : (i : ℕ) (o : Option ℕ) → option_map (λ k. i + k) (option_map su
 further i None = refl
 further i (Some k) = (let e : i + suc k ≡ (i + 1) + k = omega arith in ap Some e)
 
--- one copy more that is passed
-pub place-more : (copies : List KeptCopy) (i : ℕ) (copy : KeptCopy) (sender : ℕ) → i < length copies → copy ≡ get_or copies i copy → (copy.from == sender) ≡ false
-    → place_of (all_kept_copies copies) sender ≡ option_map (λ k. i + k) (place_of (all_kept_copies (drop i copies)) sender) → place_of (all_kept_copies copies) sender ≡ option_map (λ k. (i + 1) + k) (place_of (all_kept_copies (drop (i + 1) copies)) sender)
-place-more copies i copy sender within is other h =
-    let rest = all_kept_copies (drop (i + 1) copies) in
-    let step : place_of (all_kept_copies (drop i copies)) sender ≡ option_map suc (place_of rest sender) = ap (λ cs. place_of cs sender) (opened copies i copy within is) ∙ past_first (kept_copy_of copy) rest sender other in
-    h ∙ ap (option_map (λ k. i + k)) step ∙ further i (place_of rest sender)
-
-pub place-here : (copies : List KeptCopy) (i : ℕ) (copy : KeptCopy) (sender : ℕ) → i < length copies → copy ≡ get_or copies i copy → (copy.from == sender) ≡ true
-    → place_of (all_kept_copies copies) sender ≡ option_map (λ k. i + k) (place_of (all_kept_copies (drop i copies)) sender) → place_of (all_kept_copies copies) sender ≡ Some i
-place-here copies i copy sender within is same h =
-    let rest = all_kept_copies (drop (i + 1) copies) in
-    let step : place_of (all_kept_copies (drop i copies)) sender ≡ Some zero = ap (λ cs. place_of cs sender) (opened copies i copy within is) ∙ here_first (kept_copy_of copy) rest sender same in
-    let e : i + zero ≡ i = omega arith in
-    h ∙ ap (option_map (λ k. i + k)) step ∙ ap Some e
-
 pub place-end : (copies : List KeptCopy) (i sender : ℕ) → length copies ≤ i → place_of (all_kept_copies copies) sender ≡ option_map (λ k. i + k) (place_of (all_kept_copies (drop i copies)) sender) → place_of (all_kept_copies copies) sender ≡ None
 place-end copies i sender ended h = h ∙ ap (λ cs. option_map (λ k. i + k) (place_of (all_kept_copies cs) sender)) (drop_all i copies ended)
-
-pub place-start : (copies : List KeptCopy) (sender : ℕ) → place_of (all_kept_copies copies) sender ≡ option_map (λ k. 0 + k) (place_of (all_kept_copies copies) sender)
-place-start copies sender = same (place_of (all_kept_copies copies) sender)
-  where
-    same : (o : Option ℕ) → o ≡ option_map (λ k. 0 + k) o
-    same None = refl
-    same (Some k) = (let e : k ≡ 0 + k = omega arith in ap Some e)
 
 abbrev make : ℕ → model.Pieces → Copy
 make sender pieces = record { sender = sender; pieces = pieces }
