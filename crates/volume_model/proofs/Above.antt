@@ -1,5 +1,5 @@
 -- The configurations above one, step by step.
-use Rattle.std.proofs.Common.{◌≡◌, ℕ, zero, suc, ap, ◌∙◌, sym, arith}
+use Rattle.std.proofs.Common.{◌≡◌, ℕ, zero, suc, ◌∙◌, arith}
 use Rattle.volume_model.specs.Plan.{Plan, parent_of, IsAbove}
 use Rattle.volume_model.specs.Plan.StandsAbove.{by_parent, by_ancestor}
 
@@ -7,13 +7,6 @@ use Rattle.volume_model.specs.Plan.StandsAbove.{by_parent, by_ancestor}
 abbrev pub ancestor : Plan → ℕ → ℕ → ℕ → ℕ
 ancestor plan group zero c = c
 ancestor plan group (suc steps) c = ancestor plan group steps (parent_of plan group c)
-
--- what stands above stands some steps above
-pub steps_above : (plan : Plan) (group a c : ℕ) → IsAbove plan group a c → (steps : ℕ) × (ancestor plan group (suc steps) c ≡ a)
-steps_above plan group a c (by_parent b d (low, is)) = (0, sym is)
-steps_above plan group a c (by_ancestor b p d (low, is) up) =
-    let (steps, e) = steps_above plan group b p up in
-    (suc steps, ap (ancestor plan group (suc steps)) (sym is) ∙ e)
 
 -- nothing stands above the root
 none_above : (plan : Plan) (group a c : ℕ) → IsAbove plan group a c → c ≡ 0 → ⊥

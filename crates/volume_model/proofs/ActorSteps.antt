@@ -5,7 +5,7 @@ use Rattle.volume_model.specs.Plan.{Plan}
 use Rattle.volume_model.specs.Node.{NodeAnswer}
 use Rattle.volume_model.specs.Client.{ClientAnswer}
 use Rattle.volume_model.specs.World.{Event, World, AuthorityStep, groups_joined, of_authority, of_client, of_node, step}
-use Rattle.volume_model.specs.World.Event.{Assign, Advance, Refresh, Grow, Issue, Take, Cut, Open, Resend, Read, Deliver, Hydrate, Restart, Offer}
+use Rattle.volume_model.specs.World.Event.{Issue, Take, Cut, Open, Resend, Read, Deliver, Hydrate, Restart, Offer}
 use Rattle.volume_model.specs.Actor.{Actor, acted, actor_of, authority_acted, client_acted, in_world, node_acted, state_in}
 
 -- a step of the authority in a world is that of an actor
@@ -25,10 +25,6 @@ in_world-node w group member (Ok s) = refl
 
 -- a step of the world is that of its actor
 pub step_of_actor : (plan : Plan) (w : World) (e : Event) → step plan w e ≡ in_world w (actor_of e) (acted plan (groups_joined w.authority) w.messages e (state_in w (actor_of e)))
-step_of_actor plan w Assign = in_world-authority w _
-step_of_actor plan w (Advance group c) = in_world-authority w _
-step_of_actor plan w (Refresh volume) = in_world-authority w _
-step_of_actor plan w Grow = in_world-authority w _
 step_of_actor plan w (Issue volume changes) = in_world-client w volume _
 step_of_actor plan w (Take volume number) = in_world-client w volume _
 step_of_actor plan w (Cut volume) = in_world-client w volume _
@@ -39,3 +35,4 @@ step_of_actor plan w (Deliver group member number) = in_world-node w group membe
 step_of_actor plan w (Hydrate group member) = in_world-node w group member _
 step_of_actor plan w (Restart group member) = in_world-node w group member _
 step_of_actor plan w (Offer group member lsn) = in_world-node w group member _
+step_of_actor plan w m = in_world-authority w _

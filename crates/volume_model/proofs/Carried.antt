@@ -7,7 +7,7 @@ use Rattle.volume_model.specs.Lineage.{Lineage, birth, last_epoch, Contents}
 use Rattle.volume_model.specs.Pieces.{Piece, most_pieces, is_bad_piece, is_complete, with_install, pieces_from}
 use Rattle.volume_model.specs.Plan.{Plan, has_member, is_configuration, is_named, IsCertified}
 use Rattle.volume_model.specs.Message.{Label, Message}
-use Rattle.volume_model.specs.Message.Message.{View, StepTo, Fence, Report, Install, Write, Gossip, Ack, CopyAsk, CopyReport, PageAsk, Page}
+use Rattle.volume_model.specs.Message.Message.{StepTo, Fence, Report, Install, Write, Gossip, CopyAsk, CopyReport, PageAsk}
 use Rattle.volume_model.specs.Refusal.{refuse_if}
 use Rattle.volume_model.specs.Node.{Node, NodeStep, NodeAnswer, born_node, lineage_epoch, label_checks, most_records, most_copies, take_record, installed, in_group, reaction, hydrated, restarted, gossip_of, offered}
 use Rattle.volume_model.specs.Client.{has_cut}
@@ -124,10 +124,7 @@ module _ (plan : Plan) (group x : ℕ) (node : Node) where
       let (w, h2) = passed l _ step h1 in
       let (v, d, is) = page_answer-ok plan group x node l block point step h2 in
       subst IsBareStep (sym is) (same_bare node)
-  reaction_bare (View v places) step h = cc
-  reaction_bare (Report to l from c) step h = cc
-  reaction_bare (Ack to l from s) step h = cc
-  reaction_bare (Page to l from block point bytes) step h = cc
+  reaction_bare m step h = cc
 
   deliver_bare : (found : Option Message) (step : NodeStep) → deliver plan group x node found ≡ Ok step → IsBareStep step
   deliver_bare None step h = cc

@@ -10,7 +10,7 @@ use Rattle.volume_model.specs.Lineage.{Lineage, last_epoch, last_start, extended
 use Rattle.volume_model.specs.Pieces.{in_pieces}
 use Rattle.volume_model.specs.Plan.{Plan, IsCertified}
 use Rattle.volume_model.specs.Message.{Label, Place, Message, place_in}
-use Rattle.volume_model.specs.Message.Message.{View, StepTo, Fence, Report, Install, Write, Gossip, Ack, CopyAsk, CopyReport, PageAsk, Page}
+use Rattle.volume_model.specs.Message.Message.{View, Fence, Report, Install, Write, Ack, PageAsk, Page}
 use Rattle.volume_model.specs.Node.{From, senders, with_first, in_group}
 use Rattle.volume_model.specs.Client.{Client, Stage, Count, ClientStep, ClientAnswer, is_born, has_cut, is_open, unborn, place_configuration, ClientGroup, newly_at, group_of, place_of, reports_of, counts_of, label_of, stays, place_of, reports_of, counts_of, no_group}
 use Rattle.volume_model.specs.ClientPoints.{reaching, best, counted_by, with_count, raised_group, raised, groups_now, durable_point}
@@ -48,14 +48,7 @@ ClientSays v client (Fence to l) = Unit {0}
 ClientSays v client (Install to l p c) = (has_cut client.stage ≡ true) × (l.volume ≡ v) × IsPieceOf (to_install client.lineage client.found to) p c
 ClientSays v client (Write to l r) = (has_cut client.stage ≡ true) × (l.volume ≡ v) × IsIn r client.log × (r.group ≡ to)
 ClientSays v client (PageAsk to l block point) = Unit {0}
-ClientSays v client (View u places) = ⊥
-ClientSays v client (StepTo to place) = ⊥
-ClientSays v client (Report to l from q) = ⊥
-ClientSays v client (Gossip to l r) = ⊥
-ClientSays v client (Ack to l from s) = ⊥
-ClientSays v client (CopyAsk to f) = ⊥
-ClientSays v client (CopyReport to f from s p c) = ⊥
-ClientSays v client (Page to l from block point bytes) = ⊥
+ClientSays v client m = ⊥
 
 -- a step of a client that keeps the invariant
 pub record IsGoodMove (plan : Plan) (world : World) (v : ℕ) (step : ClientStep) : Type 0 where
@@ -151,14 +144,7 @@ module _ (plan : Plan) (certified : IsCertified plan) {held : Held} (world : Wor
         group_is = h.3;
       }
   says_new client good (PageAsk to l block point) h = tt
-  says_new client good (View u places) h = absurd h
-  says_new client good (StepTo to place) h = absurd h
-  says_new client good (Report to l from q) h = absurd h
-  says_new client good (Gossip to l r) h = absurd h
-  says_new client good (Ack to l from s) h = absurd h
-  says_new client good (CopyAsk to f) h = absurd h
-  says_new client good (CopyReport to f from s p c) h = absurd h
-  says_new client good (Page to l from block point bytes) h = absurd h
+  says_new client good m h = absurd h
 
   pub client_step : (answer : ClientAnswer) → ((step : ClientStep) → answer ≡ Ok step → IsGoodMove plan world v step) → IsKept plan held (after_step world (of_client world v answer))
   client_step (Err number) good = kept
@@ -871,14 +857,7 @@ module _ (plan : Plan) (certified : IsCertified plan) {held : Held} (world : Wor
       let (a, h1) = refuse_if-ok (not (l.volume == v && (nat_lt group plan.groups && nat_lt sender 64))) NotAddressed _ step h in
       let (b, h2) = refuse_if-ok (not (is_born client.stage)) NoActor _ step h1 in
       subst (λ s. IsGoodMove plan world v s) (Ok-is _ step h2) (stays_good [] (λ m i. absurd i))
-  taken_good (StepTo group place) made step h = cc
-  taken_good (Fence group l) made step h = cc
-  taken_good (Install group l p c) made step h = cc
-  taken_good (Write group l r) made step h = cc
-  taken_good (Gossip group l r) made step h = cc
-  taken_good (CopyAsk group epoch) made step h = cc
-  taken_good (CopyReport group epoch sender s p c) made step h = cc
-  taken_good (PageAsk group l block point) made step h = cc
+  taken_good m made step h = cc
 
   pub take_good : (number : ℕ) (step : ClientStep) → take plan v client (numbered world.messages number) ≡ Ok step → IsGoodMove plan world v step
   take_good number step h = go (numbered world.messages number) refl h

@@ -160,16 +160,7 @@ module _ (plan : Plan) (held : Held) (world later : World) (extends : Extends pl
   pub MessageSourced-later : (older : List Message) (m : Message) → MessageSourced plan held world older m → MessageSourced plan held later older m
   MessageSourced-later older (Report group l x q) h = IsSourced-later older older (λ k i. i) group x q h
   MessageSourced-later older (CopyReport group f x s p c) h = IsSourced-later older older (λ k i. i) group x (held group x s) h
-  MessageSourced-later older (View v places) h = tt
-  MessageSourced-later older (StepTo group place) h = tt
-  MessageSourced-later older (Fence group l) h = tt
-  MessageSourced-later older (Install group l p c) h = tt
-  MessageSourced-later older (Write group l r) h = tt
-  MessageSourced-later older (Gossip group l r) h = tt
-  MessageSourced-later older (Ack group l x s) h = tt
-  MessageSourced-later older (CopyAsk group f) h = tt
-  MessageSourced-later older (PageAsk group l block point) h = tt
-  MessageSourced-later older (Page group l x block point bytes) h = tt
+  MessageSourced-later older m h = tt
 
   pub IsHistory-later : (messages : List Message) → IsHistory plan held world messages → IsHistory plan held later messages
   IsHistory-later [] h = tt

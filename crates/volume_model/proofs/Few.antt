@@ -11,7 +11,7 @@ use Rattle.volume_model.specs.Pieces.{Piece, most_in_piece, pieces_of, piece_of,
 use Rattle.volume_model.specs.Answer.{◌>>=◌}
 use Rattle.volume_model.specs.Plan.{Plan}
 use Rattle.volume_model.specs.Message.{Place, Message, place_in}
-use Rattle.volume_model.specs.Message.Message.{View, StepTo, Fence, Report, Install, Write, Gossip, Ack, CopyAsk, CopyReport, PageAsk, Page}
+use Rattle.volume_model.specs.Message.Message.{View, Report, Install, Ack, Page}
 use Rattle.volume_model.specs.Client.{Client, ClientAnswer, Stage, label_of, place_of}
 use Rattle.volume_model.specs.ClientWriter.{Change, issued, issued_writes, page_asked, record_of, resent, write_of, is_last}
 use Rattle.volume_model.specs.ClientRecovery.{to_install, installs, cut_step, live_reported, log_reported, cut_client, reported}
@@ -173,14 +173,7 @@ few_taken plan volume client (View of places) = few_addressed (not (of == volume
 few_taken plan volume client (Report group label sender contents) = let few : 0 ≤ most_installs plan.groups client.found = omega arith in search (few_if (most_installs plan.groups client.found), few) depth 8
 few_taken plan volume client (Ack group label sender reached) = let few : 0 ≤ most_installs plan.groups client.found = omega arith in search (few_if (most_installs plan.groups client.found), few) depth 8
 few_taken plan volume client (Page group label sender block point bytes) = let few : 0 ≤ most_installs plan.groups client.found = omega arith in search (few_if (most_installs plan.groups client.found), few) depth 8
-few_taken plan volume client (StepTo group place) = tt
-few_taken plan volume client (Fence group label) = tt
-few_taken plan volume client (Install group label piece contents) = tt
-few_taken plan volume client (Write group label r) = tt
-few_taken plan volume client (Gossip group label r) = tt
-few_taken plan volume client (CopyAsk group epoch) = tt
-few_taken plan volume client (CopyReport group epoch sender series piece contents) = tt
-few_taken plan volume client (PageAsk group label block point) = tt
+few_taken plan volume client m = tt
 
 pub few_issued : (plan : Plan) (volume : ℕ) (client : Client) (changes : List Change) → Few (length changes) (issued plan volume client changes)
 few_issued plan volume client changes =

@@ -1,9 +1,9 @@
 -- Laws of formulas, whatever they weigh.
-use Rattle.std.proofs.Common.{◌≡◌, ◌≢◌, ℕ, zero, suc, ◌+◌, ◌-◌, ◌<◌, ◌≤◌, arith, refl, length, map, ap, ◌∙◌}
+use Rattle.std.proofs.Common.{◌≡◌, ◌≢◌, ℕ, zero, suc, ◌+◌, ◌-◌, ◌<◌, ◌≤◌, arith, refl, ap, ◌∙◌}
 use Rattle.std.specs.Prelude.{Bool, true, false, not, ◌&&◌, nat_lt, nat_eq, nat_le, if◌then◌else◌, List, [], ◌∷◌, Some, slice_get}
 use Rattle.std.specs.List.{IsDistinct, AllByRecursion}
 use Rattle.std.proofs.lemmas.Bool.Decides.{nat_tests}
-use Rattle.volume_model.specs.Formula.{Formula, Children, Members, member, at_least, no_child, child, sat, weight_held, total_weight, formulas, weight_at, each_once, EachWeighs, each_weighs, dual_of, duals_of, HasCounts, EachHasCounts, SpeaksOf, EachSpeaksOf}
+use Rattle.volume_model.specs.Formula.{Formula, Children, Members, member, at_least, no_child, child, sat, weight_held, total_weight, formulas, weight_at, EachWeighs, each_weighs, dual_of, duals_of, HasCounts, EachHasCounts, SpeaksOf, EachSpeaksOf}
 
 -- ---- more members, more that holds
 
@@ -152,25 +152,6 @@ mutual
       ∙ split_weight (sat f (λ x. not (s x))) w _ _ ∙ ap (λ n. w + n) (weight_held-duals_of fs s h.1)
 
 -- ---- children that each count as one
-
-pub total_weight-each_once : (fs : List Formula) → total_weight (each_once fs) ≡ length fs
-total_weight-each_once [] = refl
-total_weight-each_once (f ∷ fs) = omega (arith, total_weight-each_once fs)
-
-pub formulas-each_once : (fs : List Formula) → formulas (each_once fs) ≡ fs
-formulas-each_once [] = refl
-formulas-each_once (f ∷ fs) = ap (λ gs. f ∷ gs) (formulas-each_once fs)
-
-pub each_once_weighs : (fs : List Formula) → EachWeighs (each_once fs)
-each_once_weighs [] = tt
-each_once_weighs (f ∷ fs) = (omega arith, each_once_weighs fs)
-
-pub duals_of-each_once : (fs : List Formula) → duals_of (each_once fs) ≡ each_once (map dual_of fs)
-duals_of-each_once [] = refl
-duals_of-each_once (f ∷ fs) = ap (λ gs. child 1 (dual_of f) gs) (duals_of-each_once fs)
-
-pub dual_of-once : (k : ℕ) (fs : List Formula) → dual_of (at_least k (each_once fs)) ≡ at_least (length fs + 1 - k) (each_once (map dual_of fs))
-dual_of-once k fs = λ i. at_least (total_weight-each_once fs i + 1 - k) (duals_of-each_once fs i)
 
 first_weighs : (w : ℕ) (rest : Bool) → (nat_lt 0 w && rest) ≡ true → (0 < w) × (rest ≡ true)
 first_weighs w rest h = grind (arith, nat_tests)

@@ -1,5 +1,5 @@
 -- Messages of a journal, and the entries that made them.
-use Rattle.std.proofs.Common.{◌≡◌, ℕ, zero, suc, ◌+◌, ◌-◌, ◌<◌, ◌≤◌, not, ◌&&◌, nat_lt, Bool, true, false, List, length, take, Option, Some, None, refl, sym, ap, ◌∙◌, subst, ⊎_elim, arith}
+use Rattle.std.proofs.Common.{◌≡◌, ℕ, suc, ◌+◌, ◌-◌, ◌<◌, ◌≤◌, not, ◌&&◌, nat_lt, Bool, true, false, List, length, take, Option, Some, None, refl, sym, ap, ◌∙◌, subst, arith}
 use Rattle.std.specs.Prelude.{slice_get}
 use mathlib.Core.List.{IsPrefix}
 use Rattle.volume_model.specs.declared.fault.Fault.TheVariants.{NoActor}
@@ -13,9 +13,9 @@ use Rattle.volume_model.specs.World.Event.{Assign, Advance, Refresh, Grow, Issue
 use Rattle.volume_model.specs.Actor.{Keeps, named_by}
 use Rattle.volume_model.specs.StepResults.{makes}
 use Rattle.volume_model.specs.Journal.{Entry, world_at, IsRun, before}
-use Rattle.volume_model.proofs.ListFacts.{numbered_kept, numbered_small, numbered_added, numbered_either, get_there}
+use Rattle.volume_model.proofs.ListFacts.{numbered_kept, numbered_small, numbered_added, get_there}
 use Rattle.volume_model.proofs.Growing.{messages_grow}
-use Rattle.volume_model.proofs.Worlds.{world_at-push, keeps_at, take_more, take_begins, take_rest}
+use Rattle.volume_model.proofs.Worlds.{world_at-push, keeps_at, take_more, take_begins}
 
 -- a message's number finds it later
 pub found_alike : (w v : World) → Keeps w v → (n : ℕ) (x : Message) → numbered w.messages n ≡ Some x → numbered v.messages n ≡ Some x
@@ -32,11 +32,6 @@ named_node plan w g m x None is false ms h = absurd (cc)
 named_node plan w g m x (Some y) is b ms h = numbered_small w.messages x y is
 
 pub named_before : (plan : Plan) (w : World) (e : Event) (ms : List Message) (n : ℕ) → makes (step plan w e) ≡ Some ms → named_by e ≡ Some n → n ≤ length w.messages
-named_before plan w Assign ms n h is = absurd (cc)
-named_before plan w (Advance group c) ms n h is = absurd (cc)
-named_before plan w (Refresh volume) ms n h is = absurd (cc)
-named_before plan w Grow ms n h is = absurd (cc)
-named_before plan w (Issue volume changes) ms n h is = absurd (cc)
 named_before plan w (Take volume x) ms n h is = let e : x ≡ n = cc in subst (λ k. k ≤ length w.messages) e (named_client plan w volume x (numbered w.messages x) refl ms h)
 named_before plan w (Cut volume) ms n h is = absurd (cc)
 named_before plan w (Open volume) ms n h is = absurd (cc)
@@ -46,6 +41,7 @@ named_before plan w (Deliver group member x) ms n h is = let e : x ≡ n = cc in
 named_before plan w (Hydrate group member) ms n h is = absurd (cc)
 named_before plan w (Restart group member) ms n h is = absurd (cc)
 named_before plan w (Offer group member lsn) ms n h is = absurd (cc)
+named_before plan w m ms n h is = absurd (cc)
 
 module _ (plan : Plan) where
   -- a message keeps its number as the journal grows
@@ -80,21 +76,3 @@ module _ (plan : Plan) where
       let there = made_numbered es k index x.0 e run at x.1 in
       let same : e.first + index + 1 ≡ number = omega arith in
       absurd (cc (ap (numbered (world_at plan es).messages) (sym same) ∙ there, none))
-
-  made_below : (es : List Entry) (n : ℕ) (x : Message) → IsRun plan es → (k : ℕ) → k ≤ length es → numbered (world_at plan (take k es)).messages n ≡ Some x
-      → (at : ℕ) × (e : Entry) × (index : ℕ) × (slice_get es at ≡ Some e) × (slice_get e.made index ≡ Some x) × (e.first + index + 1 ≡ n)
-  made_below es n x run zero le h = absurd (cc)
-  made_below es n x run (suc k) le h =
-      let there = get_there es k (omega arith) in
-      let e = there.0 in
-      let first = (run k e there.1).1 in
-      ⊎_elim
-      (λ old. made_below es n x run k (omega arith) old)
-      (λ new. (k, e, new.0, there.1, new.1, ap (λ m. m + new.0 + 1) first ∙ new.2))
-      (numbered_either e.made (world_at plan (take k es)).messages n x (ap (λ (l : List Message). numbered l n) (sym (added_at es k e run there.1)) ∙ h))
-
-  -- a message that is there was made by an entry, at a place of it
-  pub made_by_entry : (es : List Entry) (n : ℕ) (x : Message) → IsRun plan es → numbered (world_at plan es).messages n ≡ Some x
-      → (at : ℕ) × (e : Entry) × (index : ℕ) × (slice_get es at ≡ Some e) × (slice_get e.made index ≡ Some x) × (e.first + index + 1 ≡ n)
-  made_by_entry es n x run h =
-      made_below es n x run (length es) (omega arith) (ap (λ (l : List Entry). numbered (world_at plan l).messages n) (take_rest es (length es) (omega arith)) ∙ h)

@@ -1,5 +1,5 @@
 -- The greatest number over a list, as the model's walks find it
-use Rattle.std.proofs.Common.{◌≡◌, ℕ, ◌≤◌, max, Bool, true, ◌⊎◌, List, [], ◌∷◌, if◌then◌else◌, refl, sym, ap, ◌∙◌, subst, inl, inr, arith}
+use Rattle.std.proofs.Common.{◌≡◌, ℕ, ◌≤◌, max, Bool, true, ◌⊎◌, List, [], ◌∷◌, if◌then◌else◌, refl, ap, subst, inl, inr, arith}
 use Rattle.std.proofs.lemmas.Bool.{cases_Bool, cases_lt}
 use Rattle.volume_model.specs.Lists.{IsIn}
 use Rattle.volume_model.specs.Greatest.{IsGreatest}
@@ -70,11 +70,4 @@ greatest-from test number xs P holds below = record {
       let (x, i, h, l) = below m p in
       let k : number x ≤ greatest_where test number xs = greatest_where-above test number xs x i h in
       omega arith);
-}
-
--- the same of another property that holds of the same numbers
-pub greatest-same : (P Q : ℕ → Type 0) (n m : ℕ) → n ≡ m → ((k : ℕ) → P k → Q k) → ((k : ℕ) → Q k → P k) → IsGreatest P n → IsGreatest Q m
-greatest-same P Q n m e to from h = record {
-  is_one = elim h.is_one [ inl z ↦ inl (sym e ∙ z) | inr p ↦ inr (subst Q e (to n p)) ];
-  at_least_each = λ k q. (let l : k ≤ n = h.at_least_each k (from k q) in omega arith);
 }

@@ -8,7 +8,7 @@ use Rattle.volume_model.specs.Plan.{Configuration, Plan, has_member, epoch_of}
 use Rattle.volume_model.proofs.Above.{ancestor}
 use Rattle.volume_model.specs.Pieces.{Piece}
 use Rattle.volume_model.specs.Message.{Label, Place, Message, place_in}
-use Rattle.volume_model.specs.Message.Message.{View, StepTo, Fence, Report, Install, Write, Gossip, Ack, CopyAsk, CopyReport, PageAsk, Page}
+use Rattle.volume_model.specs.Message.Message.{View, Report, Ack, CopyReport}
 use Rattle.volume_model.specs.Node.{From, senders}
 use Rattle.volume_model.specs.Client.{has_cut, reports_of, group_point_of}
 use Rattle.volume_model.specs.World.{World, configuration_of}
@@ -98,16 +98,7 @@ IsSourced plan held world older group x q = (has_member (plan.configuration grou
 abbrev pub MessageSourced : Plan → Held → World → List Message → Message → Type 0
 MessageSourced plan held world older (Report group l x q) = IsSourced plan held world older group x q
 MessageSourced plan held world older (CopyReport group f x s p c) = IsSourced plan held world older group x (held group x s)
-MessageSourced plan held world older (View v places) = Unit {0}
-MessageSourced plan held world older (StepTo group place) = Unit {0}
-MessageSourced plan held world older (Fence group l) = Unit {0}
-MessageSourced plan held world older (Install group l p c) = Unit {0}
-MessageSourced plan held world older (Write group l r) = Unit {0}
-MessageSourced plan held world older (Gossip group l r) = Unit {0}
-MessageSourced plan held world older (Ack group l x s) = Unit {0}
-MessageSourced plan held world older (CopyAsk group f) = Unit {0}
-MessageSourced plan held world older (PageAsk group l block point) = Unit {0}
-MessageSourced plan held world older (Page group l x block point bytes) = Unit {0}
+MessageSourced plan held world older m = Unit {0}
 
 -- each message was made from earlier ones
 abbrev pub IsHistory : Plan → Held → World → List Message → Type 0

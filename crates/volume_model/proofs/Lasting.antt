@@ -1,32 +1,30 @@
 -- What a writer has acknowledged it has acknowledged for good
-use Rattle.std.proofs.Common.{◌≡◌, ℕ, ◌+◌, ◌^◌, ◌<◌, ◌≤◌, max, Bool, true, false, not, ◌&&◌, ◌==◌, nat_lt, nat_le, eqb, List, [], ◌∷◌, ◌++◌, append_assoc, Option, Some, None, Result, Ok, Err, length, refl, sym, ap, ◌∙◌, subst, inl, inr, arith}
+use Rattle.std.proofs.Common.{◌≡◌, ℕ, ◌+◌, ◌^◌, ◌<◌, ◌≤◌, max, Bool, true, false, not, ◌&&◌, ◌==◌, nat_lt, nat_le, eqb, List, [], ◌∷◌, ◌++◌, append_assoc, Ok, length, refl, sym, ap, ◌∙◌, subst, inl, inr, arith}
 use Rattle.std.proofs.lemmas.Bool.{cases_Bool, and_parts, and_from, both_ways, eqb-true, eq-eqb, leb-true, le-leb, not-true, cases_lt}
-use Rattle.volume_model.specs.Lists.{IsIn, any, numbered}
-use Rattle.volume_model.specs.Redo.{Redo, last_lsn, record_at, up_to}
+use Rattle.volume_model.specs.Lists.{IsIn, any}
+use Rattle.volume_model.specs.Redo.{Redo, last_lsn, up_to}
 use Rattle.volume_model.specs.Lineage.{last_start, last_epoch}
 use Rattle.volume_model.specs.Plan.{Plan, IsCertified}
-use Rattle.volume_model.specs.Message.{Label, Place, Message, place_in}
-use Rattle.volume_model.specs.Message.Message.{View, StepTo, Fence, Report, Install, Write, Gossip, Ack, CopyAsk, CopyReport, PageAsk, Page}
-use Rattle.volume_model.specs.Node.{From, NodeAnswer, in_group}
-use Rattle.volume_model.specs.Client.{Client, Stage, ClientStep, ClientAnswer, is_born, has_cut, is_open, place_of, counts_of, group_point_of, ClientGroup, no_group, group_of}
+use Rattle.volume_model.specs.Message.{Label, Place, place_in}
+use Rattle.volume_model.specs.Node.{From}
+use Rattle.volume_model.specs.Client.{Client, Stage, ClientStep, is_born, has_cut, is_open, place_of, counts_of, group_point_of, ClientGroup, no_group, group_of}
 use Rattle.volume_model.specs.ClientPoints.{complete_of, consistency_point_below, is_consistency_point, complete_point, durable_point, groups_now, with_count, raised, raised_group}
-use Rattle.volume_model.specs.ClientWriter.{Change, issued_log, record_of, is_last, is_transaction, issued, write_of, resent, page_asked, have_joined}
+use Rattle.volume_model.specs.ClientWriter.{Change, issued_log, record_of, is_last, is_transaction, issued, have_joined}
 use Rattle.volume_model.specs.ClientRecovery.{report_taken, cut_client, opened}
-use Rattle.volume_model.specs.ClientMessages.{viewed, ack_taken, are_places, taken, with_places, later_group, is_later}
+use Rattle.volume_model.specs.ClientMessages.{viewed, ack_taken, with_places, later_group, is_later}
 use Rattle.volume_model.specs.Client.Stage.{Unborn, Reading, Installing, Writing}
-use Rattle.volume_model.specs.World.{World, Event, AuthorityStep, of_authority, of_client, of_node, after_step, after, run, opening, assigned, advanced, refreshed, grown, take}
-use Rattle.volume_model.specs.World.Event.{Assign, Advance, Refresh, Grow, Issue, Take, Cut, Open, Resend, Read, Deliver, Hydrate, Restart, Offer}
+use Rattle.volume_model.specs.World.{World, Event, run, opening}
 use Rattle.volume_model.specs.Headline.{Acknowledges, part_of, AcknowledgementsLast}
-use Rattle.volume_model.proofs.Basics.{any_passes, any_from, put-all, IsIn-append_right}
+use Rattle.volume_model.proofs.Basics.{any_passes, any_from, IsIn-append_right}
 use Rattle.volume_model.proofs.Logs.{IsChain, up_to-newer}
 use Rattle.volume_model.proofs.Renewed.{IsKeptWorld}
 use Rattle.volume_model.proofs.Sound.{facts}
+use Rattle.volume_model.proofs.ClientRelations.{Ok-is, run_on}
 use Rattle.volume_model.proofs.NodeSteps.{refuse_if-ok}
 use Rattle.volume_model.proofs.Run.{opening_kept, run_kept}
 use Rattle.volume_model.proofs.Groups.{set-all, group_of-with_places, later_group-none, group_of-beyond, group_of-raised}
 use Rattle.std.specs.Prelude.{slice_set}
-use Rattle.volume_model.specs.declared.fault.Fault.{Fault}
-use Rattle.volume_model.specs.declared.fault.Fault.TheVariants.{AlreadyDone, BadTransaction, LimitReached, LsnSpent, NoActor, NoGroup, NotAddressed, NotInPlan, NotOpen, NotJoined}
+use Rattle.volume_model.specs.declared.fault.Fault.TheVariants.{AlreadyDone, BadTransaction, LimitReached, LsnSpent, NoActor, NotOpen, NotJoined}
 
 -- what an open client has it keeps
 pub record Lasts (old new : Client) : Type 0 where
@@ -52,9 +50,6 @@ closed_before_cut Unborn h = refl
 closed_before_cut Reading h = refl
 closed_before_cut Installing h = refl
 closed_before_cut Writing h = h
-
-Ok-is : (a b : ClientStep) → ◌≡◌ {A = ClientAnswer} (Ok a) (Ok b) → a ≡ b
-Ok-is a b h = cc
 
 issued_later : (v start : ℕ) (changes : List Change) (log : List Redo) → (later : List Redo) × (later ++ log ≡ issued_log v start changes log)
 issued_later v start [] log = ([], refl)
@@ -91,23 +86,6 @@ module _ (plan : Plan) (v : ℕ) (client : Client) where
       let (z, h0) = refuse_if-ok (not (is_born client.stage)) NoActor _ step h in
       let (a, h1) = refuse_if-ok (is_open client.stage) AlreadyDone _ step h0 in
       closed_lasts client step.client a
-
-  resend_lasts : (lsn : ℕ) (step : ClientStep) → resent v client lsn ≡ Ok step → IsLater step
-  resend_lasts lsn step h =
-      let (z, h0) = refuse_if-ok (not (is_born client.stage)) NoActor _ step h in
-      let (a, h1) = refuse_if-ok (not (is_open client.stage)) NotOpen _ step h0 in
-      go (record_at client.log lsn) h1
-    where
-      go : (found : Option Redo) → write_of v client found ≡ Ok step → IsLater step
-      go None h = cc
-      go (Some r) h = subst IsLater (Ok-is _ step h) (same_lasts client)
-
-  read_lasts : (group block : ℕ) (step : ClientStep) → page_asked v client group block ≡ Ok step → IsLater step
-  read_lasts group block step h =
-      let (z, h0) = refuse_if-ok (not (is_born client.stage)) NoActor _ step h in
-      let (a, h1) = refuse_if-ok (not (is_open client.stage)) NotOpen _ step h0 in
-      let (b, h2) = refuse_if-ok (not (nat_lt group (length client.groups))) NoGroup _ step h1 in
-      subst IsLater (Ok-is _ step h2) (same_lasts client)
 
   raised_rises : (groups : List ClientGroup) (group : ℕ) → group_point_of groups group ≤ group_point_of (raised plan groups) group
   raised_rises groups group =
@@ -165,72 +143,9 @@ module _ (plan : Plan) (v : ℕ) (client : Client) where
         })
       ]
 
-  taken_lasts : (m : Message) (step : ClientStep) → taken plan v client m ≡ Ok step → IsLater step
-  taken_lasts (View of places) step h =
-      let (a, h1) = refuse_if-ok (not (of == v)) NotAddressed _ step h in
-      let (b, h2) = refuse_if-ok (not (are_places plan places)) NotInPlan _ step h1 in
-      subst IsLater (Ok-is _ step h2) (viewed_lasts places client.stage refl)
-  taken_lasts (Report group l sender c) step h =
-      let (a, h1) = refuse_if-ok (not (l.volume == v && (nat_lt group plan.groups && (in_group group c && nat_lt sender 64)))) NotAddressed _ step h in
-      let (b, h2) = refuse_if-ok (not (is_born client.stage)) NoActor _ step h1 in
-      subst IsLater (Ok-is _ step h2) (report_lasts group l (record { sender = sender; contents = c }))
-  taken_lasts (Ack group l sender reached) step h =
-      let (a, h1) = refuse_if-ok (not (l.volume == v && (nat_lt group plan.groups && nat_lt sender 64))) NotAddressed _ step h in
-      let (b, h2) = refuse_if-ok (not (is_born client.stage)) NoActor _ step h1 in
-      subst IsLater (Ok-is _ step h2) (ack_lasts group l sender reached)
-  taken_lasts (Page group l sender block point bytes) step h =
-      let (a, h1) = refuse_if-ok (not (l.volume == v && (nat_lt group plan.groups && nat_lt sender 64))) NotAddressed _ step h in
-      let (b, h2) = refuse_if-ok (not (is_born client.stage)) NoActor _ step h1 in
-      subst IsLater (Ok-is _ step h2) (same_lasts client)
-  taken_lasts (StepTo group place) step h = cc
-  taken_lasts (Fence group l) step h = cc
-  taken_lasts (Install group l p c) step h = cc
-  taken_lasts (Write group l r) step h = cc
-  taken_lasts (Gossip group l r) step h = cc
-  taken_lasts (CopyAsk group epoch) step h = cc
-  taken_lasts (CopyReport group epoch sender s p c) step h = cc
-  taken_lasts (PageAsk group l block point) step h = cc
-
-  take_lasts : (found : Option Message) (step : ClientStep) → take plan v client found ≡ Ok step → IsLater step
-  take_lasts None step h = cc
-  take_lasts (Some m) step h = taken_lasts m step h
-
-module _ (plan : Plan) (world : World) where
-  -- each open client keeps what it has
-  abbrev AllLast : World → Type 0
-  AllLast later = (y : ℕ) → Lasts (world.clients y) (later.clients y)
-
-  by_authority : (answer : Result AuthorityStep Fault) → AllLast (after_step world (of_authority world answer))
-  by_authority (Err number) y = same_lasts (world.clients y)
-  by_authority (Ok s) y = same_lasts (world.clients y)
-
-  by_node : (group x : ℕ) (answer : NodeAnswer) → AllLast (after_step world (of_node world group x answer))
-  by_node group x (Err number) y = same_lasts (world.clients y)
-  by_node group x (Ok s) y = same_lasts (world.clients y)
-
-  by_client : (v : ℕ) (answer : ClientAnswer) → ((s : ClientStep) → answer ≡ Ok s → Lasts (world.clients v) s.client) → AllLast (after_step world (of_client world v answer))
-  by_client v (Err number) h y = same_lasts (world.clients y)
-  by_client v (Ok s) h y = put-all (λ u c. Lasts (world.clients u) c) world.clients v s.client (h s refl) (λ u. same_lasts (world.clients u)) y
-
-  by_event : (event : Event) → AllLast (after plan world event)
-  by_event Assign = by_authority (assigned plan world.authority)
-  by_event (Advance group c) = by_authority (advanced plan world.authority group c)
-  by_event (Refresh volume) = by_authority (refreshed plan world.authority volume)
-  by_event Grow = by_authority (grown plan world.authority)
-  by_event (Issue v changes) = by_client v _ (issue_lasts plan v (world.clients v) changes)
-  by_event (Take v number) = by_client v _ (take_lasts plan v (world.clients v) (numbered world.messages number))
-  by_event (Cut v) = by_client v _ (cut_lasts plan v (world.clients v))
-  by_event (Open v) = by_client v _ (open_lasts plan v (world.clients v))
-  by_event (Resend v lsn) = by_client v _ (resend_lasts plan v (world.clients v) lsn)
-  by_event (Read v group block) = by_client v _ (read_lasts plan v (world.clients v) group block)
-  by_event (Deliver group x number) = by_node group x _
-  by_event (Hydrate group x) = by_node group x _
-  by_event (Restart group x) = by_node group x _
-  by_event (Offer group x lsn) = by_node group x _
-
 all_last : (plan : Plan) (events : List Event) (world : World) (y : ℕ) → Lasts (world.clients y) ((run plan world events).clients y)
-all_last plan [] world y = same_lasts (world.clients y)
-all_last plan (event ∷ events) world y = lasts_after (world.clients y) ((after plan world event).clients y) _ (by_event plan world event y) (all_last plan events (after plan world event) y)
+all_last plan =
+    run_on plan Lasts (record { same = same_lasts; issue = issue_lasts plan; cut = cut_lasts plan; start = open_lasts plan; view = viewed_lasts plan; report = report_lasts plan; ack = ack_lasts plan }) lasts_after
 
 -- the complete point and the durable point don't fall
 complete_below : (points : ℕ → ℕ) (log : List Redo) → IsChain log → complete_of points log ≤ last_lsn log

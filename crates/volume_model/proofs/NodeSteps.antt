@@ -10,7 +10,7 @@ use Rattle.volume_model.specs.Lineage.{Lineage, last_epoch, last_start, is_live,
 use Rattle.volume_model.specs.Pieces.{Piece, KeptPiece, Pieces, Copy, most_pieces, in_pieces, piece_in, is_piece, is_complete, is_of_other, is_bad_piece, contents_in, united, with_install, pieces_from, with_copy, copied_by, brought}
 use Rattle.volume_model.specs.Plan.{Plan, has_member, is_full, is_configuration, is_named, IsCertified}
 use Rattle.volume_model.specs.Message.{Label, Place, Message}
-use Rattle.volume_model.specs.Message.Message.{View, StepTo, Fence, Report, Install, Write, Gossip, Ack, CopyAsk, CopyReport, PageAsk, Page}
+use Rattle.volume_model.specs.Message.Message.{StepTo, Fence, Report, Install, Write, Gossip, Ack, CopyAsk, CopyReport, PageAsk, Page}
 use Rattle.volume_model.specs.Refusal.{refuse_if}
 use Rattle.volume_model.specs.Node.{Node, NodeStep, NodeAnswer, lineage_epoch, has_configuration, label_checks, most_records, most_copies, take_record, install_step, installed, page_of, page_checks, page_answer, in_group, reaction, Hydrated, or_not_enough, gathered, whole_node, whole_from, hydrated, restarted, gossip_of, offered}
 use Rattle.volume_model.specs.World.{World, groups_joined, of_node, after_step, deliver, if_there}
@@ -100,12 +100,7 @@ NodeSays held world group x node (CopyReport to f from s p c) = (to ≡ group) �
 NodeSays held world group x node (Gossip to l r) = IsWrite world to l r
 NodeSays held world group x node (CopyAsk to f) = Unit {0}
 NodeSays held world group x node (Page to l from block point bytes) = IsPage world to l block point bytes
-NodeSays held world group x node (View v places) = ⊥
-NodeSays held world group x node (StepTo to place) = ⊥
-NodeSays held world group x node (Fence to l) = ⊥
-NodeSays held world group x node (Install to l p q) = ⊥
-NodeSays held world group x node (Write to l r) = ⊥
-NodeSays held world group x node (PageAsk to l block point) = ⊥
+NodeSays held world group x node m = ⊥
 
 -- a step of a node that keeps the invariant
 pub record IsGoodStep (plan : Plan) (held : Held) (world : World) (group x : ℕ) (step : NodeStep) : Type 0 where
@@ -144,12 +139,7 @@ module _ (plan : Plan) (certified : IsCertified plan) {held : Held} (world : Wor
   says_new there node (Gossip to l r) h = record { cut = h.cut; stands = h.stands; group_is = h.group_is }
   says_new there node (CopyAsk to f) h = tt
   says_new there node (Page to l from block point bytes) h = record { cut = h.cut; kept = h.kept; ordered = h.ordered; complete = h.complete; stands = h.stands; page = h.page }
-  says_new there node (View v places) h = absurd h
-  says_new there node (StepTo to place) h = absurd h
-  says_new there node (Fence to l) h = absurd h
-  says_new there node (Install to l p q) h = absurd h
-  says_new there node (Write to l r) h = absurd h
-  says_new there node (PageAsk to l block point) h = absurd h
+  says_new there node m h = absurd h
 
   -- an answer that is good where it isn't a refusal
   node_step : group < plan.groups → (answer : NodeAnswer) → ((step : NodeStep) → answer ≡ Ok step → IsGoodStep plan held world group x step) → IsKept plan held (after_step world (of_node world group x answer))
@@ -462,10 +452,7 @@ module _ (plan : Plan) (certified : IsCertified plan) {held : Held} (world : Wor
             | inr z ↦ absurd z
           ]);
         })
-    reaction_good (View v places) made step h = cc
-    reaction_good (Report to l from c) made step h = cc
-    reaction_good (Ack to l from s) made step h = cc
-    reaction_good (Page to l from block point bytes) made step h = cc
+    reaction_good m made step h = cc
 
     -- what a complete copy brought is a part of what its sender held, and all of that was brought
     record IsReportedPiece (snapshot c : Contents) : Type 0 where

@@ -7,9 +7,9 @@ use Rattle.volume_model.specs.Answer.{◌>>=◌}
 use Rattle.volume_model.specs.Refusal.{refuse_if}
 use Rattle.volume_model.specs.Redo.{Redo, cut_of, log_found, record_at}
 use Rattle.volume_model.specs.Plan.{Plan}
-use Rattle.volume_model.specs.Message.{Label, Place, Message}
+use Rattle.volume_model.specs.Message.{Label, Message}
 use Rattle.volume_model.specs.Message.Message.{View, StepTo, Fence, Report, Install, Write, Gossip, Ack, CopyAsk, CopyReport, PageAsk, Page}
-use Rattle.volume_model.specs.Node.{Node, NodeStep, NodeAnswer, label_checks, take_record, page_checks, page_answer, reaction, Hydrated, finished, or_not_enough, gathered, whole_from, hydrated, offered, gossip_of}
+use Rattle.volume_model.specs.Node.{Node, NodeStep, page_checks, page_answer, reaction, Hydrated, finished, or_not_enough, gathered, whole_from, hydrated, offered, gossip_of}
 use Rattle.volume_model.specs.Client.{Client, ClientStep, is_born}
 use Rattle.volume_model.specs.ClientWriter.{Change, issued, resent, write_of, page_asked}
 use Rattle.volume_model.specs.ClientRecovery.{cut_step, cut_client, opened, reported}
@@ -45,30 +45,17 @@ advanced_own plan a g c = search (refuses_if {A = AuthorityStep} IsOwn) depth 12
 pub refreshed_own : (plan : Plan) (a : Authority) (v : ℕ) → Refuses IsOwn (refreshed plan a v)
 refreshed_own plan a v = search (refuses_if {A = AuthorityStep} IsOwn) depth 12
 
--- the tests of a label
-label_own : (node : Node) (label : Label) (rest : NodeAnswer) → Refuses IsOwn rest → Refuses IsOwn (label_checks node label rest)
-label_own node label rest h = search (refuses_if {A = NodeStep} IsOwn, h) depth 12
-
-take_record_own : (group member : ℕ) (node : Node) (label : Label) (r : Redo) → Refuses IsOwn (take_record group member node label r)
-take_record_own group member node label r = search (refuses_if {A = NodeStep} IsOwn) depth 12
-
 page_own : (plan : Plan) (group member : ℕ) (node : Node) (label : Label) (block point : ℕ) → Refuses IsOwn (page_answer plan group member node label block point)
 unfolding page_answer page_checks
 page_own plan group member node label block point = search (refuses_if {A = NodeStep} IsOwn) depth 12
 
 pub reaction_own : (plan : Plan) (group member : ℕ) (node : Node) (m : Message) → Refuses IsOwn (reaction plan group member node m)
-reaction_own plan group member node (Fence to label) = search (refuses_if {A = NodeStep} IsOwn) depth 12
-reaction_own plan group member node (Install to label piece contents) = search (refuses_if {A = NodeStep} IsOwn) depth 12
-reaction_own plan group member node (Write to label r) = search (refuses_if {A = NodeStep} IsOwn) depth 12
-reaction_own plan group member node (Gossip to label r) = search (refuses_if {A = NodeStep} IsOwn) depth 12
-reaction_own plan group member node (StepTo to place) = search (refuses_if {A = NodeStep} IsOwn) depth 12
-reaction_own plan group member node (CopyAsk to epoch) = search (refuses_if {A = NodeStep} IsOwn) depth 12
-reaction_own plan group member node (CopyReport to epoch sender series piece contents) = search (refuses_if {A = NodeStep} IsOwn) depth 12
 reaction_own plan group member node (PageAsk to label block point) = let page = page_own plan group member node label block point in search (refuses_if {A = NodeStep} IsOwn, page) depth 12
 reaction_own plan group member node (View volume places) = tt
 reaction_own plan group member node (Report to label sender contents) = tt
 reaction_own plan group member node (Ack to label sender reached) = tt
 reaction_own plan group member node (Page to label sender block point bytes) = tt
+reaction_own plan group member node m = search (refuses_if {A = NodeStep} IsOwn) depth 12
 
 enough_own : (o : Option Hydrated) → Refuses IsOwn (or_not_enough o)
 enough_own None = tt
@@ -149,10 +136,6 @@ pub page_asked_own_born : (volume : ℕ) (client : Client) (group block : ℕ) �
 page_asked_own_born volume client group block born = search (refuses_if {A = ClientStep} IsOwn, refuses_not {A = ClientStep} IsOwn, born) depth 12
 
 pub taken_own : (plan : Plan) (volume : ℕ) (client : Client) (m : Message) → Refuses IsOwnOfClient (taken plan volume client m)
-taken_own plan volume client (View of places) = search (refuses_if {A = ClientStep} IsOwnOfClient) depth 12
-taken_own plan volume client (Report group label sender contents) = search (refuses_if {A = ClientStep} IsOwnOfClient) depth 12
-taken_own plan volume client (Ack group label sender reached) = search (refuses_if {A = ClientStep} IsOwnOfClient) depth 12
-taken_own plan volume client (Page group label sender block point bytes) = search (refuses_if {A = ClientStep} IsOwnOfClient) depth 12
 taken_own plan volume client (StepTo group place) = tt
 taken_own plan volume client (Fence group label) = tt
 taken_own plan volume client (Install group label piece contents) = tt
@@ -161,6 +144,7 @@ taken_own plan volume client (Gossip group label r) = tt
 taken_own plan volume client (CopyAsk group epoch) = tt
 taken_own plan volume client (CopyReport group epoch sender series piece contents) = tt
 taken_own plan volume client (PageAsk group label block point) = tt
+taken_own plan volume client m = search (refuses_if {A = ClientStep} IsOwnOfClient) depth 12
 
 -- of a client that is born
 pub taken_own_born : (plan : Plan) (volume : ℕ) (client : Client) (m : Message) → is_born client.stage ≡ true → Refuses IsOwn (taken plan volume client m)
@@ -168,15 +152,4 @@ taken_own_born plan volume client (View of places) born = search (refuses_if {A 
 taken_own_born plan volume client (Report group label sender contents) born = search (refuses_if {A = ClientStep} IsOwn, refuses_not {A = ClientStep} IsOwn, born) depth 12
 taken_own_born plan volume client (Ack group label sender reached) born = search (refuses_if {A = ClientStep} IsOwn, refuses_not {A = ClientStep} IsOwn, born) depth 12
 taken_own_born plan volume client (Page group label sender block point bytes) born = search (refuses_if {A = ClientStep} IsOwn, refuses_not {A = ClientStep} IsOwn, born) depth 12
-taken_own_born plan volume client (StepTo group place) born = tt
-taken_own_born plan volume client (Fence group label) born = tt
-taken_own_born plan volume client (Install group label piece contents) born = tt
-taken_own_born plan volume client (Write group label r) born = tt
-taken_own_born plan volume client (Gossip group label r) born = tt
-taken_own_born plan volume client (CopyAsk group epoch) born = tt
-taken_own_born plan volume client (CopyReport group epoch sender series piece contents) born = tt
-taken_own_born plan volume client (PageAsk group label block point) born = tt
-
--- a View is never refused for want of a client
-pub view_own : (plan : Plan) (volume : ℕ) (client : Client) (epoch : ℕ) (places : List Place) → Refuses IsOwn (taken plan volume client (View epoch places))
-view_own plan volume client epoch places = search (refuses_if {A = ClientStep} IsOwn) depth 12
+taken_own_born plan volume client m born = tt

@@ -5,7 +5,7 @@ use Rattle.volume_model.specs.Lineage.{Lineage, birth, Contents}
 use Rattle.volume_model.specs.Pieces.{Piece, pieces_of, copied_by, brought}
 use Rattle.volume_model.specs.WorkedPlans.{member_replaced}
 use Rattle.volume_model.specs.Message.{Label, Message}
-use Rattle.volume_model.specs.Message.Message.{View, StepTo, Fence, Report, Install, Write, Gossip, Ack, CopyAsk, CopyReport, PageAsk, Page}
+use Rattle.volume_model.specs.Message.Message.{Install, Write, Ack, CopyAsk, CopyReport}
 use Rattle.volume_model.specs.Node.{Node, NodeAnswer, installed, reaction, restarted}
 use Rattle.volume_model.specs.declared.fault.Fault.{Fault}
 use Rattle.volume_model.specs.declared.fault.Fault.TheVariants.{BadPiece, Full, NotInstalled, SeriesSpent, StaleVolume}
@@ -43,17 +43,7 @@ whole_node records event_result = record { volume = 1; place = record { configur
 -- of each piece of a copy its series, its number, of how many it is, and how many records it has
 abbrev piece_reported : Message → List ℕ
 piece_reported (CopyReport group epoch sender series piece contents) = series ∷ piece.number ∷ piece.of ∷ length contents.records ∷ []
-piece_reported (View volume places) = []
-piece_reported (StepTo group place) = []
-piece_reported (Fence group label) = []
-piece_reported (Report group label sender contents) = []
-piece_reported (Install group label piece contents) = []
-piece_reported (Write group label r) = []
-piece_reported (Gossip group label r) = []
-piece_reported (Ack group label sender reached) = []
-piece_reported (CopyAsk group epoch) = []
-piece_reported (PageAsk group label block point) = []
-piece_reported (Page group label sender block point bytes) = []
+piece_reported m = []
 
 -- the result of an answer
 abbrev told_of : NodeAnswer → Result (List (List ℕ)) Fault

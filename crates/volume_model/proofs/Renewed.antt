@@ -6,7 +6,7 @@ use Rattle.volume_model.specs.Lineage.{Contents}
 use Rattle.volume_model.specs.Pieces.{Piece}
 use Rattle.volume_model.specs.Plan.{Plan}
 use Rattle.volume_model.specs.Message.{Message}
-use Rattle.volume_model.specs.Message.Message.{View, StepTo, Fence, Report, Install, Write, Gossip, Ack, CopyAsk, CopyReport, PageAsk, Page}
+use Rattle.volume_model.specs.Message.Message.{View, StepTo, Fence, Report, CopyAsk, CopyReport, PageAsk, Page}
 use Rattle.volume_model.specs.Node.{Node}
 use Rattle.volume_model.specs.World.{World}
 use Rattle.volume_model.specs.PieceLaws.{IsPieceOf}
@@ -52,16 +52,7 @@ module _ (plan : Plan) {held : Held} (world : World) (kept : IsKept plan held wo
   message_again older within (Report group l x q) i h = sourced_again older within group x q h
   message_again older within (CopyReport group f x s p c) i h =
       subst (λ z. IsSourced plan (renewed held world) world older group x z) (made_same group f x s p c i) (sourced_again older within group x (held group x s) h)
-  message_again older within (View v places) i h = tt
-  message_again older within (StepTo group place) i h = tt
-  message_again older within (Fence group l) i h = tt
-  message_again older within (Install group l p c) i h = tt
-  message_again older within (Write group l r) i h = tt
-  message_again older within (Gossip group l r) i h = tt
-  message_again older within (Ack group l x s) i h = tt
-  message_again older within (CopyAsk group f) i h = tt
-  message_again older within (PageAsk group l block point) i h = tt
-  message_again older within (Page group l x block point bytes) i h = tt
+  message_again older within m i h = tt
 
   history_again : (messages : List Message) → ((m : Message) → IsIn m messages → IsMade world m) → IsHistory plan held world messages → IsHistory plan (renewed held world) world messages
   history_again [] within h = tt
@@ -84,17 +75,13 @@ module _ (plan : Plan) {held : Held} (world : World) (kept : IsKept plan held wo
   kept_again (View v places) i h = h
   kept_again (StepTo group place) i h = h
   kept_again (Fence group l) i h = tt
-  kept_again (Report group l x q) i h = h
-  kept_again (Install group l p c) i h = h
-  kept_again (Write group l r) i h = h
-  kept_again (Gossip group l r) i h = h
-  kept_again (Ack group l x s) i h = h
   kept_again (CopyAsk group f) i h = tt
   kept_again (CopyReport group f x s p c) i h =
       let same : held group x s ≡ renewed held world group x s = made_same group f x s p c i in
       record { copy = subst (λ z. IsCopy world group z) same h.copy; is = subst (λ z. IsPieceOf z p c) same h.is; epoch = h.epoch; number = h.number }
   kept_again (PageAsk group l block point) i h = tt
   kept_again (Page group l x block point bytes) i h = h
+  kept_again m i h = h
 
   -- so a kept world stays so with what its members hold now as their next copies
   pub renewed_kept : IsKept plan (renewed held world) world
