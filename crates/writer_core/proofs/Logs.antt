@@ -1,17 +1,11 @@
 -- A log that grows at its end.
 use Rattle.std.proofs.Common.{◌≡◌, ℕ, ◌+◌, ◌<◌, List, [], ◌∷◌, ◌++◌, map, take, length, get_or, refl, ap, ◌∙◌}
 use Rattle.std.proofs.lemmas.List.{take_more}
-use Rattle.std.specs.List.{AllZip}
 use Rattle.volume_model.specs.Lists.{added}
 use Rattle.volume_model.specs.Redo.{Redo}
 use Rattle.redo_record.specs.declared.shared_record.SharedRecord.{SharedRecord}
 use Rattle.redo_record.specs.SharedRecord.{shared_redo}
-use Rattle.redo_record.proofs.Copied.{IsCopy, redos-copied}
 use Rattle.writer_core.specs.Logs.{log_of}
-
-added-push : {A : Type 0} (xs : List A) (x : A) (kept : List A) → added (xs ++ x ∷ []) kept ≡ x ∷ added xs kept
-added-push [] x kept = refl
-added-push (y ∷ xs) x kept = added-push xs x (y ∷ kept)
 
 pub added_from : (packets : List SharedRecord) (p : SharedRecord) (kept : List Redo) → added (map shared_redo (packets ++ p ∷ [])) kept ≡ shared_redo p ∷ added (map shared_redo packets) kept
 added_from [] p kept = refl
@@ -22,7 +16,3 @@ log_of-push packets p = added_from packets p []
 
 pub log_of-more : (packets : List SharedRecord) (i : ℕ) (d : SharedRecord) → i < length packets → log_of (take (i + 1) packets) ≡ shared_redo (get_or packets i d) ∷ log_of (take i packets)
 log_of-more packets i d within = ap log_of (take_more packets i d within) ∙ log_of-push (take i packets) (get_or packets i d)
-
--- clones of packets are the same log
-pub log_of-copied : (packets copies : List SharedRecord) → AllZip IsCopy packets copies → log_of copies ≡ log_of packets
-log_of-copied packets copies h = ap (λ rs. added rs []) (redos-copied packets copies h)

@@ -1,6 +1,6 @@
 -- One record more of a transaction.
 use Rattle.std.proofs.Common.{◌≡◌, ℕ, zero, suc, ◌+◌, ◌<◌, ◌≤◌, ◌^◌, Bool, true, ◌&&◌, nat_lt, nat_le, nat_eq, List, [], ◌∷◌, ◌++◌, max, length, drop, get_or, take, refl, sym, ap, ap₂, ◌∙◌, arith, drop-cons, add-one, length-drop}
-use Rattle.std.proofs.lemmas.Bool.{and_parts, lt-ltb, ltb-true, leb-true}
+use Rattle.std.proofs.lemmas.Bool.{and_parts, ltb-true, leb-true}
 use Rattle.std.proofs.lemmas.List.{take-append-le, length-take}
 use Rattle.std.proofs.lemmas.Bool.Decides.{nat_tests}
 use Rattle.volume_model.specs.Lists.{every}
@@ -14,7 +14,7 @@ use Rattle.redo_record.specs.SharedRecord.{shared_redo}
 use Rattle.wire.specs.declared.message.Message.{Message}
 use Rattle.wire.specs.Message.{message_of, messages_of}
 use Rattle.writer_core.specs.declared.change.Change.{Change}
-use Rattle.writer_core.specs.Logs.{log_of, is_growing}
+use Rattle.writer_core.specs.Logs.{log_of}
 use Rattle.writer_core.specs.Changes.{change_of, changes_of}
 use Rattle.writer_core.proofs.Logs.{log_of-push}
 
@@ -68,12 +68,6 @@ module _ (volume start : ℕ) (places : ℕ → model.Place) (changes : List Cha
   written_on m e =
       ap₂ (λ x l. x ∷ issued_writes volume places start (changes_of (drop (i + 1) changes)) l) (e ∙ ap (model.Message.Write (change_of change).group (client.label_of volume places (change_of change).group)) record_is) log_is
       ∙ sym (ap (λ cs. issued_writes volume places start cs (log_of records)) rest_is)
-
-  pub growing_on : is_growing (log_of records) ≡ true → is_growing (log_of (records ++ p ∷ [])) ≡ true
-  growing_on h =
-      let lsn : (shared_redo p).lsn ≡ suc (max (last_lsn (log_of records)) start) = ap (λ s. s.lsn) record_is in
-      let above : nat_lt (last_lsn (log_of records)) (shared_redo p).lsn ≡ true = lt-ltb (last_lsn (log_of records)) (shared_redo p).lsn (omega arith) in
-      ap is_growing (log_of-push records p) ∙ ap (λ b. b && is_growing (log_of records)) above ∙ h
 
   pub room_on : max (last_lsn (log_of records)) start + length (drop i changes) ≤ 2 ^ 62 → max (last_lsn (log_of (records ++ p ∷ []))) start + length (drop (i + 1) changes) ≤ 2 ^ 62
   room_on h =

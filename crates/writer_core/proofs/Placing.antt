@@ -1,7 +1,7 @@
 -- Groups whose points are raised, and where they stand.
 use Rattle.std.proofs.Common.{◌≡◌, ℕ, zero, suc, ◌+◌, ◌-◌, ◌<◌, ◌≤◌, Bool, true, false, List, [], ◌∷◌, ◌++◌, length, drop, take, get_or, ◌⊎◌, inl, inr, refl, sym, ap, ap₂, ◌∙◌, arith, subst, drop-cons, add-one, append_assoc, append-nil}
 use Rattle.std.specs.Prelude.{max, map, slice_set, replicate, Result, Ok, Err, OnOk, OnErr}
-use Rattle.std.proofs.lemmas.List.{length-map, length-replicate, length-set, length_push, replicate_more, drop_all, map-append, map-set, take-append-drop, take_more_set, drop-set-lt}
+use Rattle.std.proofs.lemmas.List.{length-map, length-set, length_push, replicate_more, drop_all, map-append, map-set, take-append-drop, take_more_set, drop-set-lt}
 use Rattle.wire.specs.declared.label.Place.{Place}
 use Rattle.wire.specs.Message as wire
 use Rattle.volume_model.specs.Lists.{every_below}
@@ -13,7 +13,7 @@ use Rattle.volume_model.proofs.Views.{place_in-beyond}
 use Rattle.std.proofs.lemmas.Bool.{cases_Bool, cases_lt, and_parts, ltb-true}
 use Rattle.volume_model.specs.Plan.{Plan}
 use Rattle.writer_core.proofs.Below.{below-fails, is_place, places-parts}
-use Rattle.volume_model.specs.Client.{ClientGroup, no_group, group_of, place_of, newly_at, born_group}
+use Rattle.volume_model.specs.Client.{ClientGroup, no_group, group_of, place_of, newly_at}
 use Rattle.volume_model.specs.ClientPoints.{raised_group, raised_from}
 use Rattle.volume_model.specs.ClientMessages.{with_places, later_group, reread_group, is_later, are_places}
 use Rattle.writer_core.specs.declared.group_state.GroupState.{GroupState}
@@ -32,17 +32,6 @@ places-set (x ∷ xs) (suc i) (suc k) g e = places-set xs i k g e
 pub placed-set : (plan : Plan) (groups : List ClientGroup) (i : ℕ) (g : ClientGroup) → g.place ≡ place_of groups i → ArePlaced plan groups → ArePlaced plan (slice_set groups i g)
 placed-set plan groups i g e placed k h =
     subst (λ (place : model.Place). place.configuration < plan.configurations k) (sym (places-set groups i k g e)) (placed k (subst (λ n. k < n) (length-slice_set groups i g) h))
-
-roots-place : (n k : ℕ) → (place_of (replicate n born_group) k).configuration ≡ 0
-roots-place zero k = refl
-roots-place (suc n) zero = refl
-roots-place (suc n) (suc k) = roots-place n k
-
--- groups at their roots
-pub roots-placed : (plan : Plan) (n : ℕ) → n ≤ plan.groups → ((group : ℕ) → group < plan.groups → 0 < plan.configurations group) → ArePlaced plan (replicate n born_group)
-roots-placed plan n few there k h =
-    let within : k < n = subst (λ m. k < m) (length-replicate n born_group) h in
-    subst (λ c. c < plan.configurations k) (sym (roots-place n k)) (there k (omega arith))
 
 -- ---- the group at hand
 

@@ -13,6 +13,7 @@ use Rattle.writer_core.proofs.Covering.{covers-raised, covers-same}
 use Rattle.writer_core.proofs.Raising.{raised-same, raised-counted, raised_all, joined_all, counted_raised, counted_joined, group_point_of-counted_in, joined-counted_in}
 use Rattle.writer_core.proofs.Rising.{group_point_of-counted}
 use Rattle.writer_core.proofs.writer.Writer.take_ack.Goals as goal
+use Rattle.writer_core.proofs.writer.Writer.take_ack.Goals.{After-raise_group}
 
 -- ---- memory ran out
 
@@ -69,47 +70,36 @@ returns-then-has_joined-clause-answers c =
 
 -- ---- it is above, or the group hasn't joined
 
+now : (c : After-raise_group) → groups_in c.raise_group.new.self
+    ≡ raised (group_states_plan c.args.self.now.group_states) (counted_in (groups_in c.args.self.now.group_states) c.args.ack.now.group c.args.ack.now.from c.args.ack.now.scl)
+now c =
+    let self = c.args.self.now in
+    let ack = c.args.ack.now in
+    raised-counted (group_states_plan self.group_states) (groups_in self.group_states) (groups_in c.count.new.self) (groups_in c.raise_group.new.self) ack.group ack.from ack.scl self.raised self.joined c.in_ok-count.ensures.counted
+    (c.raise_group.ensures.groups ∙ ap (λ p. raised_in p (groups_in c.count.new.self) ack.group) c.in_ok-count.ensures.plan)
+
 pub follow-requires : goal.follow-requires
 follow-requires c =
     let self = c.args.self.now in
     let ack = c.args.ack.now in
     let plan = group_states_plan self.group_states in
     let old = groups_in self.group_states in
-    let now : groups_in c.raise_group.new.self ≡ raised plan (counted_in old ack.group ack.from ack.scl) =
-    raised-counted plan old (groups_in c.count.new.self) (groups_in c.raise_group.new.self) ack.group ack.from ack.scl self.raised self.joined c.in_ok-count.ensures.counted
-    (c.raise_group.ensures.groups ∙ ap (λ p. raised_in p (groups_in c.count.new.self) ack.group) c.in_ok-count.ensures.plan) in
     let rises : (k : ℕ) → group_point_of old k ≤ group_point_of (groups_in c.raise_group.new.self) k =
-    λ k. subst (λ (groups : List ClientGroup). group_point_of old k ≤ group_point_of groups k) (sym now) (group_point_of-counted plan old ack.group ack.from ack.scl k) in
+    λ k. subst (λ (groups : List ClientGroup). group_point_of old k ≤ group_point_of groups k) (sym (now (goal.at.follow-requires c).After-raise_group)) (group_point_of-counted plan old ack.group ack.from ack.scl k) in
     covers-raised self.durability (group_point_of old) (group_point_of (groups_in c.raise_group.new.self)) (packets_in self.log) rises self.covers.front
 
 pub invariant_of-self-2-clause-raised : goal.invariant_of-self-2-clause-raised
 invariant_of-self-2-clause-raised c =
-    let self = c.args.self.now in
-    let ack = c.args.ack.now in
-    let plan = group_states_plan self.group_states in
-    let old = groups_in self.group_states in
-    raised_all plan _ (counted_in old ack.group ack.from ack.scl) _ (c.raise_group.ensures.plan ∙ c.in_ok-count.ensures.plan)
-    (raised-counted plan old (groups_in c.count.new.self) (groups_in c.raise_group.new.self) ack.group ack.from ack.scl self.raised self.joined c.in_ok-count.ensures.counted
-    (c.raise_group.ensures.groups ∙ ap (λ p. raised_in p (groups_in c.count.new.self) ack.group) c.in_ok-count.ensures.plan))
+    raised_all _ _ _ _ (c.raise_group.ensures.plan ∙ c.in_ok-count.ensures.plan) (now (goal.at.invariant_of-self-2-clause-raised c).After-raise_group)
 
 pub invariant_of-self-2-clause-joined : goal.invariant_of-self-2-clause-joined
 invariant_of-self-2-clause-joined c =
-    let self = c.args.self.now in
-    let ack = c.args.ack.now in
-    let plan = group_states_plan self.group_states in
-    let old = groups_in self.group_states in
-    joined_all plan _ (counted_in old ack.group ack.from ack.scl) _ (c.raise_group.ensures.plan ∙ c.in_ok-count.ensures.plan)
-    (raised-counted plan old (groups_in c.count.new.self) (groups_in c.raise_group.new.self) ack.group ack.from ack.scl self.raised self.joined c.in_ok-count.ensures.counted
-    (c.raise_group.ensures.groups ∙ ap (λ p. raised_in p (groups_in c.count.new.self) ack.group) c.in_ok-count.ensures.plan))
+    joined_all _ _ _ _ (c.raise_group.ensures.plan ∙ c.in_ok-count.ensures.plan) (now (goal.at.invariant_of-self-2-clause-joined c).After-raise_group)
 
 pub returns-clause-answers : goal.returns-clause-answers
 returns-clause-answers c =
     let self = c.args.self.now in
     let ack = c.args.ack.now in
-    let plan = group_states_plan self.group_states in
-    let old = groups_in self.group_states in
     let client = client_of self in
-    ack_counted plan self.volume old (groups_in c.raise_group.new.self) client.lineage client.found client.log ack.group ack.from ack.scl (label_of ack.label) c.in_ok-admits_ack.ensures.can
-    (omega (arith, c.if-ack-epoch.false, c.epoch.ensures))
-    (raised-counted plan old (groups_in c.count.new.self) (groups_in c.raise_group.new.self) ack.group ack.from ack.scl self.raised self.joined c.in_ok-count.ensures.counted
-    (c.raise_group.ensures.groups ∙ ap (λ p. raised_in p (groups_in c.count.new.self) ack.group) c.in_ok-count.ensures.plan))
+    ack_counted (group_states_plan self.group_states) self.volume (groups_in self.group_states) (groups_in c.raise_group.new.self) client.lineage client.found client.log ack.group ack.from ack.scl (label_of ack.label) c.in_ok-admits_ack.ensures.can
+    (omega (arith, c.if-ack-epoch.false, c.epoch.ensures)) (now (goal.at.returns-clause-answers c).After-raise_group)
