@@ -1,7 +1,8 @@
 -- The fields of each kind are spelled by the bytes that they were read from.
-use Rattle.std.proofs.Common.{◌≡◌, ℕ, zero, suc, ◌+◌, ◌^◌, List, [], ◌∷◌, ◌++◌, ◌==◌, length, Ok, sym, ap, ap₂, subst, ◌∙◌, append_assoc, arith, refl}
+use Rattle.std.proofs.Common.{◌≡◌, ℕ, ◌+◌, ◌^◌, List, [], ◌∷◌, ◌++◌, ◌==◌, length, Result, Ok, sym, ap, ap₂, subst, ◌∙◌, append_assoc, arith, refl}
 use Rattle.std.specs.Int.{w16, w32, w64, to_be_bytes}
 use Rattle.std.proofs.lemmas.List.{append-nil, length-append}
+use Rattle.volume_model.specs.declared.fault.Fault.{Fault}
 use Rattle.volume_model.specs.declared.fault.Fault.TheVariants.{BadField}
 use Rattle.volume_model.specs.Answer.{◌>>=◌}
 use Rattle.volume_model.specs.Message.{Label, Place, Message}
@@ -10,8 +11,9 @@ use Rattle.message_bytes.specs.Numbers.{byte_at, number_at, image_at}
 use Rattle.message_bytes.specs.Contents.{redo_at, contents_at}
 use Rattle.message_bytes.specs.Reading.{label_at, labelled_at, place_at, places_at, volume_at, view_at, step_at, fence_at, report_at, install_at, write_at, gossip_at, ack_at, copy_ask_at, copy_report_at, page_ask_at, page_at}
 use Rattle.message_bytes.specs.Spelling.{label_spelled, place_spelled, places_spelled, tagged_spelled}
-use Rattle.message_bytes.proofs.Fields.{IsBytes, bind_ok, guard_ok, ok_is, Takes, Takes-then, Takes-none, wide16, wide32, wide64, byte_takes, number_takes, image_takes}
-use Rattle.message_bytes.proofs.Found.{redo_takes, contents_takes}
+use Rattle.message_bytes.proofs.Fields.{IsBytes, bind_ok, guard_ok, ok_is, Takes, Takes-then, wide16, wide32, wide64, byte_takes, number_takes, image_takes}
+use Rattle.message_bytes.proofs.Found.{redo_takes, contents_takes, list_takes}
+use Rattle.message_bytes.proofs.Loop.{places}
 
 -- behind a kind
 tagged : (k : ℕ) (bytes body rest : List ℕ) → Takes bytes body rest → Takes (k ∷ bytes) (k ∷ body) rest
@@ -51,29 +53,10 @@ pub places_spelled-append : (xs ys : List Place) → places_spelled (xs ++ ys) �
 places_spelled-append [] ys = refl
 places_spelled-append (x ∷ xs) ys = ap (λ (t : List ℕ). place_spelled x ++ t) (places_spelled-append xs ys) ∙ sym (append_assoc (place_spelled x) (places_spelled xs) (places_spelled ys))
 
--- places that are read are spelled behind those before them
-pub record TakesPlaces (n : ℕ) (kept : List Place) (bytes : List ℕ) (own : List Place) (rest : List ℕ) : Type 0 where
-  pub text : List ℕ
-  pub spells : places_spelled own ≡ places_spelled kept ++ text
-  pub takes : Takes bytes text rest
-  pub count : length own ≡ length kept + n
-
-pub places_take : (n : ℕ) (kept : List Place) (bytes : List ℕ) (x : List Place × List ℕ) → IsBytes bytes → places_at n kept bytes ≡ Ok x → TakesPlaces n kept bytes x.0 x.1
-unfolding places_at
-places_take zero kept bytes x fits e =
-    subst (λ (y : List Place × List ℕ). TakesPlaces 0 kept bytes y.0 y.1) (ok_is (kept, bytes) x e)
-    (record { text = []; spells = sym (append-nil (places_spelled kept)); takes = Takes-none bytes fits; count = omega arith })
-places_take (suc n) kept bytes x fits e =
-    let a = bind_ok (place_at bytes) (λ place. places_at n (kept ++ place.0 ∷ []) place.1) x e in
-    let first = place_takes bytes a.0 fits a.1 in
-    let later = places_take n (kept ++ a.0.0 ∷ []) a.0.1 x first.rest_fits a.2 in
-    let front : places_spelled (kept ++ a.0.0 ∷ []) ≡ places_spelled kept ++ place_spelled a.0.0 = places_spelled-append kept (a.0.0 ∷ []) ∙ ap (λ (t : List ℕ). places_spelled kept ++ t) (append-nil (place_spelled a.0.0)) in
-    record {
-      text = place_spelled a.0.0 ++ later.text;
-      spells = later.spells ∙ ap (λ (t : List ℕ). t ++ later.text) front ∙ append_assoc (places_spelled kept) (place_spelled a.0.0) later.text;
-      takes = Takes-then bytes _ a.0.1 _ x.1 first later.takes;
-      count = omega (arith, later.count, length-append kept (a.0.0 ∷ []));
-    }
+place_joined : (kept own : List Place) (place : Place) → ◌≡◌ {A = Result (List Place) Fault} (Ok (kept ++ place ∷ [])) (Ok own) → (places_spelled own ≡ places_spelled kept ++ place_spelled place) × (length own ≡ length kept + 1)
+place_joined kept own place e =
+    subst (λ (ps : List Place). (places_spelled ps ≡ places_spelled kept ++ place_spelled place) × (length ps ≡ length kept + 1)) (ok_is (kept ++ place ∷ []) own e)
+    (places_spelled-append kept (place ∷ []) ∙ ap (λ (t : List ℕ). places_spelled kept ++ t) (append-nil (place_spelled place)), omega (arith, length-append kept (place ∷ [])))
 
 pub volume_takes : (bytes : List ℕ) (x : ℕ × List ℕ) → IsBytes bytes → volume_at bytes ≡ Ok x → Takes bytes (to_be_bytes w32 x.0) x.1
 unfolding volume_at
@@ -92,7 +75,7 @@ view_takes bytes x fits e =
     let d = bind_ok (places_at b.0.0 [] b.0.1) (λ places. Ok (View a.0.0 places.0, places.1)) x b.2 in
     let t0 = volume_takes bytes a.0 fits a.1 in
     let t1 = number_takes w32 (2 ^ 32) wide32 a.0.1 b.0 t0.rest_fits b.1 in
-    let t2 = places_take b.0.0 [] b.0.1 d.0 t1.rest_fits d.1 in
+    let t2 = list_takes places place_spelled places_spelled length place_takes place_joined b.0.0 [] b.0.1 d.0 t1.rest_fits d.1 in
     let long : length d.0.0 ≡ b.0.0 = omega (arith, t2.count) in
     let listed : Takes a.0.1 (to_be_bytes w32 (length d.0.0) ++ places_spelled d.0.0) d.0.1 =
     subst (λ (t : List ℕ). Takes a.0.1 t d.0.1) (ap₂ (λ (k : ℕ) (t : List ℕ). to_be_bytes w32 k ++ t) (sym long) (sym t2.spells)) (Takes-then a.0.1 _ b.0.1 _ d.0.1 t1 t2.takes) in
