@@ -1,13 +1,18 @@
-//! The place of a certificate's fault.
+//! The place of a certificate's fault: each check ends at the first one, to which the trail leads.
 
-use crate::trail::Trail;
+use crate::trail::{Halt, Trail};
 use quorum_expr::{Node, TapeNode, count_items};
 use refutation::{MAX_DEPTH, MAX_LIST, MAX_NODES, has_keys, number_to};
-use std::alloc::AllocError;
 
 const ITEM: &str = "an item's number, from 0 to 65,535";
 
 const BRANCHES: &str = "an array of rules";
+
+const PAIRS: &str = "at most 255 pairs of children's numbers, from 0 to 255";
+
+const NUMBERS: &str = "at most 255 children's numbers, from 0 to 255";
+
+const RULES: &str = "one of \"dead\", \"clash\", \"open\", \"pick\", \"match\", \"split\"";
 
 /// Returns whether the value at a key is a whole number up to a limit.
 fn has_number(node: &TapeNode<'_, '_>, key: &str, most: u64) -> bool {
@@ -53,210 +58,182 @@ fn has_pairs(value: &TapeNode<'_, '_>) -> bool {
     true
 }
 
-/// Finds the fault of the keys `side` and `item`.
-fn side_fault(node: &TapeNode<'_, '_>, trail: &mut Trail) -> Result<bool, AllocError> {
+/// Checks the keys `side` and `item`.
+fn check_side(node: &TapeNode<'_, '_>, trail: &mut Trail) -> Result<(), Halt> {
     let is_side = match node.get("side") {
         Some(side) => side.is_text("left") || side.is_text("right"),
         None => false,
     };
     if !is_side {
-        return trail.expect_at("side", "\"left\" or \"right\"");
+        return Err(trail.expect_at("side", "\"left\" or \"right\""));
     }
     if !has_number(node, "item", 65_535) {
-        return trail.expect_at("item", ITEM);
+        return Err(trail.expect_at("item", ITEM));
     }
-    Ok(false)
+    Ok(())
 }
 
-/// Finds the fault of the keys `left` and `right`, which number items.
-fn items_fault(node: &TapeNode<'_, '_>, trail: &mut Trail) -> Result<bool, AllocError> {
+/// Checks the keys `left` and `right`, which number items.
+fn check_items(node: &TapeNode<'_, '_>, trail: &mut Trail) -> Result<(), Halt> {
     if !has_number(node, "left", 65_535) {
-        return trail.expect_at("left", ITEM);
+        return Err(trail.expect_at("left", ITEM));
     }
     if !has_number(node, "right", 65_535) {
-        return trail.expect_at("right", ITEM);
+        return Err(trail.expect_at("right", ITEM));
     }
-    Ok(false)
+    Ok(())
 }
 
-/// Finds the fault of a list of branches, and of another list that is as long.
-fn lists_fault(
+/// Checks a list of branches, and another list that is as long.
+fn check_lists(
     node: &TapeNode<'_, '_>,
     key: &'static str,
     is_pairs: bool,
     trail: &mut Trail,
-) -> Result<bool, AllocError> {
+) -> Result<(), Halt> {
     let Some(list) = node.get(key) else {
-        return trail.expect_at(key, "a list of children");
+        return Err(trail.expect_at(key, "a list of children"));
     };
-    let is_good = if is_pairs {
-        has_pairs(&list)
+    let (is_good, expected) = if is_pairs {
+        (has_pairs(&list), PAIRS)
     } else {
-        has_numbers(&list)
+        (has_numbers(&list), NUMBERS)
     };
     if !is_good || count_items(&list, MAX_LIST + 1) > MAX_LIST {
-        return trail.expect_at(
-            key,
-            if is_pairs {
-                "at most 255 pairs of children's numbers, from 0 to 255"
-            } else {
-                "at most 255 children's numbers, from 0 to 255"
-            },
-        );
+        return Err(trail.expect_at(key, expected));
     }
     match node.get("then") {
         Some(then) if then.items().is_some() => {
             if count_items(&then, MAX_LIST + 1) > MAX_LIST {
-                return trail.expect_at("then", "at most 255 rules");
+                return Err(trail.expect_at("then", "at most 255 rules"));
             }
-            Ok(false)
+            Ok(())
         }
-        _ => trail.expect_at("then", BRANCHES),
+        _ => Err(trail.expect_at("then", BRANCHES)),
     }
 }
 
-/// Finds the fault of an object that must have `count` keys.
-fn keys_fault(
-    node: &TapeNode<'_, '_>,
-    count: usize,
-    trail: &mut Trail,
-) -> Result<bool, AllocError> {
+/// Checks that a rule has `count` keys, at most five.
+fn check_keys(node: &TapeNode<'_, '_>, count: usize) -> Result<(), Halt> {
     if count > 5 || has_keys(node, count).is_ok() {
-        return Ok(false);
+        return Ok(());
     }
-    trail.expect("the keys of its rule, and no others")
+    Err(Halt::Expected("the keys of its rule, and no others"))
 }
 
-/// Finds the fault of a rule itself, without its branches.
-fn level_fault(
+/// Checks a rule without its branches.
+fn check_level(
     node: &TapeNode<'_, '_>,
     name: &TapeNode<'_, '_>,
     trail: &mut Trail,
-) -> Result<bool, AllocError> {
+) -> Result<(), Halt> {
     if name.is_text("dead") {
-        Ok(keys_fault(node, 3, trail)? || side_fault(node, trail)?)
+        check_keys(node, 3)?;
+        check_side(node, trail)
     } else if name.is_text("clash") {
-        Ok(keys_fault(node, 3, trail)? || items_fault(node, trail)?)
+        check_keys(node, 3)?;
+        check_items(node, trail)
     } else if name.is_text("open") {
-        Ok(keys_fault(node, 4, trail)? || side_fault(node, trail)?)
+        check_keys(node, 4)?;
+        check_side(node, trail)
     } else if name.is_text("pick") {
-        Ok(
-            keys_fault(node, 5, trail)?
-                || side_fault(node, trail)?
-                || lists_fault(node, "children", false, trail)?,
-        )
+        check_keys(node, 5)?;
+        check_side(node, trail)?;
+        check_lists(node, "children", false, trail)
     } else if name.is_text("match") {
-        Ok(
-            keys_fault(node, 5, trail)?
-                || items_fault(node, trail)?
-                || lists_fault(node, "pairs", true, trail)?,
-        )
+        check_keys(node, 5)?;
+        check_items(node, trail)?;
+        check_lists(node, "pairs", true, trail)
     } else if name.is_text("split") {
-        if keys_fault(node, 4, trail)? {
-            return Ok(true);
-        }
+        check_keys(node, 4)?;
         if has_number(node, "member", 63) {
-            return Ok(false);
+            return Ok(());
         }
-        trail.expect_at("member", "a member, from 0 to 63")
+        Err(trail.expect_at("member", "a member, from 0 to 63"))
     } else {
-        trail.expect_at(
-            "rule",
-            "one of \"dead\", \"clash\", \"open\", \"pick\", \"match\", \"split\"",
-        )
+        Err(trail.expect_at("rule", RULES))
     }
 }
 
-/// Finds the fault of the branch at a key.
+/// Checks the branch at a key.
 #[cycle(rule)]
-fn branch_fault(
+fn check_branch(
     node: &TapeNode<'_, '_>,
     key: &'static str,
     left: u8,
     room: &mut u32,
     trail: &mut Trail,
-) -> Result<bool, AllocError> {
-    let Some(branch) = node.get(key) else {
-        return trail.expect_at(key, "a rule");
-    };
+) -> Result<(), Halt> {
     trail.enter(key)?;
-    if rule_fault(&branch, left, room, trail)? {
-        return Ok(true);
-    }
+    let Some(branch) = node.get(key) else {
+        return Err(Halt::Expected("a rule"));
+    };
+    check_rule(&branch, left, room, trail)?;
     trail.leave();
-    Ok(false)
+    Ok(())
 }
 
-/// Finds the fault of the branches in the array at the key `then`.
+/// Checks the branches in the array at the key `then`.
 #[cycle(rule)]
-fn branches_fault(
+fn check_branches(
     node: &TapeNode<'_, '_>,
     left: u8,
     room: &mut u32,
     trail: &mut Trail,
-) -> Result<bool, AllocError> {
+) -> Result<(), Halt> {
+    trail.enter("then")?;
     let Some(then) = node.get("then") else {
-        return trail.expect_at("then", BRANCHES);
+        return Err(Halt::Expected(BRANCHES));
     };
     let Some(mut rest) = then.items() else {
-        return trail.expect_at("then", BRANCHES);
+        return Err(Halt::Expected(BRANCHES));
     };
     for item in 0..MAX_LIST {
         let Some(branch) = TapeNode::next(&mut rest) else {
-            return Ok(false);
+            break;
         };
-        trail.enter_item("then", item)?;
-        if rule_fault(&branch, left, room, trail)? {
-            return Ok(true);
-        }
-        trail.leave_item();
+        trail.enter_item(item)?;
+        check_rule(&branch, left, room, trail)?;
+        trail.leave();
     }
-    Ok(false)
+    trail.leave();
+    Ok(())
 }
 
-/// Finds the fault of a rule of at most `left` levels. Subtracts its rules from `room`, down to 0.
+/// Checks a rule of at most `left` levels. Subtracts its rules from `room`, down to 0.
 #[cycle(rule)]
-fn rule_fault(
+fn check_rule(
     node: &TapeNode<'_, '_>,
     left: u8,
     room: &mut u32,
     trail: &mut Trail,
-) -> Result<bool, AllocError> {
+) -> Result<(), Halt> {
     *room = room.saturating_sub(1);
     let Some(name) = node.get("rule") else {
-        return trail.expect("an object with the key \"rule\"");
+        return Err(Halt::Expected("an object with the key \"rule\""));
     };
-    if level_fault(node, &name, trail)? {
-        return Ok(true);
-    }
+    check_level(node, &name, trail)?;
     if left == 0 {
-        return trail.expect("a certificate of at most 40 levels");
+        return Err(Halt::Expected("a certificate of at most 40 levels"));
     }
     if name.is_text("open") {
-        branch_fault(node, "then", left - 1, room, trail)
+        check_branch(node, "then", left - 1, room, trail)
     } else if name.is_text("split") {
-        Ok(
-            branch_fault(node, "left", left - 1, room, trail)?
-                || branch_fault(node, "right", left - 1, room, trail)?,
-        )
+        check_branch(node, "left", left - 1, room, trail)?;
+        check_branch(node, "right", left - 1, room, trail)
     } else if name.is_text("pick") || name.is_text("match") {
-        branches_fault(node, left - 1, room, trail)
+        check_branches(node, left - 1, room, trail)
     } else {
-        Ok(false)
+        Ok(())
     }
 }
 
-/// Finds the fault of a certificate.
-pub(crate) fn certificate_fault(
-    node: &TapeNode<'_, '_>,
-    trail: &mut Trail,
-) -> Result<bool, AllocError> {
+/// Checks a certificate.
+pub(crate) fn check_certificate(node: &TapeNode<'_, '_>, trail: &mut Trail) -> Result<(), Halt> {
     let mut room = MAX_NODES + 1;
-    if rule_fault(node, MAX_DEPTH, &mut room, trail)? {
-        return Ok(true);
-    }
+    check_rule(node, MAX_DEPTH, &mut room, trail)?;
     if room == 0 {
-        return trail.expect("a certificate of at most 100,000 rules");
+        return Err(Halt::Expected("a certificate of at most 100,000 rules"));
     }
-    Ok(false)
+    Ok(())
 }

@@ -1,8 +1,7 @@
-//! The place of an expression's fault.
+//! The place of an expression's fault: each check ends at the first one, to which the trail leads.
 
-use crate::trail::Trail;
+use crate::trail::{Halt, Trail};
 use quorum_expr::{Lists, MemberSet, Node, TapeItems, TapeNode, count_items};
-use std::alloc::AllocError;
 
 /// The most levels of an expression.
 const LEVELS: u8 = 6;
@@ -20,6 +19,9 @@ const CHILDREN: &str = "a list of expressions or one of \"all\", \"full\", \"tai
 const WEIGHTS: &str = "an array with a weight from 1 to 255 for each child";
 
 const TOO_DEEP: &str = "an expression of at most six levels";
+
+const THRESHOLD: &str =
+    "a threshold from 1 to the number of children, or to the sum of their weights";
 
 /// Returns what an expression has to be.
 fn shape(lists: &Lists) -> &'static str {
@@ -68,138 +70,129 @@ fn sum_of(weights: &TapeNode<'_, '_>, count: usize) -> Option<u64> {
     }
 }
 
-/// Finds the fault of a member's number.
-fn member_fault(
-    node: &TapeNode<'_, '_>,
-    lists: &Lists,
-    trail: &mut Trail,
-) -> Result<bool, AllocError> {
+/// Checks a member's number.
+fn check_member(node: &TapeNode<'_, '_>, lists: &Lists) -> Result<(), Halt> {
     match node.as_u64() {
-        Some(number) if number < 64 && lists.members.contains(number as u8) => Ok(false),
-        _ => trail.expect("the number of a member of the configuration"),
+        Some(number) if number < 64 && lists.members.contains(number as u8) => Ok(()),
+        _ => Err(Halt::Expected("the number of a member of the configuration")),
     }
 }
 
-/// Finds the fault of a threshold beside its children.
-fn threshold_fault(
-    node: &TapeNode<'_, '_>,
+/// Returns the threshold of an object and its children.
+fn parts_of<'t, 'a>(
+    node: &TapeNode<'t, 'a>,
     lists: &Lists,
-    left: u8,
-    trail: &mut Trail,
-) -> Result<bool, AllocError> {
+) -> Result<(TapeNode<'t, 'a>, TapeNode<'t, 'a>), Halt> {
     let is_keyed = match node.keys(4) {
         Some(2) => true,
         Some(3) => lists.is_weighted && node.get("weights").is_some(),
         _ => false,
     };
-    let (Some(k), Some(of)) = (node.get("k"), node.get("of")) else {
-        return trail.expect(shape(lists));
-    };
-    if !is_keyed {
-        return trail.expect(shape(lists));
+    match (node.get("k"), node.get("of")) {
+        (Some(k), Some(of)) if is_keyed => Ok((k, of)),
+        _ => Err(Halt::Expected(shape(lists))),
     }
+}
+
+/// Checks a threshold of at most `left` levels without its children. Returns them.
+fn check_threshold<'t, 'a>(
+    node: &TapeNode<'t, 'a>,
+    lists: &Lists,
+    left: u8,
+    trail: &mut Trail,
+) -> Result<TapeNode<'t, 'a>, Halt> {
+    let (k, of) = parts_of(node, lists)?;
     let Some(k) = k.as_u64() else {
-        return trail.expect_at("k", "a whole number");
+        return Err(trail.expect_at("k", "a whole number"));
     };
     if of.items().is_none() && named(&of, lists).is_none() {
-        return trail.expect_at("of", CHILDREN);
+        return Err(trail.expect_at("of", CHILDREN));
     }
     let count = child_count(&of, lists);
     if count > 64 {
-        return trail.expect_at("of", "at most 64 children");
+        return Err(trail.expect_at("of", "at most 64 children"));
     }
     let sum = match node.get("weights") {
         None => count as u64,
         Some(weights) => match sum_of(&weights, count) {
             Some(sum) => sum,
-            None => return trail.expect_at("weights", WEIGHTS),
+            None => return Err(trail.expect_at("weights", WEIGHTS)),
         },
     };
     if left == 0 {
-        return trail.expect(TOO_DEEP);
+        return Err(Halt::Expected(TOO_DEEP));
     }
     if k < 1 || k > sum {
-        return trail.expect_at(
-            "k",
-            "a threshold from 1 to the number of children, or to the sum of their weights",
-        );
+        return Err(trail.expect_at("k", THRESHOLD));
     }
-    Ok(false)
+    Ok(of)
 }
 
-/// Finds the fault of an expression of at most `left` levels. Subtracts its nodes from `room`, down to 0.
+/// Checks an expression of at most `left` levels. Subtracts its nodes from `room`, down to 0.
 #[cycle(tree)]
-fn tree_fault(
+fn check_tree(
     node: &TapeNode<'_, '_>,
     lists: &Lists,
     left: u8,
     room: &mut u32,
     trail: &mut Trail,
-) -> Result<bool, AllocError> {
+) -> Result<(), Halt> {
     *room = room.saturating_sub(1);
     if node.is_number() {
         if left == 0 {
-            return trail.expect(TOO_DEEP);
+            return Err(Halt::Expected(TOO_DEEP));
         }
-        return member_fault(node, lists, trail);
+        return check_member(node, lists);
     }
-    if threshold_fault(node, lists, left, trail)? {
-        return Ok(true);
-    }
+    let of = check_threshold(node, lists, left, trail)?;
     if left == 0 {
-        return trail.expect(TOO_DEEP);
+        return Err(Halt::Expected(TOO_DEEP));
     }
-    let Some(of) = node.get("of") else {
-        return trail.expect(shape(lists));
-    };
+    trail.enter("of")?;
     match of.items() {
-        Some(mut rest) => children_fault(&mut rest, lists, left - 1, room, trail),
+        Some(mut rest) => check_children(&mut rest, lists, left - 1, room, trail)?,
         None => {
             let members = u32::try_from(child_count(&of, lists)).unwrap_or(u32::MAX);
             *room = room.saturating_sub(members);
             if left == 1 {
-                trail.expect_at("of", TOO_DEEP)
-            } else {
-                Ok(false)
+                return Err(Halt::Expected(TOO_DEEP));
             }
         }
     }
+    trail.leave();
+    Ok(())
 }
 
-/// Finds the fault of a threshold's children, of at most `left` levels each.
+/// Checks a threshold's children, of at most `left` levels each.
 #[cycle(tree)]
-fn children_fault(
+fn check_children(
     rest: &mut TapeItems<'_, '_>,
     lists: &Lists,
     left: u8,
     room: &mut u32,
     trail: &mut Trail,
-) -> Result<bool, AllocError> {
+) -> Result<(), Halt> {
     for item in 0..64usize {
         let Some(child) = TapeNode::next(rest) else {
-            return Ok(false);
+            return Ok(());
         };
-        trail.enter_item("of", item)?;
-        if tree_fault(&child, lists, left, room, trail)? {
-            return Ok(true);
-        }
-        trail.leave_item();
+        trail.enter_item(item)?;
+        check_tree(&child, lists, left, room, trail)?;
+        trail.leave();
     }
-    Ok(false)
+    Ok(())
 }
 
-/// Finds the fault of an expression over the members of these lists.
-pub(crate) fn expression_fault(
+/// Checks an expression over the members of these lists.
+pub(crate) fn check_expression(
     node: &TapeNode<'_, '_>,
     lists: &Lists,
     trail: &mut Trail,
-) -> Result<bool, AllocError> {
+) -> Result<(), Halt> {
     let mut room = NODES;
-    if tree_fault(node, lists, LEVELS, &mut room, trail)? {
-        return Ok(true);
-    }
+    check_tree(node, lists, LEVELS, &mut room, trail)?;
     if room == 0 {
-        return trail.expect("at most 4,096 members and thresholds");
+        return Err(Halt::Expected("at most 4,096 members and thresholds"));
     }
-    Ok(false)
+    Ok(())
 }

@@ -1,12 +1,11 @@
-//! The place of a plan's fault.
+//! The place of a plan's fault: each check ends at the first one, to which the trail leads.
 
-use crate::certificate_place::certificate_fault;
-use crate::expression_place::expression_fault;
-use crate::trail::{Step, Trail};
+use crate::certificate_place::check_certificate;
+use crate::expression_place::check_expression;
+use crate::trail::{Halt, Trail};
 use plan::Format;
 use quorum_expr::{Lists, MemberSet, Node, TapeNode, count_items};
 use refutation::has_keys;
-use std::alloc::AllocError;
 
 const PLAN: &str = "an object with the keys \"format\", \"groups\" and \"lal\", and no others";
 
@@ -14,6 +13,8 @@ const GROWING_PLAN: &str =
     "an object with the keys \"born\", \"format\", \"groups\" and \"lal\", and no others";
 
 const GROUP: &str = "an object with the one key \"configurations\"";
+
+const GROUPS: &str = "an array of 1 to 16 groups";
 
 const CONFIGURATIONS: &str = "an array of 1 to 64 configurations";
 
@@ -43,17 +44,16 @@ fn is_from_one(node: &TapeNode<'_, '_>, most: u64) -> bool {
     }
 }
 
-/// Reads members in growing order. Returns `None` if the fault is found.
-fn members_of(node: &TapeNode<'_, '_>, trail: &mut Trail) -> Result<Option<MemberSet>, AllocError> {
+/// Reads members in growing order.
+fn members_of(node: &TapeNode<'_, '_>, trail: &mut Trail) -> Result<MemberSet, Halt> {
     let mut set = MemberSet::empty();
     let Some(mut rest) = node.items() else {
-        trail.expected = "an array of members";
-        return Ok(None);
+        return Err(Halt::Expected("an array of members"));
     };
     let mut least = 0u64;
     for item in 0..=64usize {
         let Some(member) = TapeNode::next(&mut rest) else {
-            return Ok(Some(set));
+            return Ok(set);
         };
         match member.as_u64() {
             Some(number) if least <= number && number < 64 => {
@@ -61,48 +61,42 @@ fn members_of(node: &TapeNode<'_, '_>, trail: &mut Trail) -> Result<Option<Membe
                 least = number + 1;
             }
             _ => {
-                trail.steps.push(Step::Item(item))?;
-                trail.expected = MEMBER;
-                return Ok(None);
+                trail.enter_item(item)?;
+                return Err(Halt::Expected(MEMBER));
             }
         }
     }
-    Ok(Some(set))
+    Ok(set)
 }
 
-/// Reads the members of a configuration and the full ones. Returns `None` if the fault is found.
-fn lists_of(
-    node: &TapeNode<'_, '_>,
-    is_weighted: bool,
-    trail: &mut Trail,
-) -> Result<Option<Lists>, AllocError> {
+/// Reads the members of a configuration and the full ones.
+fn lists_of(node: &TapeNode<'_, '_>, is_weighted: bool, trail: &mut Trail) -> Result<Lists, Halt> {
     let (Some(members), Some(full)) = (node.get("members"), node.get("full")) else {
-        trail.expected = CONFIGURATION;
-        return Ok(None);
+        return Err(Halt::Expected(CONFIGURATION));
     };
     trail.enter("members")?;
     if count_items(&members, 1) < 1 {
-        trail.expected = MEMBERS;
-        return Ok(None);
+        return Err(Halt::Expected(MEMBERS));
     }
-    let Some(members) = members_of(&members, trail)? else {
-        return Ok(None);
+    let members = match members_of(&members, trail) {
+        Ok(members) => members,
+        Err(halt) => return Err(halt),
     };
     trail.leave();
     trail.enter("full")?;
-    let Some(full) = members_of(&full, trail)? else {
-        return Ok(None);
+    let full = match members_of(&full, trail) {
+        Ok(full) => full,
+        Err(halt) => return Err(halt),
     };
     if !full.is_subset(members) {
-        trail.expected = "members of the configuration alone";
-        return Ok(None);
+        return Err(Halt::Expected("members of the configuration alone"));
     }
     trail.leave();
-    Ok(Some(Lists {
+    Ok(Lists {
         members,
         full,
         is_weighted,
-    }))
+    })
 }
 
 /// Returns whether an object has the seven keys of a configuration.
@@ -120,157 +114,142 @@ fn has_fields(node: &TapeNode<'_, '_>) -> bool {
     true
 }
 
-/// Finds the fault of the expression at a key.
-fn quorum_fault(
+/// Checks the expression at a key.
+fn check_quorum(
     node: &TapeNode<'_, '_>,
     key: &'static str,
     lists: &Lists,
     trail: &mut Trail,
-) -> Result<bool, AllocError> {
+) -> Result<(), Halt> {
     let Some(expression) = node.get(key) else {
-        return trail.expect(CONFIGURATION);
+        return Err(Halt::Expected(CONFIGURATION));
     };
     trail.enter(key)?;
-    if expression_fault(&expression, lists, trail)? {
-        return Ok(true);
-    }
+    check_expression(&expression, lists, trail)?;
     trail.leave();
-    Ok(false)
+    Ok(())
 }
 
-/// Finds the fault of the certificate at a key, or null.
-fn claim_fault(
+/// Checks the certificate at a key, or null.
+fn check_claim(
     node: &TapeNode<'_, '_>,
     key: &'static str,
     is_null: bool,
     trail: &mut Trail,
-) -> Result<bool, AllocError> {
+) -> Result<(), Halt> {
     let Some(certificate) = node.get(key) else {
-        return trail.expect(CONFIGURATION);
+        return Err(Halt::Expected(CONFIGURATION));
     };
     if certificate.is_null() {
-        return Ok(false);
+        return Ok(());
     }
     trail.enter(key)?;
     if is_null {
-        return trail.expect("null, since configuration 0 has no parent");
+        return Err(Halt::Expected("null, since configuration 0 has no parent"));
     }
-    if certificate_fault(&certificate, trail)? {
-        return Ok(true);
-    }
+    check_certificate(&certificate, trail)?;
     trail.leave();
-    Ok(false)
+    Ok(())
 }
 
-/// Finds the fault of a configuration.
-fn configuration_fault(
+/// Checks a configuration.
+fn check_configuration(
     node: &TapeNode<'_, '_>,
     number: usize,
     is_weighted: bool,
     trail: &mut Trail,
-) -> Result<bool, AllocError> {
+) -> Result<(), Halt> {
     if !has_fields(node) {
-        return trail.expect(CONFIGURATION);
+        return Err(Halt::Expected(CONFIGURATION));
     }
     let is_parent = match node.get("parent") {
         Some(parent) => parent.is_null() || parent.as_u64().is_some(),
         None => false,
     };
     if !is_parent {
-        return trail.expect_at("parent", "null, or the number of an earlier configuration");
+        return Err(trail.expect_at("parent", "null, or the number of an earlier configuration"));
     }
-    let Some(lists) = lists_of(node, is_weighted, trail)? else {
-        return Ok(true);
+    let lists = match lists_of(node, is_weighted, trail) {
+        Ok(lists) => lists,
+        Err(halt) => return Err(halt),
     };
-    if quorum_fault(node, "read", &lists, trail)? || quorum_fault(node, "write", &lists, trail)? {
-        return Ok(true);
-    }
-    Ok(claim_fault(node, "meets", false, trail)? || claim_fault(node, "step", number == 0, trail)?)
+    check_quorum(node, "read", &lists, trail)?;
+    check_quorum(node, "write", &lists, trail)?;
+    check_claim(node, "meets", false, trail)?;
+    check_claim(node, "step", number == 0, trail)
 }
 
-/// Finds the fault of a group.
-fn group_fault(
-    node: &TapeNode<'_, '_>,
-    is_weighted: bool,
-    trail: &mut Trail,
-) -> Result<bool, AllocError> {
+/// Checks a group.
+fn check_group(node: &TapeNode<'_, '_>, is_weighted: bool, trail: &mut Trail) -> Result<(), Halt> {
     let Some(list) = node.get("configurations") else {
-        return trail.expect(GROUP);
+        return Err(Halt::Expected(GROUP));
     };
     if has_keys(node, 1).is_err() {
-        return trail.expect(GROUP);
+        return Err(Halt::Expected(GROUP));
     }
+    trail.enter("configurations")?;
     let count = count_items(&list, 65);
     let Some(mut rest) = list.items() else {
-        return trail.expect_at("configurations", CONFIGURATIONS);
+        return Err(Halt::Expected(CONFIGURATIONS));
     };
     if count < 1 || count > 64 {
-        return trail.expect_at("configurations", CONFIGURATIONS);
+        return Err(Halt::Expected(CONFIGURATIONS));
     }
     for number in 0..count {
         let Some(configuration) = TapeNode::next(&mut rest) else {
-            return Ok(false);
+            break;
         };
-        trail.enter_item("configurations", number)?;
-        if configuration_fault(&configuration, number, is_weighted, trail)? {
-            return Ok(true);
-        }
-        trail.leave_item();
+        trail.enter_item(number)?;
+        check_configuration(&configuration, number, is_weighted, trail)?;
+        trail.leave();
     }
-    Ok(false)
+    trail.leave();
+    Ok(())
 }
 
-/// Finds the fault of the number of groups at birth.
-fn born_fault(
-    node: &TapeNode<'_, '_>,
-    groups: usize,
-    trail: &mut Trail,
-) -> Result<bool, AllocError> {
+/// Checks the number of groups at birth.
+fn check_born(node: &TapeNode<'_, '_>, groups: usize, trail: &mut Trail) -> Result<(), Halt> {
     match node.get("born") {
-        Some(born) if is_from_one(&born, groups as u64) => Ok(false),
-        _ => trail.expect_at("born", "a whole number from 1 to the number of groups"),
+        Some(born) if is_from_one(&born, groups as u64) => Ok(()),
+        _ => Err(trail.expect_at("born", "a whole number from 1 to the number of groups")),
     }
 }
 
-/// Finds the fault of the groups of a plan.
-fn groups_fault(
-    node: &TapeNode<'_, '_>,
-    format: Format,
-    trail: &mut Trail,
-) -> Result<bool, AllocError> {
+/// Checks the groups of a plan.
+fn check_groups(node: &TapeNode<'_, '_>, format: Format, trail: &mut Trail) -> Result<(), Halt> {
     let Some(list) = node.get("groups") else {
-        return trail.expect(PLAN);
+        return Err(Halt::Expected(PLAN));
     };
     let count = count_items(&list, 17);
     let Some(mut rest) = list.items() else {
-        return trail.expect_at("groups", "an array of 1 to 16 groups");
+        return Err(trail.expect_at("groups", GROUPS));
     };
     if count < 1 || count > 16 {
-        return trail.expect_at("groups", "an array of 1 to 16 groups");
+        return Err(trail.expect_at("groups", GROUPS));
     }
-    if format == Format::Growing && born_fault(node, count, trail)? {
-        return Ok(true);
+    if format == Format::Growing {
+        check_born(node, count, trail)?;
     }
+    trail.enter("groups")?;
     for number in 0..count {
         let Some(group) = TapeNode::next(&mut rest) else {
-            return Ok(false);
+            break;
         };
-        trail.enter_item("groups", number)?;
-        if group_fault(&group, format.is_weighted(), trail)? {
-            return Ok(true);
-        }
-        trail.leave_item();
+        trail.enter_item(number)?;
+        check_group(&group, format.is_weighted(), trail)?;
+        trail.leave();
     }
-    Ok(false)
+    trail.leave();
+    Ok(())
 }
 
-/// Finds the first fault of a plan in the order in which it is read.
-pub(crate) fn plan_fault(node: &TapeNode<'_, '_>, trail: &mut Trail) -> Result<bool, AllocError> {
+/// Checks a plan in the order in which it is read.
+pub(crate) fn check_plan(node: &TapeNode<'_, '_>, trail: &mut Trail) -> Result<(), Halt> {
     let Some(format) = node.get("format") else {
-        return trail.expect(PLAN);
+        return Err(Halt::Expected(PLAN));
     };
     let Some(format) = format_of(&format) else {
-        return trail.expect_at("format", "1, 2 or 3");
+        return Err(trail.expect_at("format", "1, 2 or 3"));
     };
     let (keys, shape) = match format {
         Format::Plain | Format::Weighted => (3usize, PLAN),
@@ -278,13 +257,13 @@ pub(crate) fn plan_fault(node: &TapeNode<'_, '_>, trail: &mut Trail) -> Result<b
     };
     let has_born = format != Format::Growing || node.get("born").is_some();
     if has_keys(node, keys).is_err() || !has_born || node.get("groups").is_none() {
-        return trail.expect(shape);
+        return Err(Halt::Expected(shape));
     }
     let Some(lal) = node.get("lal") else {
-        return trail.expect(shape);
+        return Err(Halt::Expected(shape));
     };
     if !is_from_one(&lal, 10_000_000) {
-        return trail.expect_at("lal", "a whole number from 1 to 10,000,000");
+        return Err(trail.expect_at("lal", "a whole number from 1 to 10,000,000"));
     }
-    groups_fault(node, format, trail)
+    check_groups(node, format, trail)
 }

@@ -1,8 +1,8 @@
 //! The place of a fault in a plan's text.
 
 use crate::json_walk::{LEVELS, walk_over};
-use crate::plan_place::plan_fault;
-use crate::trail::{Step, Trail, add_path};
+use crate::plan_place::check_plan;
+use crate::trail::{Halt, Step, Trail, add_path};
 use json::{Reader, Scratch, Tape};
 use plan::PLAN_BYTES;
 use quorum_expr::tape_root;
@@ -148,14 +148,15 @@ fn value_place(
     };
     let mut trail = Trail {
         steps: Vec::new(alloc),
-        expected: "",
     };
-    if !plan_fault(&root, &mut trail)? {
-        return Ok(None);
-    }
+    let expected = match check_plan(&root, &mut trail) {
+        Ok(()) => return Ok(None),
+        Err(Halt::Expected(expected)) => expected,
+        Err(Halt::NoMemory) => return Err(AllocError),
+    };
     let mut scratch = Scratch::new(alloc);
     let offset = offset_of(text, &trail.steps, &mut scratch)?;
-    let mut place = place_at(alloc, text.as_bytes(), offset, trail.expected);
+    let mut place = place_at(alloc, text.as_bytes(), offset, expected);
     add_path(&mut place.path, &trail.steps)?;
     Ok(Some(place))
 }

@@ -10,24 +10,33 @@ pub enum Step {
     Item(usize),
 }
 
-/// A path under construction, and what is expected at its end.
+/// Why the search for a fault ends.
+#[derive(Clone, Copy)]
+pub(crate) enum Halt {
+    /// The fault is at the end of the trail, where this is expected.
+    Expected(&'static str),
+    NoMemory,
+}
+
+impl From<AllocError> for Halt {
+    fn from(_e: AllocError) -> Halt {
+        Halt::NoMemory
+    }
+}
+
+/// The path to the value that is being searched.
 #[derive(Drop)]
 pub(crate) struct Trail {
     pub steps: Vec<Step>,
-    pub expected: &'static str,
 }
 
 impl Trail {
-    /// Says what is expected here. Returns that the fault is found.
-    pub fn expect(&mut self, what: &'static str) -> Result<bool, AllocError> {
-        self.expected = what;
-        Ok(true)
-    }
-
-    /// Says what is expected at a key of the object here. Returns that the fault is found.
-    pub fn expect_at(&mut self, key: &'static str, what: &'static str) -> Result<bool, AllocError> {
-        self.steps.push(Step::Key(key))?;
-        self.expect(what)
+    /// Goes to the value at a key, where the fault is. Returns what is expected there.
+    pub fn expect_at(&mut self, key: &'static str, what: &'static str) -> Halt {
+        match self.enter(key) {
+            Ok(()) => Halt::Expected(what),
+            Err(_) => Halt::NoMemory,
+        }
     }
 
     /// Goes to the value at a key.
@@ -36,9 +45,8 @@ impl Trail {
         Ok(())
     }
 
-    /// Goes to an item of the array at a key.
-    pub fn enter_item(&mut self, key: &'static str, item: usize) -> Result<(), AllocError> {
-        self.steps.push(Step::Key(key))?;
+    /// Goes to an item of the array here.
+    pub fn enter_item(&mut self, item: usize) -> Result<(), AllocError> {
         self.steps.push(Step::Item(item))?;
         Ok(())
     }
@@ -46,12 +54,6 @@ impl Trail {
     /// Goes back by one step.
     pub fn leave(&mut self) {
         let _ = self.steps.pop();
-    }
-
-    /// Goes back from an item of the array at a key.
-    pub fn leave_item(&mut self) {
-        self.leave();
-        self.leave();
     }
 }
 
