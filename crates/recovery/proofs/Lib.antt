@@ -6,7 +6,6 @@ pub mod Views
 pub mod Firsts
 pub mod Ends
 pub mod Leaves
-pub mod Refusals
 pub mod Bounds
 pub mod Sought
 pub mod Sharing
