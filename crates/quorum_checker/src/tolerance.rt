@@ -98,8 +98,13 @@ fn smallest<A: Allocator>(
     smallest(expr, members, others, gone, found, steps)
 }
 
-/// Returns a smallest set of members whose loss stops an expression, found by a walk over at most `budget` sets.
-fn walked_set<A: Allocator>(
+/// Returns a smallest set of members whose loss stops an expression: each loss of fewer members leaves it satisfied.
+/// Returns nothing if more than `budget` sets would have to be tried, which 20 members never need with 2,097,151. None
+/// is tried for a threshold over different members that weigh one each.
+///
+/// # Errors
+/// [`NoMemory`](Fault::NoMemory).
+pub fn stopping_set<A: Allocator>(
     alloc: Global,
     expr: &Expr<A>,
     members: MemberSet,
@@ -110,6 +115,9 @@ fn walked_set<A: Allocator>(
         → IfOk result (λ found. IsSome found) }
     ensures memory { IfErr result (λ e. e ≡ NoMemory) }
 {
+    if let Some(lost) = plain_loss(expr, members) {
+        return Ok(Some(lost));
+    }
     // Called for its contract: each member is below 64.
     let _ = members.contains(0);
     if holds(expr, MemberSet::empty()) {
@@ -128,29 +136,6 @@ fn walked_set<A: Allocator>(
     match smallest(expr, members, list.as_slice(), &none, all, &mut steps) {
         Some(loss) => Ok(Some(loss.gone)),
         None => Ok(None),
-    }
-}
-
-/// Returns a smallest set of members whose loss stops an expression: each loss of fewer members leaves it satisfied.
-/// Returns nothing if more than `budget` sets would have to be tried, which 20 members never need with 2,097,151. None
-/// is tried for a threshold over different members that weigh one each.
-///
-/// # Errors
-/// [`NoMemory`](Fault::NoMemory).
-pub fn stopping_set<A: Allocator>(
-    alloc: Global,
-    expr: &Expr<A>,
-    members: MemberSet,
-    budget: u64,
-) -> Result<Option<MemberSet>, Fault>
-    ensures least { IfOk result (λ found. IfSome found (IsLeastLoss (formula_of expr.now) members)) }
-    ensures known { expression_fault (formula_of expr.now) ≡ None → evaluations (count_of members) ≤ budget
-        → IfOk result (λ found. IsSome found) }
-    ensures memory { IfErr result (λ e. e ≡ NoMemory) }
-{
-    match plain_loss(expr, members) {
-        Some(lost) => Ok(Some(lost)),
-        None => walked_set(alloc, expr, members, budget),
     }
 }
 

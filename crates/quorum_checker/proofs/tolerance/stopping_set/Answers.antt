@@ -6,7 +6,7 @@ use Rattle.quorum_expr.proofs.ValidLaws.{counts, well_shaped}
 use Rattle.quorum_checker.specs.Cases.{AreSmall}
 use Rattle.quorum_checker.specs.Tolerance.{all_of, count_of, evaluations}
 use Rattle.quorum_checker.proofs.Losses.{nobody, none_satisfies, all_small, all_count, count_few, count_empty, all_lost, least_of}
-use Rattle.quorum_checker.proofs.tolerance.walked_set.Goals as goal
+use Rattle.quorum_checker.proofs.tolerance.stopping_set.Goals as goal
 
 pub returns-then-holds-clause-known : goal.returns-then-holds-clause-known
 returns-then-holds-clause-known g c = λ valid enough.
@@ -33,10 +33,10 @@ smallest-requires-clause-best g c =
     let none : sat (formula_of c.args.expr.now) (contains nobody) ≡ false = sym (ap (λ s. sat (formula_of c.args.expr.now) (contains s)) c.empty.ensures) ∙ sym c.holds.ensures ∙ bad in
     all_lost (formula_of c.args.expr.now) c.args.members c.count.result none c.count.ensures
 
-pub returns-in-Some-clause-least : goal.returns-in-Some-clause-least
-returns-in-Some-clause-least g c =
+pub returns-in-Some-smallest-clause-least : goal.returns-in-Some-smallest-clause-least
+returns-in-Some-smallest-clause-least g c =
     let are : c.as_slice.result.now ≡ all_of c.args.members = c.as_slice.ensures.value ∙ c.in_ok-list.ensures.listed in
-    least_of (formula_of c.args.expr.now) c.args.members c.empty-2.result c.in-Some.loss.gone c.as_slice.result.now 0 c.count.result c.in-Some.loss.size c.contains.ensures.below c.empty-2.ensures are refl c.in-Some.ensures.loss c.in-Some.ensures.least
+    least_of (formula_of c.args.expr.now) c.args.members c.empty-2.result c.in-Some-smallest.loss.gone c.as_slice.result.now 0 c.count.result c.in-Some-smallest.loss.size c.contains.ensures.below c.empty-2.ensures are refl c.in-Some-smallest.ensures.loss c.in-Some-smallest.ensures.least
 
 pub returns-clause-known : goal.returns-clause-known
 returns-clause-known g c = λ valid enough.
