@@ -1,16 +1,16 @@
 -- In every run a node that has a place and isn't whole has asked for copies, and each member of a group's root is whole.
-use Rattle.std.proofs.Common.{◌≡◌, ℕ, ◌≤◌, Bool, true, false, not, ◌&&◌, ◌==◌, nat_lt, nat_le, ◌⊎◌, if◌then◌else◌, List, [], ◌∷◌, ◌++◌, Option, Some, None, Result, Ok, Err, refl, sym, ap, ◌∙◌, subst, inl, inr, arith}
+use Rattle.std.proofs.Common.{◌≡◌, ℕ, ◌≤◌, Bool, true, false, not, ◌&&◌, ◌==◌, nat_lt, nat_le, ◌⊎◌, if◌then◌else◌, List, [], ◌∷◌, Option, Some, None, Result, Ok, Err, refl, sym, ap, ◌∙◌, subst, inl, inr, arith}
 use Rattle.std.proofs.lemmas.Bool.{both_ways, not-false, true≢false}
 use Rattle.volume_model.specs.Lists.{IsIn, added, numbered}
 use Rattle.volume_model.specs.Pieces.{is_bad_piece, pieces_from}
 use Rattle.volume_model.specs.Plan.{Plan, IsCertified, has_member, is_configuration, is_named}
 use Rattle.volume_model.specs.Message.{Label, Message}
-use Rattle.volume_model.specs.Message.Message.{View, StepTo, Fence, Report, Install, Write, Gossip, Ack, CopyAsk, CopyReport, PageAsk, Page}
+use Rattle.volume_model.specs.Message.Message.{StepTo, Fence, Install, Write, Gossip, CopyAsk, CopyReport, PageAsk}
 use Rattle.volume_model.specs.Refusal.{refuse_if}
 use Rattle.volume_model.specs.Node.{Node, NodeStep, NodeAnswer, born_node, in_group, label_checks, reaction, restarted}
 use Rattle.volume_model.specs.Client.{ClientAnswer}
 use Rattle.volume_model.specs.World.{AuthorityStep, World, Event, after, after_step, deliver, groups_joined, if_there, of_authority, of_client, of_node, opening, run}
-use Rattle.volume_model.specs.World.Event.{Assign, Advance, Refresh, Grow, Issue, Take, Cut, Open, Resend, Read, Deliver, Hydrate, Restart, Offer}
+use Rattle.volume_model.specs.World.Event.{Issue, Take, Cut, Open, Resend, Read, Deliver, Hydrate, Restart, Offer}
 use Rattle.volume_model.proofs.Basics.{put_at-all}
 use Rattle.volume_model.proofs.Invariant.{IsMade}
 use Rattle.volume_model.proofs.NodeSteps.{hydrated-ok, refuse_if-ok}
@@ -19,7 +19,7 @@ use Rattle.volume_model.proofs.Run.{event_kept, opening_kept}
 use Rattle.volume_model.specs.declared.fault.Fault.{Fault}
 use Rattle.volume_model.specs.declared.fault.Fault.TheVariants.{NoActor, AheadMember, AlreadyWhole, BadPiece, NotAddressed, NotInPlan, NotWhole, StaleMember}
 use Rattle.world.proofs.Lost.{Ok-node, nodes_on}
-use Rattle.world.proofs.Readable.{IsIn-kept, IsIn-new, Reaches, run_append}
+use Rattle.world.proofs.Readable.{IsIn-kept, IsIn-new}
 use Rattle.world.proofs.Waiting.{deliver_whole, offer_whole}
 
 -- each node that has a place and isn't whole has asked for copies at its membership epoch
@@ -71,10 +71,7 @@ module _ (plan : Plan) (group x : ℕ) (node : Node) (un : node.whole ≡ false)
       let (f, h5) = refuse_if-ok (is_bad_piece (pieces_from node.copies sender) s piece c) BadPiece _ step h4 in
       subst Asks (Ok-node _ step h5) (inl refl)
   reaction_asks (PageAsk to l block point) step h = unpassed l _ step (refuse_if-ok (not (to == group)) NotAddressed _ step h).1
-  reaction_asks (View v places) step h = cc
-  reaction_asks (Report to l from c) step h = cc
-  reaction_asks (Ack to l from s) step h = cc
-  reaction_asks (Page to l from block point bytes) step h = cc
+  reaction_asks m step h = cc
 
   -- a message that was looked up
   pub deliver_asks : (found : Option Message) (step : NodeStep) → deliver plan group x node found ≡ Ok step → Asks step
@@ -118,10 +115,6 @@ module _ (plan : Plan) (certified : IsCertified plan) (world : World) (known : I
 
   -- each event keeps that who isn't whole has asked
   pub asked_on : HasAsked world → (event : Event) → HasAsked (after plan world event)
-  asked_on old Assign = by_authority _ old
-  asked_on old (Advance group c) = by_authority _ old
-  asked_on old (Refresh volume) = by_authority _ old
-  asked_on old Grow = by_authority _ old
   asked_on old (Issue v changes) = by_client v _ old
   asked_on old (Take v number) = by_client v _ old
   asked_on old (Cut v) = by_client v _ old
@@ -140,6 +133,7 @@ module _ (plan : Plan) (certified : IsCertified plan) (world : World) (known : I
   asked_on old (Offer group x lsn) = by_node group x _ (λ step h un. (
       let before : (world.nodes group x).whole ≡ false = sym (offer_whole plan group x (world.nodes group x) lsn step h) ∙ un in
       absurd (both_ways (world.nodes group x).whole before (not-false _ (refuse_if-ok (not (world.nodes group x).whole) NotWhole _ step h).0)))) old
+  asked_on old m = by_authority _ old
 
   -- each event keeps that the members of the root are whole
   pub roots_on : HasWholeRoots plan world → (event : Event) → HasWholeRoots plan (after plan world event)
@@ -178,8 +172,3 @@ module _ (plan : Plan) (certified : IsCertified plan) where
   -- in every run each member of a group's root is whole
   pub roots_known : (events : List Event) → HasWholeRoots plan (run plan (opening plan) events)
   roots_known events = (run_asked events (opening plan) (opening_kept plan certified) born_asked born_roots).1
-
-  -- so it is in each world that events lead to from there
-  pub reached_known : (events : List Event) (u : World) → Reaches plan (run plan (opening plan) events) u → HasAsked u × HasWholeRoots plan u
-  reached_known events u (more, is) =
-      subst (λ w. HasAsked w × HasWholeRoots plan w) (run_append plan (opening plan) events more ∙ is) (asked_known (events ++ more), roots_known (events ++ more))

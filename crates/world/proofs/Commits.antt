@@ -1,8 +1,8 @@
 -- From members that hold what the recovery found to a commit of its own.
-use Rattle.std.proofs.Common.{◌≡◌, ℕ, zero, suc, ◌+◌, ◌<◌, ◌≤◌, ◌^◌, max, Bool, true, false, not, ◌&&◌, ◌||◌, ◌==◌, nat_lt, nat_le, if◌then◌else◌, ◌⊎◌, List, [], ◌∷◌, Option, Some, None, Result, Ok, Err, length, refl, sym, ap, ◌∙◌, subst, inl, inr, arith}
+use Rattle.std.proofs.Common.{◌≡◌, ℕ, zero, suc, ◌+◌, ◌<◌, ◌≤◌, ◌^◌, max, true, false, not, ◌&&◌, ◌==◌, nat_lt, nat_le, List, [], ◌∷◌, Ok, length, refl, sym, ap, ◌∙◌, subst, inl, inr, arith}
 use Rattle.std.specs.Prelude.{slice_index_or, slice_set}
-use Rattle.std.proofs.lemmas.Bool.{cases_Bool, cases_lt, and_parts, and_from, and_right, or_left, or_right, true≢false, eqb-true, eq-eqb, lt-ltb, le-ltb, le-leb, lt-leb}
-use Rattle.volume_model.specs.Lists.{IsIn, added, put, put_at, every_below}
+use Rattle.std.proofs.lemmas.Bool.{cases_Bool, cases_lt, and_from, and_right, or_left, or_right, true≢false, eq-eqb, lt-ltb, le-ltb, le-leb, lt-leb}
+use Rattle.volume_model.specs.Lists.{IsIn, added, put, put_at}
 use Rattle.volume_model.specs.Claims.{KeepsClaim, KeepsClaims}
 use Rattle.volume_model.specs.Formula.{Members, sat}
 use Rattle.volume_model.specs.Redo.{Redo, holds_record, is_same, same_numbers, spelling, of_group, last_lsn, last_of_group, scl, up_to, with_record}
@@ -11,20 +11,20 @@ use Rattle.volume_model.specs.Plan.{Plan, IsCertified, has_member, is_named}
 use Rattle.volume_model.specs.Message.{Place, Message}
 use Rattle.volume_model.specs.Message.Message.{Write, Ack}
 use Rattle.volume_model.specs.Node.{Node, NodeAnswer, NodeStep, lineage_epoch, most_records, reaction}
-use Rattle.volume_model.specs.Client.{Client, ClientAnswer, ClientGroup, ClientStep, Stage, group_of, place_of, counts_of, group_point_of, has_cut, is_open, no_group, place_configuration, stays}
-use Rattle.volume_model.specs.Client.Stage.{Unborn, Reading, Installing, Writing}
+use Rattle.volume_model.specs.Client.{Client, ClientAnswer, ClientGroup, group_of, place_of, counts_of, group_point_of, has_cut, is_open, no_group, place_configuration, stays}
+use Rattle.volume_model.specs.Client.Stage.{Writing}
 use Rattle.volume_model.specs.ClientPoints.{complete_of, consistency_point_below, counted_by, durable_point, is_consistency_point, reaching, raised, raised_group, with_count}
 use Rattle.volume_model.specs.ClientMessages.{taken}
 use Rattle.volume_model.specs.Headline.{Acknowledges}
 use Rattle.volume_model.specs.ClientWriter.{Change, issued, record_of}
 use Rattle.volume_model.specs.ClientRecovery.{has_installed, opened, writing}
 use Rattle.volume_model.specs.Points.{IsRaised, NumbersGrow}
-use Rattle.volume_model.specs.World.{World, Event, after, after_step, configuration_of, groups_joined, of_client, run}
+use Rattle.volume_model.specs.World.{World, Event, after, after_step, groups_joined, of_client, run}
 use Rattle.volume_model.specs.World.Event.{Open, Issue, Deliver, Take}
 use Rattle.volume_model.proofs.Basics.{any_from, put_at-all}
 use Rattle.volume_model.proofs.Chains.{last_of_group-above}
 use Rattle.volume_model.proofs.ClientSteps.{put-same}
-use Rattle.volume_model.proofs.FormulaLaws.{sat-own, sat_more}
+use Rattle.volume_model.proofs.FormulaLaws.{sat-own}
 use Rattle.volume_model.proofs.Groups.{group_of-raised, length-raised, length-slice_set, raised-keeps, set-all}
 use Rattle.volume_model.proofs.Invariant.{HasCut, IsCopy, IsMade, found_of, label, lineage_of, log_of}
 use Rattle.volume_model.proofs.Kept.{IsWhole}

@@ -21,7 +21,7 @@ use Rattle.volume_model.proofs.Renewed.{IsKeptWorld}
 use Rattle.volume_model.proofs.Run.{event_kept}
 use Rattle.volume_model.specs.declared.fault.Fault.TheVariants.{AlreadyDone, LsnSpent, NoActor, NotReady}
 use Rattle.world.proofs.Installing.{IsInstalling, IsRecovering}
-use Rattle.world.proofs.Readable.{Reaches, HasPlace, HasStep, IsIn-kept, IsIn-new, IsReading, each_has}
+use Rattle.world.proofs.Readable.{HasPlace, HasStep, IsIn-kept, IsIn-new, IsReading, each_has}
 use Rattle.world.proofs.Started.{HasStarted, kept_from_cut}
 use Rattle.world.proofs.Volumes.{VolumesKnown}
 

@@ -1,7 +1,7 @@
 -- While a recovery installs its log, a member that isn't whole becomes whole from the copies of a read set that has the log.
 use Rattle.std.proofs.Common.{◌≡◌, ℕ, zero, suc, ◌+◌, ◌-◌, ◌<◌, ◌≤◌, true, false, ◌&&◌, ◌==◌, nat_lt, ◌⊎◌, if◌then◌else◌, List, [], ◌∷◌, Some, None, Option, Result, Ok, length, refl, sym, ap, ◌∙◌, subst, inl, inr, arith}
 use Rattle.std.specs.Prelude.{slice_index_or}
-use Rattle.std.proofs.lemmas.Bool.{cases_Bool, cases_lt, and_parts, and_from, both_ways, true≢false, eqb-true, eq-eqb, ne_eqb, ltb-true, lt-ltb, le-ltb, lt-leb}
+use Rattle.std.proofs.lemmas.Bool.{cases_Bool, cases_lt, and_from, both_ways, true≢false, eqb-true, eq-eqb, ne_eqb, lt-ltb, le-ltb, lt-leb}
 use Rattle.volume_model.specs.Lists.{IsIn, added, put_at}
 use Rattle.volume_model.specs.Answer.{◌>>=◌}
 use Rattle.volume_model.specs.Formula.{Members, sat}
@@ -65,10 +65,6 @@ CopiesElsewhere g u later = (h y : ℕ) → (h ≡ g → ⊥) → (later.nodes h
 
 copies_elsewhere_then : (g : ℕ) (a b c : World) → CopiesElsewhere g a b → CopiesElsewhere g b c → CopiesElsewhere g a c
 copies_elsewhere_then g a b c p q h y n = q h y n ∙ p h y n
-
--- so they can still make as many
-pub can_copy_elsewhere : (g : ℕ) (u later : World) → CopiesElsewhere g u later → (h n : ℕ) → (h ≡ g → ⊥) → CanCopyIn u h n → CanCopyIn later h n
-can_copy_elsewhere g u later same h n other can y = let e : (later.nodes h y).copied ≡ (u.nodes h y).copied = same h y other in let c : (u.nodes h y).copied + n ≤ most_copies = can y in omega arith
 
 -- a step of one node of the group
 copies_elsewhere_on : (u : World) (g x : ℕ) (step : NodeStep) → CopiesElsewhere g u (changed u g x step)
@@ -565,17 +561,3 @@ module _ (plan : Plan) (certified : IsCertified plan) (v : ℕ) (now : List ℕ)
       } in
       let (c, gc) = all_copied u n g x l member few readers ready b gathers 64 in
       hydrates u n g x l member few readers ready head reads c gc
-
-  -- The same, where each whole member is ready, and these satisfy the read expression.
-  pub hydrated_one : last_epoch line ≡ v → (u : World) → Installs u → HasWholeRoots plan u → (g x : ℕ) → g < length now → is_member plan v now line records g x ≡ true
-      → (u.nodes g x).whole ≡ false → length (of_group g records) ≤ most_records
-      → ((y : ℕ) → y < 64 → is_member plan v now line records g y ≡ true → (u.nodes g y).whole ≡ true → Ready u g y)
-      → sat (plan.configuration g (at plan v now line records g)).read (λ y. (u.nodes g y).whole && (is_member plan v now line records g y && nat_lt y 64)) ≡ true
-      → (n : ℕ) → CanCopyIn u g (suc n)
-      → (later : World) × Reaches plan u later × Installs later × Keeps u later × CanCopyIn later g n × CopiesElsewhere g u later × Installed later g x
-  hydrated_one head u i roots g x l member un few ready reads n spare =
-      hydrated_from head u i roots g x l member un few (λ y. (u.nodes g y).whole && (is_member plan v now line records g y && nat_lt y 64))
-      (λ y h. (
-      let parts : ((u.nodes g y).whole ≡ true) × ((is_member plan v now line records g y && nat_lt y 64) ≡ true) = and_parts (u.nodes g y).whole _ h in
-      let both : (is_member plan v now line records g y ≡ true) × (nat_lt y 64 ≡ true) = and_parts (is_member plan v now line records g y) (nat_lt y 64) parts.1 in
-      (ltb-true y 64 both.1, both.0, ready y (ltb-true y 64 both.1) both.0 parts.0))) reads n spare

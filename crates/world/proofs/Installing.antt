@@ -1,9 +1,9 @@
 -- What stays true from the cut of a recovery to its opening, while its log is installed.
-use Rattle.std.proofs.Common.{◌≡◌, ℕ, suc, ◌+◌, ◌<◌, ◌≤◌, Bool, true, false, ◌⊎◌, Some, List, length, refl, sym, ap, ◌∙◌, subst, inl, inr}
+use Rattle.std.proofs.Common.{◌≡◌, ℕ, ◌+◌, ◌<◌, ◌≤◌, Bool, true, false, ◌⊎◌, Some, List, length, sym, ap, ◌∙◌, subst, inl, inr}
 use Rattle.std.specs.Prelude.{slice_index_or}
 use Rattle.volume_model.specs.Lists.{IsIn, added, put, put_at}
-use Rattle.volume_model.specs.Redo.{Redo, of_group, last_of_group}
-use Rattle.volume_model.specs.Lineage.{Contents, Lineage, last_epoch}
+use Rattle.volume_model.specs.Redo.{Redo, last_of_group}
+use Rattle.volume_model.specs.Lineage.{Lineage}
 use Rattle.volume_model.specs.Pieces.{Pieces, in_pieces}
 use Rattle.volume_model.specs.Plan.{Plan, IsCertified, epoch_of, has_member}
 use Rattle.volume_model.specs.Message.{Place, Message}

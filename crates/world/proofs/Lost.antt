@@ -7,7 +7,7 @@ use Rattle.volume_model.specs.Formula.{Members, sat}
 use Rattle.volume_model.specs.Pieces.{copied_by, is_complete}
 use Rattle.volume_model.specs.Plan.{Plan, IsCertified, IsStep, epoch_of, has_member, is_fresh, is_named, parent_of}
 use Rattle.volume_model.specs.Message.{Place, Message, place_in}
-use Rattle.volume_model.specs.Message.Message.{View, StepTo, Fence, Report, Install, Write, Gossip, Ack, CopyAsk, CopyReport, PageAsk, Page}
+use Rattle.volume_model.specs.Message.Message.{View, Report, CopyReport}
 use Rattle.volume_model.specs.Refusal.{refuse_if}
 use Rattle.volume_model.specs.Node.{Node, NodeStep, NodeAnswer, hydrated, senders}
 use Rattle.volume_model.specs.Client.{Client, ClientStep, ClientAnswer, has_cut, reports_of}
@@ -32,13 +32,11 @@ use Rattle.volume_model.specs.declared.fault.Fault.{Fault}
 use Rattle.volume_model.specs.declared.fault.Fault.TheVariants.{AllGrown, EpochsSpent, NoActor, NoGroup, NotInPlan, Superseded}
 use Rattle.world.specs.Lost.{EarlyStepsLose, HaveTakenStep, IsLost}
 use Rattle.world.specs.Waiting.{whole_in}
+pub use Rattle.world.proofs.Waiting.{Ok-node}
 use Rattle.world.proofs.Waiting.{deliver_whole, offer_whole, restart_whole}
 
 pub Ok-is : (a b : AuthorityStep) → ◌≡◌ {A = Result AuthorityStep Fault} (Ok a) (Ok b) → a ≡ b
 Ok-is a b h = cc
-
-pub Ok-node : (a b : NodeStep) → ◌≡◌ {A = NodeAnswer} (Ok a) (Ok b) → a ≡ b
-Ok-node a b h = cc
 
 -- ---- what a step may say: a View of the places, or what a whole node says of itself
 
@@ -46,15 +44,7 @@ abbrev MaySay : Plan → World → World → Message → Type 0
 MaySay plan world later (View v places) = places ≡ places_now plan world.authority
 MaySay plan world later (Report to l x q) = (later.nodes to x).whole ≡ true
 MaySay plan world later (CopyReport to f x s p c) = (later.nodes to x).whole ≡ true
-MaySay plan world later (StepTo group place) = Unit {0}
-MaySay plan world later (Fence group l) = Unit {0}
-MaySay plan world later (Install group l p c) = Unit {0}
-MaySay plan world later (Write group l r) = Unit {0}
-MaySay plan world later (Gossip group l r) = Unit {0}
-MaySay plan world later (Ack group l x s) = Unit {0}
-MaySay plan world later (CopyAsk group f) = Unit {0}
-MaySay plan world later (PageAsk group l block point) = Unit {0}
-MaySay plan world later (Page group l x block point bytes) = Unit {0}
+MaySay plan world later m = Unit {0}
 
 -- each message of the later world was there before, or may be said
 abbrev AreSaid : Plan → World → World → Type 0
@@ -68,15 +58,7 @@ module _ (plan : Plan) (certified : IsCertified plan) (world : World) (known : I
   by_client later v client (View u places) h = absurd h
   by_client later v client (Report to l x q) h = absurd h
   by_client later v client (CopyReport to f x s p c) h = absurd h
-  by_client later v client (StepTo to place) h = tt
-  by_client later v client (Fence to l) h = tt
-  by_client later v client (Install to l p c) h = tt
-  by_client later v client (Write to l r) h = tt
-  by_client later v client (Gossip to l r) h = tt
-  by_client later v client (Ack to l x s) h = tt
-  by_client later v client (CopyAsk to f) h = tt
-  by_client later v client (PageAsk to l block point) h = tt
-  by_client later v client (Page to l x block point bytes) h = tt
+  by_client later v client m h = tt
 
   pub client_said : (v : ℕ) (answer : ClientAnswer) → ((step : ClientStep) → answer ≡ Ok step → IsGoodMove plan world v step) → AreSaid plan world (after_step world (of_client world v answer))
   client_said v (Err fault) good m i = inl i
@@ -92,15 +74,7 @@ module _ (plan : Plan) (certified : IsCertified plan) (world : World) (known : I
   by_node held group x step (CopyReport to f from s p c) h =
       rw (h.0, h.1) (ap (λ n. n.whole) (put_at-same world.nodes group x step.node) ∙ h.2)
   by_node held group x step (View v places) h = absurd h
-  by_node held group x step (StepTo to place) h = tt
-  by_node held group x step (Fence to l) h = tt
-  by_node held group x step (Install to l p c) h = tt
-  by_node held group x step (Write to l r) h = tt
-  by_node held group x step (Gossip to l r) h = tt
-  by_node held group x step (Ack to l from s) h = tt
-  by_node held group x step (CopyAsk to f) h = tt
-  by_node held group x step (PageAsk to l block point) h = tt
-  by_node held group x step (Page to l from block point bytes) h = tt
+  by_node held group x step m h = tt
 
   pub there_of : (joined group x : ℕ) → (nat_lt group joined && is_named plan group x) ≡ true → group < plan.groups
   there_of joined group x e = ltb-true group plan.groups (and_parts (nat_lt group plan.groups) _ (and_parts (nat_lt group joined) (is_named plan group x) e).1).0
@@ -218,16 +192,7 @@ module _ (plan : Plan) (certified : IsCertified plan) (world : World) (known : I
 abbrev FromWhole : World → Message → Type 0
 FromWhole world (Report to l x q) = (world.nodes to x).whole ≡ true
 FromWhole world (CopyReport to f x s p c) = (world.nodes to x).whole ≡ true
-FromWhole world (View v places) = Unit {0}
-FromWhole world (StepTo group place) = Unit {0}
-FromWhole world (Fence group l) = Unit {0}
-FromWhole world (Install group l p c) = Unit {0}
-FromWhole world (Write group l r) = Unit {0}
-FromWhole world (Gossip group l r) = Unit {0}
-FromWhole world (Ack group l x s) = Unit {0}
-FromWhole world (CopyAsk group f) = Unit {0}
-FromWhole world (PageAsk group l block point) = Unit {0}
-FromWhole world (Page group l x block point bytes) = Unit {0}
+FromWhole world m = Unit {0}
 
 abbrev AllFromWhole : World → Type 0
 AllFromWhole world = (m : Message) → IsMade world m → FromWhole world m
@@ -235,30 +200,12 @@ AllFromWhole world = (m : Message) → IsMade world m → FromWhole world m
 may_from_whole : (plan : Plan) (world later : World) (m : Message) → MaySay plan world later m → FromWhole later m
 may_from_whole plan world later (Report to l x q) h = h
 may_from_whole plan world later (CopyReport to f x s p c) h = h
-may_from_whole plan world later (View v places) h = tt
-may_from_whole plan world later (StepTo group place) h = tt
-may_from_whole plan world later (Fence group l) h = tt
-may_from_whole plan world later (Install group l p c) h = tt
-may_from_whole plan world later (Write group l r) h = tt
-may_from_whole plan world later (Gossip group l r) h = tt
-may_from_whole plan world later (Ack group l x s) h = tt
-may_from_whole plan world later (CopyAsk group f) h = tt
-may_from_whole plan world later (PageAsk group l block point) h = tt
-may_from_whole plan world later (Page group l x block point bytes) h = tt
+may_from_whole plan world later m h = tt
 
 from_whole_later : (world later : World) → ((g y : ℕ) → (world.nodes g y).whole ≡ true → (later.nodes g y).whole ≡ true) → (m : Message) → FromWhole world m → FromWhole later m
 from_whole_later world later grows (Report to l x q) h = grows to x h
 from_whole_later world later grows (CopyReport to f x s p c) h = grows to x h
-from_whole_later world later grows (View v places) h = tt
-from_whole_later world later grows (StepTo group place) h = tt
-from_whole_later world later grows (Fence group l) h = tt
-from_whole_later world later grows (Install group l p c) h = tt
-from_whole_later world later grows (Write group l r) h = tt
-from_whole_later world later grows (Gossip group l r) h = tt
-from_whole_later world later grows (Ack group l x s) h = tt
-from_whole_later world later grows (CopyAsk group f) h = tt
-from_whole_later world later grows (PageAsk group l block point) h = tt
-from_whole_later world later grows (Page group l x block point bytes) h = tt
+from_whole_later world later grows m h = tt
 
 module _ (plan : Plan) (certified : IsCertified plan) where
   whole_on : (world : World) → IsKeptWorld plan world → (event : Event) (g y : ℕ) → (world.nodes g y).whole ≡ true → ((after plan world event).nodes g y).whole ≡ true
@@ -307,15 +254,7 @@ module _ (plan : Plan) (certified : IsCertified plan) (g : ℕ) (there : g < pla
   SaysLost (View v places) = world.authority.last_volume < v → (g < length places) × (epoch ≤ (place_in places g).epoch)
   SaysLost (Report to l x q) = to ≡ g → whole_in world g x ≡ true
   SaysLost (CopyReport to f x s p c) = to ≡ g → whole_in world g x ≡ true
-  SaysLost (StepTo group place) = Unit {0}
-  SaysLost (Fence group l) = Unit {0}
-  SaysLost (Install group l p c) = Unit {0}
-  SaysLost (Write group l r) = Unit {0}
-  SaysLost (Gossip group l r) = Unit {0}
-  SaysLost (Ack group l x s) = Unit {0}
-  SaysLost (CopyAsk group f) = Unit {0}
-  SaysLost (PageAsk group l block point) = Unit {0}
-  SaysLost (Page group l x block point bytes) = Unit {0}
+  SaysLost m = Unit {0}
 
   -- what stays so of a node: in the group, nobody else is whole, and each named node is at that epoch or a later one
   record IsStuck (group x : ℕ) (node : Node) : Type 0 where
@@ -465,15 +404,7 @@ module _ (plan : Plan) (certified : IsCertified plan) (g : ℕ) (there : g < pla
         go (View v places) is = subst (λ p. SaysLost (View v p)) (sym is) (places_lost v)
         go (Report to l x q) whole = λ here. (nodes_after event to x).whole here whole
         go (CopyReport to f x s p c) whole = λ here. (nodes_after event to x).whole here whole
-        go (StepTo group place) h = tt
-        go (Fence group l) h = tt
-        go (Install group l p c) h = tt
-        go (Write group l r) h = tt
-        go (Gossip group l r) h = tt
-        go (Ack group l x s) h = tt
-        go (CopyAsk group f) h = tt
-        go (PageAsk group l block point) h = tt
-        go (Page group l x block point bytes) h = tt
+        go m h = tt
 
     -- the group and its configuration, at the authority
     record IsAt (authority : Authority) : Type 0 where
@@ -571,15 +502,7 @@ module _ (plan : Plan) (certified : IsCertified plan) (g : ℕ) (there : g < pla
   first_said all (View v places) i = λ late. absurd (let view : IsView plan world v places = known.kept.messages (View v places) i in let k : v ≤ world.authority.last_volume = view.known in omega arith)
   first_said all (Report to l x q) i = λ here. subst (λ k. (world.nodes k x).whole ≡ true) here (all (Report to l x q) i)
   first_said all (CopyReport to f x s p c) i = λ here. subst (λ k. (world.nodes k x).whole ≡ true) here (all (CopyReport to f x s p c) i)
-  first_said all (StepTo group place) i = tt
-  first_said all (Fence group l) i = tt
-  first_said all (Install group l p c) i = tt
-  first_said all (Write group l r) i = tt
-  first_said all (Gossip group l r) i = tt
-  first_said all (Ack group l x s) i = tt
-  first_said all (CopyAsk group f) i = tt
-  first_said all (PageAsk group l block point) i = tt
-  first_said all (Page group l x block point bytes) i = tt
+  first_said all m i = tt
 
   first_lost : g < groups_joined world.authority → HaveTakenStep plan world g → AllFromWhole world → StaysLost world
   first_lost joined taken all = record {

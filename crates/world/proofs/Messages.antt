@@ -74,14 +74,6 @@ numbered-none messages number (inl e) = sym (ap (numbered (added (messages_of me
 numbered-none messages number (inr h) =
     sym (numbered-past (added (messages_of messages) []) number (omega (arith, length-added (messages_of messages) [], length-map messages message_of)))
 
--- one message more
-pub added-one : (messages : List Message) (m : Message) → added (messages_of (messages ++ m ∷ [])) [] ≡ message_of m ∷ added (messages_of messages) []
-added-one messages m = from_kept messages []
-  where
-    from_kept : (ms : List Message) (kept : List model.Message) → added (messages_of (ms ++ m ∷ [])) kept ≡ message_of m ∷ added (messages_of ms) kept
-    from_kept [] kept = refl
-    from_kept (x ∷ ms) kept = from_kept ms (message_of x ∷ kept)
-
 -- these messages after those
 pub added-messages : (messages more : List Message) → added (messages_of (messages ++ more)) [] ≡ added (messages_of more) (added (messages_of messages) [])
 added-messages messages more = from_kept messages []

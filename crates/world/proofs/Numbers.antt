@@ -5,7 +5,7 @@ use Rattle.std.proofs.lemmas.Bool.Decides.{nat_tests}
 use Rattle.volume_model.specs.declared.fault.Fault.{Fault}
 use Rattle.volume_model.specs.Plan.{Plan}
 use Rattle.volume_model.specs.World.{World, Event, AuthorityStep, step, after, after_step, event_result, of_authority, of_client, of_node}
-use Rattle.volume_model.specs.World.Event.{Assign, Advance, Refresh, Grow, Issue, Take, Cut, Open, Resend, Read, Deliver, Hydrate, Restart, Offer}
+use Rattle.volume_model.specs.World.Event.{Issue, Take, Cut, Open, Resend, Read, Deliver, Hydrate, Restart, Offer}
 use Rattle.volume_model.specs.Node.{NodeAnswer}
 use Rattle.volume_model.specs.Client.{ClientAnswer}
 use Rattle.world.specs.Events.{made_by, total_made, firsts_of, number_from}
@@ -49,10 +49,6 @@ node_grows w group member (Ok s) = length-added s.made w.messages ∙ omega arit
 node_grows w group member (Err fault) = omega arith
 
 pub grows : (plan : Plan) (w : World) (event : Event) → length (after plan w event).messages ≡ length w.messages + made_by (event_result (step plan w event))
-grows plan w Assign = authority_grows w _
-grows plan w (Advance group c) = authority_grows w _
-grows plan w (Refresh volume) = authority_grows w _
-grows plan w Grow = authority_grows w _
 grows plan w (Issue volume changes) = client_grows w volume _
 grows plan w (Take volume number) = client_grows w volume _
 grows plan w (Cut volume) = client_grows w volume _
@@ -63,6 +59,7 @@ grows plan w (Deliver group member number) = node_grows w group member _
 grows plan w (Hydrate group member) = node_grows w group member _
 grows plan w (Restart group member) = node_grows w group member _
 grows plan w (Offer group member lsn) = node_grows w group member _
+grows plan w m = authority_grows w _
 
 -- the number, from what the program read
 pub number_is : (results : List (Result ℕ Fault)) (firsts : List ℕ) (i place made : ℕ) (d : Result ℕ Fault) → firsts ≡ firsts_of 0 results → i < length results → made ≡ made_by (get_or results i d) → (place ≡ 0 → ⊥) → place ≤ made → get_or firsts i 0 + place ≡ number_from 0 results i place

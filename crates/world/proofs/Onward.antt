@@ -1,5 +1,5 @@
 -- A volume whose groups can be read goes on.
-use Rattle.std.proofs.Common.{◌≡◌, ℕ, suc, ◌+◌, ◌*◌, ◌<◌, ◌≤◌, ◌^◌, Bool, true, false, max, ◌&&◌, ◌==◌, nat_lt, List, [], ◌∷◌, ◌++◌, Ok, Err, length, refl, sym, ap, ◌∙◌, subst, inl, inr, arith}
+use Rattle.std.proofs.Common.{◌≡◌, ℕ, suc, ◌+◌, ◌*◌, ◌<◌, ◌≤◌, ◌^◌, true, false, max, ◌&&◌, ◌==◌, nat_lt, List, Ok, length, refl, sym, ap, ◌∙◌, subst, inl, inr, arith}
 use Rattle.std.proofs.lemmas.Bool.{cases_Bool, and_parts, eqb-false, eqb-true, le-ltb, ltb-true}
 use Rattle.volume_model.specs.Claims.{KeepsClaims}
 use Rattle.volume_model.specs.Formula.{Members, sat}
@@ -13,7 +13,7 @@ use Rattle.volume_model.specs.Node.{From, Node, most_copies, most_records, sende
 use Rattle.volume_model.specs.Client.{Client, ClientAnswer, ClientStep, has_cut, place_configuration, place_of, reports_of}
 use Rattle.volume_model.specs.Client.Stage.{Reading}
 use Rattle.volume_model.specs.ClientRecovery.{cut_client, cut_step, has_read, live_reported, log_reported, reported}
-use Rattle.volume_model.specs.World.{World, Event, after, after_step, configuration_of, groups_joined, of_client, opening, run}
+use Rattle.volume_model.specs.World.{World, after, after_step, configuration_of, groups_joined, of_client, opening, run}
 use Rattle.volume_model.specs.World.Event.{Cut}
 use Rattle.volume_model.specs.Headline.{Acknowledges}
 use Rattle.volume_model.proofs.Basics.{any_passes, every_below-all}
@@ -37,7 +37,7 @@ use Rattle.world.proofs.Readable.{HasPlace, HasStep, IsReading, Reaches, all_hea
 use Rattle.world.proofs.Asked.{HasAsked, HasWholeRoots, asked_known, roots_known, run_asked}
 use Rattle.world.proofs.Copies.{included_shorter}
 use Rattle.world.proofs.Cutting.{cut_installing}
-use Rattle.world.proofs.Installing.{CanCopy, IsInstalling, IsRecovering}
+use Rattle.world.proofs.Installing.{CanCopy, IsRecovering}
 use Rattle.world.proofs.Hydrating.{hydrated_from}
 use Rattle.world.proofs.Installs.{installed_one}
 use Rattle.world.proofs.Members.{HydratesOne, everyone_ready}

@@ -1,27 +1,25 @@
 -- A node that has begun to keep an install keeps a piece of it.
-use Rattle.std.proofs.Common.{◌≡◌, ℕ, ◌<◌, ◌≤◌, Bool, true, false, not, ◌&&◌, ◌==◌, nat_lt, nat_le, if◌then◌else◌, ◌⊎◌, List, [], ◌∷◌, Option, Some, None, Ok, Err, length, refl, sym, ◌∙◌, subst, inl, inr, arith}
-use Rattle.std.proofs.lemmas.Bool.{cases_Bool, true≢false}
-use Rattle.volume_model.specs.Lists.{IsIn, added, numbered}
+use Rattle.std.proofs.Common.{◌≡◌, ℕ, ◌<◌, false, not, ◌&&◌, ◌==◌, nat_lt, nat_le, if◌then◌else◌, ◌⊎◌, List, [], ◌∷◌, Option, Some, None, Ok, length, refl, sym, ◌∙◌, subst, inl, inr}
+use Rattle.std.proofs.lemmas.Bool.{cases_Bool}
+use Rattle.volume_model.specs.Lists.{IsIn, numbered}
 use Rattle.volume_model.specs.Redo.{Redo, holds_record, record_at}
 use Rattle.volume_model.specs.Lineage.{Contents}
 use Rattle.volume_model.specs.Pieces.{KeptPiece, Piece, Pieces, has_piece, is_bad_piece, is_complete, most_pieces, piece_in, pieces_from, with_install, with_piece}
-use Rattle.volume_model.specs.Plan.{Plan, IsCertified, has_member, is_configuration, is_named}
+use Rattle.volume_model.specs.Plan.{Plan, IsCertified, has_member, is_configuration}
 use Rattle.volume_model.specs.Message.{Label, Message}
-use Rattle.volume_model.specs.Message.Message.{View, StepTo, Fence, Report, Install, Write, Gossip, Ack, CopyAsk, CopyReport, PageAsk, Page}
-use Rattle.volume_model.specs.Node.{Node, NodeAnswer, NodeStep, born_node, gossip_of, hydrated, in_group, installed, label_checks, lineage_epoch, most_copies, most_records, offered, reaction, restarted, take_record}
-use Rattle.volume_model.specs.Refusal.{refuse_if}
-use Rattle.volume_model.specs.World.{World, Event, after, after_step, assigned, advanced, deliver, grown, if_there, of_node, opening, refreshed, run}
+use Rattle.volume_model.specs.Message.Message.{StepTo, Fence, Install, Write, Gossip, CopyAsk, CopyReport, PageAsk}
+use Rattle.volume_model.specs.Node.{Node, NodeAnswer, NodeStep, born_node, gossip_of, hydrated, in_group, installed, lineage_epoch, most_copies, most_records, offered, reaction, restarted, take_record}
+use Rattle.volume_model.specs.World.{World, Event, after, assigned, advanced, deliver, grown, opening, refreshed, run}
 use Rattle.volume_model.specs.World.Event.{Assign, Advance, Refresh, Grow, Issue, Take, Cut, Open, Resend, Read, Deliver, Hydrate, Restart, Offer}
-use Rattle.volume_model.proofs.Basics.{IsIn-append_right, any_passes, put_at-all}
-use Rattle.volume_model.proofs.Invariant.{HasCut, IsMade, label}
+use Rattle.volume_model.proofs.Basics.{IsIn-append_right, any_passes}
+use Rattle.volume_model.proofs.Invariant.{HasCut, label}
 use Rattle.volume_model.proofs.Kept.{IsInstall, IsInstallOfPiece}
 use Rattle.volume_model.proofs.NodeSteps.{hydrated-ok, page_answer-ok, refuse_if-ok}
 use Rattle.volume_model.proofs.Renewed.{IsKeptWorld}
 use Rattle.volume_model.proofs.Run.{event_kept, opening_kept}
-use Rattle.volume_model.specs.declared.fault.Fault.TheVariants.{AheadMember, AlreadyWhole, BadPiece, Full, NoActor, NotAddressed, NotInPlan, NotInstalled, NotWhole, SeriesSpent, StaleMember, StaleVolume}
+use Rattle.volume_model.specs.declared.fault.Fault.TheVariants.{AheadMember, AlreadyWhole, BadPiece, Full, NotAddressed, NotInPlan, NotInstalled, NotWhole, SeriesSpent, StaleMember}
 use Rattle.world.proofs.Lost.{Ok-node, authority_on, client_on, node_on}
-use Rattle.world.proofs.Readable.{IsIn-kept, IsIn-new, made_on}
-use Rattle.world.proofs.Waiting.{deliver_whole, offer_whole, restart_whole}
+use Rattle.world.proofs.Waiting.{passed}
 
 -- a piece is kept
 abbrev pub HasPiece : Pieces → Type 0
@@ -65,19 +63,10 @@ module _ (plan : Plan) (group x : ℕ) (node : Node) where
   same_on : (step : NodeStep) → step.node.install ≡ node.install → step.node.place.epoch ≡ node.place.epoch → KeepsOn step
   same_on step install place = record { install = λ pieces k. inl (sym install ∙ k); place = inl place }
 
-  -- a label that passes its tests leaves the rest
-  passed : (l : Label) (rest : NodeAnswer) (step : NodeStep) → label_checks node l rest ≡ Ok step → rest ≡ Ok step
-  passed l rest step h =
-      let (a, h1) = refuse_if-ok (nat_lt l.member node.place.epoch) StaleMember _ step h in
-      let (b, h2) = refuse_if-ok (nat_lt node.place.epoch l.member) AheadMember _ step h1 in
-      let (c, h3) = refuse_if-ok (not node.whole) NotWhole _ step h2 in
-      let (d, h4) = refuse_if-ok (nat_lt l.volume node.volume) StaleVolume _ step h3 in
-      h4
-
   -- a Write or a Gossip
   record_keeps : (l : Label) (r : Redo) (step : NodeStep) → take_record group x node l r ≡ Ok step → KeepsOn step
   record_keeps l r step h =
-      let h1 = passed l _ step h in
+      let h1 = passed node l _ step h in
       let (a, h2) = refuse_if-ok (not (lineage_epoch node == l.volume)) NotInstalled _ step h1 in
       let (b, h3) = refuse_if-ok (not (holds_record r node.contents.records) && nat_le most_records (length node.contents.records)) Full _ step h2 in
       subst KeepsOn (Ok-node _ step h3) (same_on _ refl refl)
@@ -98,10 +87,10 @@ module _ (plan : Plan) (group x : ℕ) (node : Node) where
   reaction_keeps : (m : Message) (step : NodeStep) → reaction plan group x node m ≡ Ok step → KeepsOn step
   reaction_keeps (Fence to l) step h =
       let (a, h1) = refuse_if-ok (not (to == group)) NotAddressed _ step h in
-      subst KeepsOn (Ok-node _ step (passed l _ step h1)) (same_on _ refl refl)
+      subst KeepsOn (Ok-node _ step (passed node l _ step h1)) (same_on _ refl refl)
   reaction_keeps (Install to l piece c) step h =
       let (a, h1) = refuse_if-ok (not (to == group && in_group group c)) NotAddressed _ step h in
-      let h2 = passed l _ step h1 in
+      let h2 = passed node l _ step h1 in
       let (b, h3) = refuse_if-ok (nat_lt most_pieces piece.of) Full _ step h2 in
       let (d, h4) = refuse_if-ok (is_bad_piece node.install l.volume piece c) BadPiece _ step h3 in
       subst KeepsOn (Ok-node _ step h4) (installed_keeps l piece c)
@@ -131,12 +120,9 @@ module _ (plan : Plan) (group x : ℕ) (node : Node) where
       subst KeepsOn (Ok-node _ step h5) (same_on _ refl refl)
   reaction_keeps (PageAsk to l block point) step h =
       let (a, h1) = refuse_if-ok (not (to == group)) NotAddressed _ step h in
-      let (v, d, is) = page_answer-ok plan group x node l block point step (passed l _ step h1) in
+      let (v, d, is) = page_answer-ok plan group x node l block point step (passed node l _ step h1) in
       subst KeepsOn (sym is) (same_on _ refl refl)
-  reaction_keeps (View v places) step h = cc
-  reaction_keeps (Report to l from c) step h = cc
-  reaction_keeps (Ack to l from s) step h = cc
-  reaction_keeps (Page to l from block point bytes) step h = cc
+  reaction_keeps m step h = cc
 
   -- a delivery
   pub deliver_keeps : (found : Option Message) (step : NodeStep) → deliver plan group x node found ≡ Ok step → KeepsOn step

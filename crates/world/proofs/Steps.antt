@@ -1,15 +1,14 @@
 -- The step of one actor, in the world.
-use Rattle.std.proofs.Common.{◌≡◌, ℕ, ◌*◌, ◌/◌, ◌%◌, ◌<◌, ◌≤◌, Bool, true, false, not, ◌&&◌, nat_lt, nat_le, if◌then◌else◌, List, Option, Some, None, Result, Ok, Err, length, option_map, set, refl, sym, ap, ap₂, ◌∙◌, subst, inl, inr, arith}
+use Rattle.std.proofs.Common.{◌≡◌, ℕ, ◌/◌, ◌%◌, ◌<◌, ◌≤◌, Bool, true, false, not, ◌&&◌, nat_lt, if◌then◌else◌, List, Option, Some, Result, Ok, Err, length, option_map, set, refl, sym, ap, ap₂, ◌∙◌, subst, arith}
 use Rattle.std.specs.Prelude.{slice_get}
 use Rattle.std.proofs.Common.{get_or, length-set}
 use Rattle.std.proofs.lemmas.List.{length-map}
 use Rattle.std.proofs.lemmas.Option.{slice_get_read, slice_get_within}
-use Rattle.std.proofs.lemmas.Bool.{le-ltb, lt-ltb}
-use Rattle.std.proofs.lemmas.Bool.Decides.{nat_tests}
+use Rattle.std.proofs.lemmas.Bool.{lt-ltb}
 use Rattle.volume_model.specs.declared.fault.Fault.{Fault}
 use Rattle.volume_model.specs.declared.fault.Fault.TheVariants.{NoActor}
-use Rattle.volume_model.specs.Lists.{some_below, put, put_at}
-use Rattle.volume_model.specs.Plan.{Plan, is_named, has_member}
+use Rattle.volume_model.specs.Lists.{put, put_at}
+use Rattle.volume_model.specs.Plan.{Plan, is_named}
 use Rattle.volume_model.specs.Message.{Message}
 use Rattle.volume_model.specs.Answer.{never_after_growth, AnswersAfterGrowth}
 use Rattle.volume_model.specs.Refusal.{refuse_if}
@@ -18,7 +17,7 @@ use Rattle.volume_model.specs.Client.{Client, ClientAnswer, ClientStep}
 use Rattle.volume_model.specs.World.{Authority, AuthorityStep, Step, World, of_authority, groups_joined, of_node, of_client, if_there}
 use Rattle.segment_core.specs.declared.segment.Segment.{Segment}
 use Rattle.segment_core.specs.Segment.{node_of, segment_plan, segment_group, segment_member, IsSegmentOf, IsSameActor}
-use Rattle.world.specs.Slots.{members, slot_of, in_slot, node_or, node_at, FindsSlot}
+use Rattle.world.specs.Slots.{slot_of, in_slot, node_or, node_at}
 use Rattle.world.specs.Homes.{nodes_of, IsPlace, AreHomes}
 use Rattle.world.specs.Worlds.{world_with}
 use Rattle.world.specs.Moves.{counted, result_of_step, AuthorityMoves, ClientMoves, ActorState, Moves, NodeMoves, StepResult}
@@ -29,20 +28,6 @@ use Rattle.world.proofs.OneNode.{node_at-set, put_at-same, slice_get-map, in_pla
 -- the plan names no member whose number isn't below 64
 abbrev pub LowFor : Plan → Type 0
 LowFor plan = (group member : ℕ) → 64 ≤ member → is_named plan group member ≡ false
-
--- a group that isn't there names nobody
-unnamed_group : (plan : Plan) (g m : ℕ) → plan.groups ≤ g → is_named plan g m ≡ false
-unnamed_group plan g m h = ap (λ (b : Bool). b && some_below (plan.configurations g) (λ c. has_member (plan.configuration g c) m)) (le-ltb g plan.groups h)
-
--- no slot, no node
-pub unnamed : (plan : Plan) (slots : List (Option Segment)) (g m : ℕ) → AreHomes plan slots → ((group member : ℕ) → members ≤ member → is_named plan group member ≡ false) → FindsSlot None (length slots) g m → is_named plan g m ≡ false
-unnamed plan slots g m homes low (inl h) = low g m h
-unnamed plan slots g m homes low (inr h) =
-    let long : length slots ≡ plan.groups * 64 = homes.long in
-    elim (nat_le 64 m) as (λ (b : Bool). nat_le 64 m ≡ b → is_named plan g m ≡ false) [
-      | true ↦ λ t. low g m (let k : 64 ≤ m = grind (arith, nat_tests) in k)
-      | false ↦ λ t. let k : m < 64 = grind (arith, nat_tests) in unnamed_group plan g m (omega arith)
-    ] refl
 
 -- what stands in the slot of a member
 pub place_of_member : (plan : Plan) (slots : List (Option Segment)) (g m : ℕ) → AreHomes plan slots → m < 64 → (o : Option Segment) → slice_get slots (slot_of g m) ≡ Some o → IsPlace plan g m o
@@ -71,10 +56,6 @@ absent_steps late plan world joined g m defined e =
 -- that is one that the plan doesn't name
 pub unnamed_steps : (late : Fault → Bool) (plan : Plan) (world : World) (joined g m : ℕ) (defined : NodeAnswer) → is_named plan g m ≡ false → Steps late (of_node world g m (if_there plan joined g m defined)) world (Err NoActor) world
 unnamed_steps late plan world joined g m defined e = absent_steps late plan world joined g m defined (ap (λ (b : Bool). nat_lt g joined && b) e ∙ and-false (nat_lt g joined))
-
--- and one whose group hasn't joined
-pub unjoined_steps : (late : Fault → Bool) (plan : Plan) (world : World) (joined g m : ℕ) (defined : NodeAnswer) → joined ≤ g → Steps late (of_node world g m (if_there plan joined g m defined)) world (Err NoActor) world
-unjoined_steps late plan world joined g m defined h = absent_steps late plan world joined g m defined (ap (λ (b : Bool). b && is_named plan g m) (le-ltb g joined h))
 
 -- what the step of an actor leaves in the world, where the world in which the actor is this and these are all messages is placed so
 module _ {S T : Type 0} (made : T → List Message) (actor : T → S) (placed : ActorState S → World) where

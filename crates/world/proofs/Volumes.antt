@@ -9,7 +9,7 @@ use Rattle.volume_model.specs.Plan.{Plan, IsCertified, has_member, is_configurat
 use Rattle.volume_model.specs.Message.{Label, Place, Message, place_in}
 use Rattle.volume_model.specs.Message.Message.{View, StepTo, Fence, Report, Install, Write, Gossip, Ack, CopyAsk, CopyReport, PageAsk, Page}
 use Rattle.volume_model.specs.Refusal.{refuse_if}
-use Rattle.volume_model.specs.Node.{Node, NodeStep, NodeAnswer, born_node, lineage_epoch, label_checks, most_records, most_copies, take_record, installed, in_group, reaction, hydrated, restarted, gossip_of, offered}
+use Rattle.volume_model.specs.Node.{Node, NodeStep, NodeAnswer, born_node, lineage_epoch, most_records, most_copies, take_record, installed, in_group, reaction, hydrated, restarted, gossip_of, offered}
 use Rattle.volume_model.specs.Client.{Client, ClientStep, ClientAnswer, Stage, is_born, label_of, place_of}
 use Rattle.volume_model.specs.Client.Stage.{Unborn, Reading, Installing, Writing}
 use Rattle.volume_model.specs.ClientWriter.{Change, issued, issued_writes, page_asked, record_of, is_last, resent, write_of}
@@ -26,7 +26,8 @@ use Rattle.volume_model.proofs.Renewed.{IsKeptWorld, renewed, renewed_ready}
 use Rattle.volume_model.proofs.Run.{event_kept, opening_kept}
 use Rattle.volume_model.proofs.Sound.{born_from_cut}
 use Rattle.volume_model.specs.declared.fault.Fault.{Fault}
-use Rattle.volume_model.specs.declared.fault.Fault.TheVariants.{AllGrown, EpochsSpent, NoActor, NoGroup, AheadMember, AlreadyDone, AlreadyWhole, BadPiece, BadTransaction, Full, LimitReached, LsnSpent, NotAddressed, NotInPlan, NotInstalled, NotJoined, NotOpen, NotReady, NotWhole, SeriesSpent, StaleMember, StaleVolume, Superseded}
+use Rattle.volume_model.specs.declared.fault.Fault.TheVariants.{AllGrown, EpochsSpent, NoActor, NoGroup, AheadMember, AlreadyDone, AlreadyWhole, BadPiece, BadTransaction, Full, LimitReached, LsnSpent, NotAddressed, NotInPlan, NotInstalled, NotJoined, NotOpen, NotReady, NotWhole, SeriesSpent, StaleMember, Superseded}
+use Rattle.world.proofs.Waiting.{passed}
 use Rattle.world.proofs.Lost.{Ok-is, Ok-node, IsGood, authority_on, client_on, node_on, ready, there_of}
 
 Ok-client : (a b : ClientStep) → ◌≡◌ {A = ClientAnswer} (Ok a) (Ok b) → a ≡ b
@@ -37,17 +38,7 @@ Ok-client a b h = cc
 -- the message is no Fence, or one of this volume epoch
 abbrev IsFenceOf : ℕ → Message → Type 0
 IsFenceOf v (Fence to l) = l.volume ≡ v
-IsFenceOf v (View u places) = Unit {0}
-IsFenceOf v (StepTo group place) = Unit {0}
-IsFenceOf v (Report to l x q) = Unit {0}
-IsFenceOf v (Install group l p c) = Unit {0}
-IsFenceOf v (Write group l r) = Unit {0}
-IsFenceOf v (Gossip group l r) = Unit {0}
-IsFenceOf v (Ack group l x s) = Unit {0}
-IsFenceOf v (CopyAsk group f) = Unit {0}
-IsFenceOf v (CopyReport to f x s p c) = Unit {0}
-IsFenceOf v (PageAsk group l block point) = Unit {0}
-IsFenceOf v (Page group l x block point bytes) = Unit {0}
+IsFenceOf v m = Unit {0}
 
 abbrev FencesOf : ℕ → List Message → Type 0
 FencesOf v made = (m : Message) → IsIn m made → IsFenceOf v m
@@ -145,14 +136,7 @@ module _ (plan : Plan) (v : ℕ) where
       let h1 = (refuse_if-ok _ NotAddressed _ step h).1 in
       let h2 = (refuse_if-ok _ NoActor _ step h1).1 in
       subst StepFences (Ok-client _ step h2) (λ m i. absurd i)
-  taken_of client (StepTo group place) step h = cc
-  taken_of client (Fence group l) step h = cc
-  taken_of client (Install group l p c) step h = cc
-  taken_of client (Write group l r) step h = cc
-  taken_of client (Gossip group l r) step h = cc
-  taken_of client (CopyAsk group f) step h = cc
-  taken_of client (CopyReport group f x s p c) step h = cc
-  taken_of client (PageAsk group l block point) step h = cc
+  taken_of client m step h = cc
 
   -- who takes a message and makes a Fence has taken a View
   pub fence_from_view : (client : Client) (message : Message) (step : ClientStep) → taken plan v client message ≡ Ok step → (m : Message) → IsIn m step.made → (places : List Place) × (message ≡ View v places)
@@ -171,14 +155,7 @@ module _ (plan : Plan) (v : ℕ) where
       let h1 = (refuse_if-ok _ NotAddressed _ step h).1 in
       let h2 = (refuse_if-ok _ NoActor _ step h1).1 in
       absurd (subst (λ (s : ClientStep). IsIn m s.made) (sym (Ok-client _ step h2)) i)
-  fence_from_view client (StepTo group place) step h m i = cc
-  fence_from_view client (Fence group l) step h m i = cc
-  fence_from_view client (Install group l p c) step h m i = cc
-  fence_from_view client (Write group l r) step h m i = cc
-  fence_from_view client (Gossip group l r) step h m i = cc
-  fence_from_view client (CopyAsk group f) step h m i = cc
-  fence_from_view client (CopyReport group f x s p c) step h m i = cc
-  fence_from_view client (PageAsk group l block point) step h m i = cc
+  fence_from_view client e step h m i = cc
 
 -- ---- in every run
 
@@ -200,17 +177,9 @@ module _ (plan : Plan) (certified : IsCertified plan) (world : World) (known : I
     abbrev IsKnown : NodeStep → Type 0
     IsKnown step = step.node.volume ≤ last
 
-    passed : (l : Label) (rest : NodeAnswer) (step : NodeStep) → label_checks node l rest ≡ Ok step → rest ≡ Ok step
-    passed l rest step h =
-        let (a, h1) = refuse_if-ok (nat_lt l.member node.place.epoch) StaleMember _ step h in
-        let (b, h2) = refuse_if-ok (nat_lt node.place.epoch l.member) AheadMember _ step h1 in
-        let (c, h3) = refuse_if-ok (not node.whole) NotWhole _ step h2 in
-        let (d, h4) = refuse_if-ok (nat_lt l.volume node.volume) StaleVolume _ step h3 in
-        h4
-
     record_known : (l : Label) (r : Redo) (step : NodeStep) → take_record group x node l r ≡ Ok step → IsKnown step
     record_known l r step h =
-        let h1 = passed l _ step h in
+        let h1 = passed node l _ step h in
         let (a, h2) = refuse_if-ok (not (lineage_epoch node == l.volume)) NotInstalled _ step h1 in
         let (b, h3) = refuse_if-ok (not (holds_record r node.contents.records) && nat_le most_records (length node.contents.records)) Full _ step h2 in
         subst IsKnown (Ok-node _ step h3) (volumes.nodes group x)
@@ -229,10 +198,10 @@ module _ (plan : Plan) (certified : IsCertified plan) (world : World) (known : I
     reaction_known : (m : Message) → IsMade world m → (step : NodeStep) → reaction plan group x node m ≡ Ok step → IsKnown step
     reaction_known (Fence to l) made step h =
         let (a, h1) = refuse_if-ok (not (to == group)) NotAddressed _ step h in
-        subst IsKnown (Ok-node _ step (passed l _ step h1)) (volumes.fences to l made)
+        subst IsKnown (Ok-node _ step (passed node l _ step h1)) (volumes.fences to l made)
     reaction_known (Install to l piece c) made step h =
         let (a, h1) = refuse_if-ok (not (to == group && in_group group c)) NotAddressed _ step h in
-        let h2 = passed l _ step h1 in
+        let h2 = passed node l _ step h1 in
         let (b, h3) = refuse_if-ok (nat_lt most_pieces piece.of) Full _ step h2 in
         let (d, h4) = refuse_if-ok (is_bad_piece node.install l.volume piece c) BadPiece _ step h3 in
         let install : IsInstall world to l piece c = known.kept.messages (Install to l piece c) made in
@@ -262,12 +231,9 @@ module _ (plan : Plan) (certified : IsCertified plan) (world : World) (known : I
         subst IsKnown (Ok-node _ step h5) (volumes.nodes group x)
     reaction_known (PageAsk to l block point) made step h =
         let (a, h1) = refuse_if-ok (not (to == group)) NotAddressed _ step h in
-        let (v, d, is) = page_answer-ok plan group x node l block point step (passed l _ step h1) in
+        let (v, d, is) = page_answer-ok plan group x node l block point step (passed node l _ step h1) in
         subst IsKnown (sym is) (volumes.nodes group x)
-    reaction_known (View v places) made step h = cc
-    reaction_known (Report to l from c) made step h = cc
-    reaction_known (Ack to l from s) made step h = cc
-    reaction_known (Page to l from block point bytes) made step h = cc
+    reaction_known m made step h = cc
 
     deliver_known : (number : ℕ) (step : NodeStep) → deliver plan group x node (numbered world.messages number) ≡ Ok step → IsKnown step
     deliver_known number step h = go (numbered world.messages number) refl h

@@ -9,7 +9,7 @@ use Rattle.volume_model.specs.Pieces.{Piece, most_pieces, is_bad_piece, is_compl
 use Rattle.volume_model.specs.Formula.{sat}
 use Rattle.volume_model.specs.Plan.{Plan, has_member, is_configuration, is_named, parent_of}
 use Rattle.volume_model.specs.Message.{Label, Message}
-use Rattle.volume_model.specs.Message.Message.{View, StepTo, Fence, Report, Install, Write, Gossip, Ack, CopyAsk, CopyReport, PageAsk, Page}
+use Rattle.volume_model.specs.Message.Message.{StepTo, Fence, Install, Write, Gossip, CopyAsk, CopyReport, PageAsk}
 use Rattle.volume_model.specs.Refusal.{refuse_if}
 use Rattle.volume_model.specs.Node.{Node, NodeStep, NodeAnswer, lineage_epoch, label_checks, most_records, most_copies, take_record, installed, in_group, reaction, hydrated, restarted, gossip_of, offered}
 use Rattle.volume_model.specs.Client.{ClientAnswer}
@@ -22,8 +22,17 @@ use Rattle.volume_model.specs.declared.fault.Fault.{Fault}
 use Rattle.volume_model.specs.declared.fault.Fault.TheVariants.{AllGrown, EpochsSpent, NoActor, NoGroup, AheadMember, AlreadyWhole, BadPiece, Full, NotAddressed, NotInPlan, NotInstalled, NotWhole, SeriesSpent, StaleMember, StaleVolume, Superseded}
 use Rattle.world.specs.Waiting.{CanBeRead, WaitingKeepsReaders, last_advance_waited, waited_after, whole_in}
 
-Ok-is : (a b : NodeStep) → ◌≡◌ {A = NodeAnswer} (Ok a) (Ok b) → a ≡ b
-Ok-is a b h = cc
+pub Ok-node : (a b : NodeStep) → ◌≡◌ {A = NodeAnswer} (Ok a) (Ok b) → a ≡ b
+Ok-node a b h = cc
+
+-- a label that passes its tests leaves the rest
+pub passed : (node : Node) (l : Label) (rest : NodeAnswer) (step : NodeStep) → label_checks node l rest ≡ Ok step → rest ≡ Ok step
+passed node l rest step h =
+    let (a, h1) = refuse_if-ok (nat_lt l.member node.place.epoch) StaleMember _ step h in
+    let (b, h2) = refuse_if-ok (nat_lt node.place.epoch l.member) AheadMember _ step h1 in
+    let (c, h3) = refuse_if-ok (not node.whole) NotWhole _ step h2 in
+    let (d, h4) = refuse_if-ok (nat_lt l.volume node.volume) StaleVolume _ step h3 in
+    h4
 
 -- ---- a whole node stays whole
 
@@ -34,20 +43,12 @@ module _ (plan : Plan) (group x : ℕ) (node : Node) where
   abbrev pub IsWholeAsBefore : NodeStep → Type 0
   IsWholeAsBefore step = step.node.whole ≡ node.whole
 
-  passed : (l : Label) (rest : NodeAnswer) (step : NodeStep) → label_checks node l rest ≡ Ok step → rest ≡ Ok step
-  passed l rest step h =
-      let (a, h1) = refuse_if-ok (nat_lt l.member node.place.epoch) StaleMember _ step h in
-      let (b, h2) = refuse_if-ok (nat_lt node.place.epoch l.member) AheadMember _ step h1 in
-      let (c, h3) = refuse_if-ok (not node.whole) NotWhole _ step h2 in
-      let (d, h4) = refuse_if-ok (nat_lt l.volume node.volume) StaleVolume _ step h3 in
-      h4
-
   record_whole : (l : Label) (r : Redo) (step : NodeStep) → take_record group x node l r ≡ Ok step → IsWholeAsBefore step
   record_whole l r step h =
-      let h1 = passed l _ step h in
+      let h1 = passed node l _ step h in
       let (a, h2) = refuse_if-ok (not (lineage_epoch node == l.volume)) NotInstalled _ step h1 in
       let (b, h3) = refuse_if-ok (not (holds_record r node.contents.records) && nat_le most_records (length node.contents.records)) Full _ step h2 in
-      subst IsWholeAsBefore (Ok-is _ step h3) refl
+      subst IsWholeAsBefore (Ok-node _ step h3) refl
 
   installed_whole : (l : Label) (piece : Piece) (c : Contents) → (installed group x node l piece c).node.whole ≡ node.whole
   unfolding installed
@@ -63,42 +64,39 @@ module _ (plan : Plan) (group x : ℕ) (node : Node) where
   reaction_whole : (m : Message) (step : NodeStep) → reaction plan group x node m ≡ Ok step → IsWholeAsBefore step
   reaction_whole (Fence to l) step h =
       let (a, h1) = refuse_if-ok (not (to == group)) NotAddressed _ step h in
-      subst IsWholeAsBefore (Ok-is _ step (passed l _ step h1)) refl
+      subst IsWholeAsBefore (Ok-node _ step (passed node l _ step h1)) refl
   reaction_whole (Install to l piece c) step h =
       let (a, h1) = refuse_if-ok (not (to == group && in_group group c)) NotAddressed _ step h in
-      let h2 = passed l _ step h1 in
+      let h2 = passed node l _ step h1 in
       let (b, h3) = refuse_if-ok (nat_lt most_pieces piece.of) Full _ step h2 in
       let (d, h4) = refuse_if-ok (is_bad_piece node.install l.volume piece c) BadPiece _ step h3 in
-      subst IsWholeAsBefore (Ok-is _ step h4) (installed_whole l piece c)
+      subst IsWholeAsBefore (Ok-node _ step h4) (installed_whole l piece c)
   reaction_whole (Write to l r) step h = record_whole l r step (refuse_if-ok (not (to == group && r.group == group)) NotAddressed _ step h).1
   reaction_whole (Gossip to l r) step h = record_whole l r step (refuse_if-ok (not (to == group && r.group == group)) NotAddressed _ step h).1
   reaction_whole (StepTo to place) step h =
       let (a, h1) = refuse_if-ok (not (to == group)) NotAddressed _ step h in
       let (b, h2) = refuse_if-ok (nat_le place.epoch node.place.epoch) StaleMember _ step h1 in
       let (c, h3) = refuse_if-ok (not (is_configuration plan group place.configuration place.epoch)) NotInPlan _ step h2 in
-      subst IsWholeAsBefore (Ok-is _ step h3) refl
+      subst IsWholeAsBefore (Ok-node _ step h3) refl
   reaction_whole (CopyAsk to epoch) step h =
       let (a, h1) = refuse_if-ok (not (to == group)) NotAddressed _ step h in
       let (b, h2) = refuse_if-ok (nat_lt epoch node.place.epoch) StaleMember _ step h1 in
       let (c, h3) = refuse_if-ok (nat_lt node.place.epoch epoch) AheadMember _ step h2 in
       let (d, h4) = refuse_if-ok (not node.whole) NotWhole _ step h3 in
       let (f, h5) = refuse_if-ok (nat_le most_copies node.copied) SeriesSpent _ step h4 in
-      subst IsWholeAsBefore (Ok-is _ step h5) refl
+      subst IsWholeAsBefore (Ok-node _ step h5) refl
   reaction_whole (CopyReport to epoch sender s piece c) step h =
       let (a, h1) = refuse_if-ok (not (to == group && in_group group c && nat_lt sender 64)) NotAddressed _ step h in
       let (w, h2) = refuse_if-ok node.whole AlreadyWhole _ step h1 in
       let (b, h3) = refuse_if-ok (nat_lt epoch node.place.epoch) StaleMember _ step h2 in
       let (d, h4) = refuse_if-ok (nat_lt node.place.epoch epoch) AheadMember _ step h3 in
       let (f, h5) = refuse_if-ok (is_bad_piece (pieces_from node.copies sender) s piece c) BadPiece _ step h4 in
-      subst IsWholeAsBefore (Ok-is _ step h5) refl
+      subst IsWholeAsBefore (Ok-node _ step h5) refl
   reaction_whole (PageAsk to l block point) step h =
       let (a, h1) = refuse_if-ok (not (to == group)) NotAddressed _ step h in
-      let (v, d, is) = page_answer-ok plan group x node l block point step (passed l _ step h1) in
+      let (v, d, is) = page_answer-ok plan group x node l block point step (passed node l _ step h1) in
       subst IsWholeAsBefore (sym is) refl
-  reaction_whole (View v places) step h = cc
-  reaction_whole (Report to l from c) step h = cc
-  reaction_whole (Ack to l from s) step h = cc
-  reaction_whole (Page to l from block point bytes) step h = cc
+  reaction_whole m step h = cc
 
   pub deliver_whole : (found : Option Message) (step : NodeStep) → deliver plan group x node found ≡ Ok step → IsWholeAsBefore step
   deliver_whole None step h = cc
@@ -110,7 +108,7 @@ module _ (plan : Plan) (group x : ℕ) (node : Node) where
       subst StaysWhole (sym is) (λ k. refl)
 
   pub restart_whole : (step : NodeStep) → ◌≡◌ {A = NodeAnswer} (Ok (record { made = []; node = restarted node })) (Ok step) → IsWholeAsBefore step
-  restart_whole step h = subst IsWholeAsBefore (Ok-is _ step h) refl
+  restart_whole step h = subst IsWholeAsBefore (Ok-node _ step h) refl
 
   pub offer_whole : (lsn : ℕ) (step : NodeStep) → offered group node lsn ≡ Ok step → IsWholeAsBefore step
   offer_whole lsn step h =
@@ -120,7 +118,7 @@ module _ (plan : Plan) (group x : ℕ) (node : Node) where
     where
       go : (found : Option Redo) → gossip_of group node found ≡ Ok step → IsWholeAsBefore step
       go None h = cc
-      go (Some r) h = subst IsWholeAsBefore (Ok-is _ step h) refl
+      go (Some r) h = subst IsWholeAsBefore (Ok-node _ step h) refl
 
 -- ---- an authority's configurations
 

@@ -21,26 +21,8 @@ use Rattle.world.proofs.OneNode.{set-read}
 use Rattle.world.proofs.Steps.{client_steps}
 use Rattle.world.proofs.actors.Actors.client_step.Goals as goal
 
-pub returns-in-Some-clause-good : goal.returns-in-Some-clause-good
-returns-in-Some-clause-good c =
-    let self = c.args.self.now in
-    let kept : List (Option (Box Client)) = self.clients.items in
-    let home : Box Client = c.in-Some.client in
-    let old : Client = c.deref_mut.result.now in
-    let new : Client = c.act.new.client in
-    let later : Box Client = with_value home new in
-    let within : c.args.volume < length kept = search rules in
-    let there : client_in kept c.args.volume ≡ Some home = found_in kept c.args.volume c.index_mut.result.now (Some home) within c.index_mut.ensures.value c.in-Some.is in
-    let own : IsClientOf (plan_of self) c.args.volume old = subst (IsClientOf (plan_of self) c.args.volume) (sym c.deref_mut.ensures.value) (c.requires.clients c.args.volume home there) in
-    record {
-      plan = c.requires.plan;
-      homes = c.requires.homes;
-      low = c.requires.low;
-      clients = clients_on kept (set kept c.args.volume (Some later)) c.args.volume later (set_put kept c.args.volume later within) (plan_of self) c.requires.clients (same_client (plan_of self) c.args.volume old new own c.act.ensures.same);
-    }
-
-pub returns-in-Some-clause-steps : goal.returns-in-Some-clause-steps
-returns-in-Some-clause-steps c =
+pub returns-in-Some : goal.returns-in-Some
+returns-in-Some c =
     let self = c.args.self.now in
     let kept : List (Option (Box Client)) = self.clients.items in
     let home : Box Client = c.in-Some.client in
@@ -53,9 +35,18 @@ returns-in-Some-clause-steps c =
     let at : clients_of kept c.args.volume ≡ seen_client old = ap client_or_unborn there ∙ ap seen_client (sym c.deref_mut.ensures.value) in
     let asked : client_does (messages_in self) c.args.action (client_plan old) (client_volume old) (seen_client old) ≡ client_does (messages_in self) c.args.action (plan_of self) c.args.volume (clients_of kept c.args.volume) =
     λ i. client_does (messages_in self) c.args.action (own.plan_is i) (own.volume_is i) (sym at i) in
-    client_steps (authority_of self.authority) (node_at (plan_of self) (nodes_of self.nodes.items)) (clients_of kept) (messages_in self) c.args.volume (client_after_growth c.args.action) _ (seen_client old) (seen_client new) at (clients_of (set kept c.args.volume (Some later)))
-    (client_put kept (set kept c.args.volume (Some later)) c.args.volume later (set_put kept c.args.volume later within)) c.act.result (added (messages_of c.act.new.messages.items) [])
-    (subst (λ (d : ClientAnswer). ClientMoves (client_after_growth c.args.action) d (seen_client old) (messages_in self) c.act.result (seen_client new) (added (messages_of c.act.new.messages.items) [])) asked c.act.ensures.moves)
+    record {
+      good = record {
+        plan = c.requires.plan;
+        homes = c.requires.homes;
+        low = c.requires.low;
+        clients = clients_on kept (set kept c.args.volume (Some later)) c.args.volume later (set_put kept c.args.volume later within) (plan_of self) c.requires.clients (same_client (plan_of self) c.args.volume old new own c.act.ensures.same);
+      };
+      steps = client_steps (authority_of self.authority) (node_at (plan_of self) (nodes_of self.nodes.items)) (clients_of kept) (messages_in self) c.args.volume (client_after_growth c.args.action) _ (seen_client old) (seen_client new) at (clients_of (set kept c.args.volume (Some later)))
+          (client_put kept (set kept c.args.volume (Some later)) c.args.volume later (set_put kept c.args.volume later within)) c.act.result (added (messages_of c.act.new.messages.items) [])
+          (subst (λ (d : ClientAnswer). ClientMoves (client_after_growth c.args.action) d (seen_client old) (messages_in self) c.act.result (seen_client new) (added (messages_of c.act.new.messages.items) [])) asked c.act.ensures.moves);
+      plan = search rules;
+    }
 
 pub absent_step-requires-in-None-clause-actors : goal.absent_step-requires-in-None-clause-actors
 absent_step-requires-in-None-clause-actors c =
