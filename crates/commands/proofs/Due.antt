@@ -1,5 +1,5 @@
 -- Which answer is due, from one part of a job to the next.
-use Rattle.std.proofs.Common.{◌≡◌, ◌≤◌, ◌∙◌, ap, ap₂, inl, inr, sym, subst, refl, ℕ, List, Some, Result, Ok, Err, IfOk, IfErr, length, string_bytes, vec_len, arith}
+use Rattle.std.proofs.Common.{◌≡◌, ◌∙◌, ap, inl, inr, sym, subst, refl, true, ℕ, List, Some, Result, Ok, Err, IfOk, IfErr, length, vec_len, arith}
 use Rattle.std.proofs.lemmas.List.{length-map}
 use Rattle.volume_model.specs.Plan as model
 use Rattle.plan.specs.CheckedModel.{checked_model}
@@ -7,24 +7,20 @@ use Rattle.plan.specs.Plan.{plan_data}
 use Rattle.plan.specs.PlanData.{PlanData, model_of}
 use Rattle.plan.specs.declared.checked.CheckedPlan.{CheckedPlan}
 use Rattle.plan.specs.declared.fault.PlanFault.{PlanFault}
-use Rattle.drivers.specs.Script.{IsFirstBad, ReadsScript}
+use Rattle.drivers.specs.Script.{ReadsScript}
 use Rattle.drivers.specs.Seen.{asked_by}
 use Rattle.drivers.specs.declared.reading.Script.{Script}
 use Rattle.drivers.specs.declared.reading.ScriptFault.{ScriptFault}
 use Rattle.drivers.specs.declared.reading.ScriptFault.TheVariants as scripts
-use Rattle.commands.specs.Answer.{Answer, IsSaid, fault_answer, printed}
-use Rattle.commands.specs.Answers.{AnswersOf, BothAnswer, ChecksTo, File, IsBadScript, PlanAnswers, ScriptAnswers, PrintsFleetOf, PrintsOrders, PrintsScript}
+use Rattle.commands.specs.Answer.{Answer, IsSaid, Says, fault_answer, unreadable}
+use Rattle.commands.specs.Answers.{AnswersOf, BothAnswer, File, IsBadScript, IsText, PlanAnswers, ScriptAnswers, PrintsFleetOf, PrintsOrders, PrintsScript}
 use Rattle.commands.specs.Answers.AnswersOf.{read, unread, unmade}
 use Rattle.commands.specs.Answers.PlanAnswers.{faulty, certified}
-use Rattle.commands.specs.Makes.{MakesTo}
 use Rattle.commands.specs.Read.{IsPlanOf, IsRead, IsScriptOf}
-use Rattle.commands.specs.Searched.{SearchesTo, PrintsSearch, claims_of, found_answer}
-use Rattle.commands.specs.Stops.{StopsAtLine, StopsBy, answer_of, script_stop, stop_answer}
-use Rattle.commands.specs.RunText.{plan_line}
+use Rattle.commands.specs.Stops.{StopsAtLine, StopsBy, answer_of, said, script_stop, stop_answer}
 use Rattle.commands.specs.FleetText.{PrintsFleet}
 use Rattle.commands.specs.Verdict.{IsCertifiedText, text_fault}
 use Rattle.commands.specs.declared.inputs.PlanAndScript.{PlanAndScript}
-use Rattle.commands.specs.declared.reply.Found.{Found}
 use Rattle.commands.specs.declared.reply.Reply.{Reply}
 use Rattle.commands.specs.declared.reply.Stop.{Stop}
 use Rattle.commands.specs.declared.reply.Stop.TheVariants as stops
@@ -45,43 +41,62 @@ never_plan E text a (certified whole bad) = absurd bad
 pub never_certified : (E : PlanData → Answer → Type 0) (file : File) (a : Answer) → AnswersOf file (λ text. PlanAnswers text (λ _ _. ⊥)) a → AnswersOf file (λ text. PlanAnswers text E) a
 never_certified E file a h = weaker_file (λ text. PlanAnswers text (λ _ _. ⊥)) (λ text. PlanAnswers text E) file a (λ text p. never_plan E text a p) h
 
--- memory ran out
-pub memory_out : (E : List ℕ → Answer → Type 0) (file : File) (stop : Stop) → stop ≡ stops.NoMemory → AnswersOf file E (stop_answer stop)
-memory_out E file stop e = unmade (ap stop_answer e)
-
--- a fault of which this is so is the answer
-pub fault_due : (P : PlanFault → Type 0) (E : List ℕ → Answer → Type 0) (file : File) (h : IsRead file (λ text. (fault : PlanFault) → P fault → E text (fault_answer fault))) (stop : Stop) → StopsBy P stop → AnswersOf file E (stop_answer stop)
-fault_due P E file h (stops.Unreadable name) bad = absurd bad
-fault_due P E file h (stops.Plan fault) p = read h.text h.whole h.is_text (h.is_so fault p)
-fault_due P E file h (stops.Placed lines fault) bad = absurd bad
-fault_due P E file h (stops.Line number) bad = absurd bad
-fault_due P E file h (stops.Number number) bad = absurd bad
-fault_due P E file h stops.NoMemory p = unmade refl
-
--- ---- a check
-
 -- the plan of a file, as its text
 abbrev pub whole_text : (text : List ℕ) (plan : CheckedPlan) → IsPlanOf text plan → IsCertifiedText text
 whole_text text plan h = record { plan = plan_data plan.plan; spelled = h.spelled; faultless = h.faultless; certified = h.certified }
+
+-- a file that can't be read
+pub unread_due : (E : List ℕ → Answer → Type 0) (file : File) (a : Answer) → file.failed ≡ true → IsSaid (unreadable file.name) a → AnswersOf file E a
+unread_due E file a failed (inl is) = unread failed is
+unread_due E file a failed (inr out) = unmade out
+
+-- what is said to the text of a file, as it was read
+pub text_due : (E : List ℕ → Answer → Type 0) (file : File) (items text : List ℕ) (a : Answer) → IsRead file (λ t. items ≡ t) → text ≡ items → Says (E text) a → AnswersOf file E a
+text_due E file items text a h e (inl due) = read h.text h.whole h.is_text (subst (λ t. E t a) (e ∙ h.is_so) due)
+text_due E file items text a h e (inr out) = unmade out
+
+-- what is said to the plan of a file
+pub plan_due : (D : PlanData → Answer → Type 0) (file : File) (plan : CheckedPlan) (a : Answer) → IsRead file (λ text. IsPlanOf text plan) → Says (D (plan_data plan.plan)) a → AnswersOf file (λ text. PlanAnswers text D) a
+plan_due D file plan a h (inl due) = read h.text h.whole h.is_text (certified (whole_text h.text plan h.is_so) due)
+plan_due D file plan a h (inr out) = unmade out
+
+-- ---- results
+
+-- a reply, or running out of memory
+pub reply_says : (D : Answer → Type 0) (r : Result Reply Stop) → IfOk r (λ reply. D (said reply)) → IfErr r (λ stop. stop ≡ stops.NoMemory) → Says D (answer_of r)
+reply_says D (Ok reply) due out = inl due
+reply_says D (Err stop) due out = inr (ap stop_answer out)
+
+-- a stop for a fault, whose answer is due
+pub stop_says : (P : PlanFault → Type 0) (D : Answer → Type 0) (stop : Stop) → ((fault : PlanFault) → P fault → D (fault_answer fault)) → StopsBy P stop → Says D (stop_answer stop)
+stop_says P D (stops.Unreadable name) f bad = absurd bad
+stop_says P D (stops.Plan fault) f is = inl (f fault is)
+stop_says P D (stops.Placed lines fault) f bad = absurd bad
+stop_says P D (stops.Line number) f bad = absurd bad
+stop_says P D (stops.Number number) f bad = absurd bad
+stop_says P D stops.NoMemory f is = inr refl
+
+-- a reply, or such a stop
+pub plan_says : (P : PlanFault → Type 0) (D : Answer → Type 0) (r : Result Reply Stop) → ((fault : PlanFault) → P fault → D (fault_answer fault)) → IfOk r (λ reply. D (said reply)) → IfErr r (StopsBy P) → Says D (answer_of r)
+plan_says P D (Ok reply) f due stopped = inl due
+plan_says P D (Err stop) f due stopped = stop_says P D stop f stopped
+
+-- a stop for some fault
+pub any_fault : (P : PlanFault → Type 0) (stop : Stop) → StopsBy P stop → StopsBy (λ fault. Unit {0}) stop
+any_fault P (stops.Unreadable name) bad = absurd bad
+any_fault P (stops.Plan fault) is = tt
+any_fault P (stops.Placed lines fault) bad = absurd bad
+any_fault P (stops.Line number) bad = absurd bad
+any_fault P (stops.Number number) bad = absurd bad
+any_fault P stops.NoMemory is = tt
 
 -- the text of a file has a fault, or memory ran out
 pub text_stops : (file : File) (items text : List ℕ) (r : Result CheckedPlan Stop) → IsRead file (λ t. items ≡ t) → text ≡ items → IfErr r (StopsBy (λ fault. text_fault text ≡ Some fault))
     → IfErr r (λ stop. AnswersOf file (λ t. PlanAnswers t (λ _ _. ⊥)) (stop_answer stop))
 text_stops file items text (Ok plan) h e s = tt
 text_stops file items text (Err stop) h e s =
-    fault_due (λ fault. text_fault text ≡ Some fault) (λ t. PlanAnswers t (λ _ _. ⊥)) file
-    (record { text = h.text; whole = h.whole; is_text = h.is_text; is_so = λ fault is. faulty fault (ap text_fault (sym (e ∙ h.is_so)) ∙ is) refl }) stop s
-
--- the result of a checked plan
-pub plan_prints : (file : File) (plan : CheckedPlan) (r : Result Reply Stop) → IsRead file (λ text. IsPlanOf text plan) → IfOk r (λ reply. reply.status ≡ 0) → IfOk r (λ reply. string_bytes reply.text ≡ plan_line (checked_model plan))
-    → IfErr r (λ stop. stop ≡ stops.NoMemory) → AnswersOf file ChecksTo (answer_of r)
-plan_prints file plan (Ok reply) h zero line none = read h.text h.whole h.is_text (certified (whole_text h.text plan h.is_so) (ap₂ printed zero line))
-plan_prints file plan (Err stop) h zero line memory = memory_out ChecksTo file stop memory
-
--- the result of what is made of a checked plan
-pub made_due : (file : File) (plan : CheckedPlan) (r : Result Reply Stop) → IsRead file (λ text. IsPlanOf text plan) → IfOk r (λ reply. reply.status ≤ 1) → IfErr r (λ stop. stop ≡ stops.NoMemory) → AnswersOf file MakesTo (answer_of r)
-made_due file plan (Ok reply) h small none = read h.text h.whole h.is_text (certified (whole_text h.text plan h.is_so) (small, refl))
-made_due file plan (Err stop) h small memory = memory_out MakesTo file stop memory
+    text_due (λ t. PlanAnswers t (λ _ _. ⊥)) file items text (stop_answer stop) h e
+    (stop_says (λ fault. text_fault text ≡ Some fault) (PlanAnswers text (λ _ _. ⊥)) stop (λ fault is. faulty fault is refl) s)
 
 -- ---- a script over a plan
 
@@ -90,18 +105,18 @@ pub line_stops : (text : List ℕ) (fault : ScriptFault) (stop : Stop) → stop 
 line_stops text scripts.NoMemory stop e h = subst (λ (s : Stop). StopsAtLine text s) (sym e) tt
 line_stops text (scripts.Line number) stop e h = subst (λ (s : Stop). StopsAtLine text s) (sym e) h
 
-line_due : (file : File) (text : List ℕ) (h : IsRead file (λ t. text ≡ t)) (stop : Stop) → StopsAtLine text stop → AnswersOf file IsBadScript (stop_answer stop)
-line_due file text h (stops.Unreadable name) bad = absurd bad
-line_due file text h (stops.Plan fault) bad = absurd bad
-line_due file text h (stops.Placed lines fault) bad = absurd bad
-line_due file text h (stops.Line number) bad = read h.text h.whole h.is_text (record { number = number; first = subst (λ t. IsFirstBad t number) h.is_so bad; answered = refl })
-line_due file text h (stops.Number number) bad = absurd bad
-line_due file text h stops.NoMemory bad = unmade refl
+line_says : (text : List ℕ) (stop : Stop) → StopsAtLine text stop → Says (IsBadScript text) (stop_answer stop)
+line_says text (stops.Unreadable name) bad = absurd bad
+line_says text (stops.Plan fault) bad = absurd bad
+line_says text (stops.Placed lines fault) bad = absurd bad
+line_says text (stops.Line number) is = inl (record { number = number; first = is; answered = refl })
+line_says text (stops.Number number) bad = absurd bad
+line_says text stops.NoMemory is = inr refl
 
 -- the text of a file has a bad line, or memory ran out
 pub script_stops : (file : File) (items text : List ℕ) (r : Result Script Stop) → IsRead file (λ t. items ≡ t) → text ≡ items → IfErr r (StopsAtLine text) → IfErr r (λ stop. AnswersOf file IsBadScript (stop_answer stop))
 script_stops file items text (Ok script) h e s = tt
-script_stops file items text (Err stop) h e s = line_due file text (record { text = h.text; whole = h.whole; is_text = h.is_text; is_so = e ∙ h.is_so }) stop s
+script_stops file items text (Err stop) h e s = text_due IsBadScript file items text (stop_answer stop) h e (line_says text stop s)
 
 -- what is printed of a script
 abbrev pub LineResult : Type 1
@@ -137,51 +152,36 @@ never_reported T script file a h = weaker_file (BothAnswer unreported script) (B
 
 -- the result of the script of a file
 script_reported : (T : LineResult) (file : File) (script : Script) (r : Result Reply Stop) → IsRead file (λ text. IsScriptOf text script)
-    → ((text : List ℕ) → IsScriptOf text script → IfOk r (λ reply. T text reply.status (string_bytes reply.text))) → IfErr r (λ stop. stop ≡ stops.NoMemory) → AnswersOf file (ScriptAnswers T) (answer_of r)
-script_reported T file script (Ok reply) h reported none = read h.text h.whole h.is_text (inr (reported h.text h.is_so, refl))
-script_reported T file script (Err stop) h reported memory = memory_out (ScriptAnswers T) file stop memory
+    → ((text : List ℕ) → IsScriptOf text script → IfOk r (λ reply. IsText (T text) (said reply))) → IfErr r (λ stop. stop ≡ stops.NoMemory) → AnswersOf file (ScriptAnswers T) (answer_of r)
+script_reported T file script (Ok reply) h reported none = read h.text h.whole h.is_text (inr (reported h.text h.is_so))
+script_reported T file script (Err stop) h reported memory = unmade (ap stop_answer memory)
 
 -- the same, over the plan of a file
 pub both_reported : (T : PlanPrinting) (file file' : File) (plan : CheckedPlan) (script : Script) (r : Result Reply Stop) → IsRead file (λ text. IsPlanOf text plan) → IsRead file' (λ text. IsScriptOf text script)
-    → ((text : List ℕ) → IsScriptOf text script → IfOk r (λ reply. T (checked_model plan) text reply.status (string_bytes reply.text))) → IfErr r (λ stop. stop ≡ stops.NoMemory) → AnswersOf file (BothAnswer T file') (answer_of r)
+    → ((text : List ℕ) → IsScriptOf text script → IfOk r (λ reply. IsText (T (checked_model plan) text) (said reply))) → IfErr r (λ stop. stop ≡ stops.NoMemory) → AnswersOf file (BothAnswer T file') (answer_of r)
 both_reported T file file' plan script r p h reported memory =
     read p.text p.whole p.is_text (certified (whole_text p.text plan p.is_so) (script_reported (T (checked_model plan)) file' script r h reported memory))
 
 -- the result of the run of a script's orders
-pub run_reported : (plan : model.Plan) (script : Script) (r : Result Reply Stop) → IfOk r (λ reply. PrintsOrders plan script.steps.items script.orders.items reply.status (string_bytes reply.text))
-    → (text : List ℕ) → IsScriptOf text script → IfOk r (λ reply. PrintsScript plan text reply.status (string_bytes reply.text))
-run_reported plan script (Ok reply) reported text is =
-    record {
-      actions = is.actions;
-      spelled = is.spelled;
-      orders = script.orders.items;
-      asked = is.keeps.orders_are;
-      reported = subst (λ steps. PrintsOrders plan steps script.orders.items reply.status (string_bytes reply.text)) is.keeps.steps_are reported;
-    }
+pub run_reported : (plan : model.Plan) (script : Script) (r : Result Reply Stop) → IfOk r (λ reply. IsText (PrintsOrders plan script.steps.items script.orders.items) (said reply))
+    → (text : List ℕ) → IsScriptOf text script → IfOk r (λ reply. IsText (PrintsScript plan text) (said reply))
+run_reported plan script (Ok reply) (reported, quiet) text is = (
+  record {
+    actions = is.actions;
+    spelled = is.spelled;
+    orders = script.orders.items;
+    asked = is.keeps.orders_are;
+    reported = subst (λ steps. PrintsOrders plan steps script.orders.items reply.status reply.out.items) is.keeps.steps_are reported;
+  },
+  quiet,
+)
 run_reported plan script (Err stop) reported text is = tt
 
 -- the result of a run of as many orders on threads
-pub fleet_reported : (plan : model.Plan) (script : Script) (r : Result Reply Stop) → IfOk r (λ reply. PrintsFleet plan (vec_len script.orders) reply.status (string_bytes reply.text))
-    → (text : List ℕ) → IsScriptOf text script → IfOk r (λ reply. PrintsFleetOf plan text reply.status (string_bytes reply.text))
-fleet_reported plan script (Ok reply) reported text is =
+pub fleet_reported : (plan : model.Plan) (script : Script) (r : Result Reply Stop) → IfOk r (λ reply. IsText (PrintsFleet plan (vec_len script.orders)) (said reply))
+    → (text : List ℕ) → IsScriptOf text script → IfOk r (λ reply. IsText (PrintsFleetOf plan text) (said reply))
+fleet_reported plan script (Ok reply) (reported, quiet) text is =
     let len : vec_len script.orders ≡ length script.orders.items = omega (arith, script.orders.ok.0) in
     let counted = len ∙ sym (length-map script.orders.items asked_by) ∙ ap length is.keeps.orders_are in
-    record { actions = is.actions; spelled = is.spelled; reported = subst (λ n. PrintsFleet plan n reply.status (string_bytes reply.text)) counted reported }
+    (record { actions = is.actions; spelled = is.spelled; reported = subst (λ n. PrintsFleet plan n reply.status reply.out.items) counted reported }, quiet)
 fleet_reported plan script (Err stop) reported text is = tt
-
--- ---- a search
-
-pub search_prints : (file : File) (items text : List ℕ) (r : Result Found Stop) → IsRead file (λ t. items ≡ t) → text ≡ items
-    → IfOk r (λ found. PrintsSearch text found.status found.plan.items (string_bytes found.unfound)) → IfErr r (StopsBy (λ fault. claims_of text ≡ Err fault)) → AnswersOf file SearchesTo (found_answer r)
-search_prints file items text (Ok found) h e reported stop =
-    read h.text h.whole h.is_text (inr (subst (λ t. PrintsSearch t found.status found.plan.items (string_bytes found.unfound)) (e ∙ h.is_so) reported))
-search_prints file items text (Err stop) h e reported s =
-    fault_due (λ fault. claims_of text ≡ Err fault) SearchesTo file
-    (record { text = h.text; whole = h.whole; is_text = h.is_text; is_so = λ fault is. inl (fault, ap claims_of (sym (e ∙ h.is_so)) ∙ is, refl) }) stop s
-
--- ---- what is said
-
--- an answer, or running out of memory
-pub said_due : (E : List ℕ → Answer → Type 0) (file : File) (a said : Answer) → AnswersOf file E a → IsSaid a said → AnswersOf file E said
-said_due E file a said h (inl e) = subst (λ b. AnswersOf file E b) (sym e) h
-said_due E file a said h (inr e) = unmade e

@@ -1,5 +1,5 @@
 -- What an explanation says of a plan.
-use Rattle.std.proofs.Common.{◌≡◌, ◌∙◌, ap, inl, inr, sym, subst, refl, ℕ, List, [], ◌∷◌, ◌++◌, append_assoc, Bool, true, false, codes, Some, Result, Ok, Err, IfOk, IfErr, None, string_bytes}
+use Rattle.std.proofs.Common.{◌≡◌, ◌∙◌, ap, sym, subst, refl, ℕ, List, [], ◌∷◌, ◌++◌, append_assoc, Bool, true, false, codes, Some, Ok, Err, None}
 use Rattle.plan.specs.CheckedModel.{checked_model}
 use Rattle.plan.specs.FaultKinds.{is_input}
 use Rattle.plan.specs.Plan.{plan_data}
@@ -11,16 +11,13 @@ use Rattle.plan.specs.declared.checked.CheckedPlan.{CheckedPlan}
 use Rattle.plan.specs.declared.configurations.Plan.{Plan}
 use Rattle.plan.specs.declared.fault.PlanFault.{PlanFault}
 use Rattle.volume_model.specs.Plan.{IsCertified}
-use Rattle.commands.specs.Answer.{Answer, fault_answer, line_answer, printed}
-use Rattle.commands.specs.Answers.{AnswersOf, ChecksTo, File}
-use Rattle.commands.specs.Answers.AnswersOf.{read, unread, unmade}
+use Rattle.commands.specs.Answer.{fault_answer, line_answer, printed}
 use Rattle.commands.specs.Answers.PlanAnswers.{faulty, certified}
-use Rattle.commands.specs.Explains.{ExplainsTo, IsExplained, above, below}
-use Rattle.commands.specs.Read.{IsPlanOf, IsRead}
+use Rattle.commands.specs.Explains.{ExplainsTo, above, below}
+use Rattle.commands.specs.Read.{IsPlanOf}
 use Rattle.commands.specs.RunText.{plan_line}
-use Rattle.commands.specs.Stops.{StopsBy, answer_of, is_input_stop, stop_answer, stop_line}
+use Rattle.commands.specs.Stops.{StopsBy, is_input_stop, stop_line}
 use Rattle.commands.specs.Verdict.{first_fault, text_fault}
-use Rattle.commands.specs.declared.reply.Reply.{Reply}
 use Rattle.commands.specs.declared.reply.Stop.{Stop}
 use Rattle.commands.specs.declared.reply.Stop.TheVariants as stops
 use Rattle.commands.proofs.Due.{whole_text}
@@ -36,7 +33,7 @@ lined lines line true = ap (λ t. line_answer true t) (sym (above_line lines lin
 lined lines line false = ap (λ t. line_answer false t) (sym (above_line lines line))
 
 -- the same of the text's first fault
-explains_fault : (text lines : List ℕ) (fault : PlanFault) → text_fault text ≡ Some fault → ExplainsTo text (line_answer (is_input fault) (lines ++ (plan_fault_text fault ++ codes "\n")))
+pub explains_fault : (text lines : List ℕ) (fault : PlanFault) → text_fault text ≡ Some fault → ExplainsTo text (line_answer (is_input fault) (lines ++ (plan_fault_text fault ++ codes "\n")))
 explains_fault text lines fault is = record {
   lines = lines;
   checked = fault_answer fault;
@@ -48,24 +45,6 @@ explains_fault text lines fault is = record {
 pub explains_placed : (text lines : List ℕ) (fault : PlanFault) → plan_of text ≡ Err fault → ExplainsTo text (line_answer (is_input fault) (lines ++ plan_fault_text fault ++ codes "\n"))
 explains_placed text lines fault is =
     subst (λ t. ExplainsTo text (line_answer (is_input fault) t)) (sym (append_assoc lines (plan_fault_text fault) (codes "\n"))) (explains_fault text lines fault (ap first_fault is))
-
--- a text without a plan, or running out of memory
-pub stop_explained : (text : List ℕ) (stop : Stop) → StopsBy (λ fault. text_fault text ≡ Some fault) stop → IsExplained text (stop_answer stop)
-stop_explained text (stops.Unreadable name) bad = absurd bad
-stop_explained text (stops.Placed lines fault) bad = absurd bad
-stop_explained text (stops.Line number) bad = absurd bad
-stop_explained text (stops.Number number) bad = absurd bad
-stop_explained text stops.NoMemory bad = inr refl
-stop_explained text (stops.Plan fault) is = inl (explains_fault text [] fault is)
-
--- the same where a plan couldn't be read
-pub unread_explained : (text : List ℕ) (stop : Stop) → StopsBy (λ fault. plan_of text ≡ Err fault) stop → IsExplained text (stop_answer stop)
-unread_explained text (stops.Unreadable name) bad = absurd bad
-unread_explained text (stops.Placed lines fault) bad = absurd bad
-unread_explained text (stops.Line number) bad = absurd bad
-unread_explained text (stops.Number number) bad = absurd bad
-unread_explained text stops.NoMemory bad = inr refl
-unread_explained text (stops.Plan fault) is = stop_explained text (stops.Plan fault) (ap first_fault is)
 
 -- lines, and the line of a plan without a fault
 explains_yes : (text words line all : List ℕ) (plan : CheckedPlan) → IsPlanOf text plan → line ≡ plan_line (checked_model plan) → all ≡ words ++ line → ExplainsTo text (printed 0 all)
@@ -95,30 +74,3 @@ explains_no text lines all plan stops.NoMemory spelled bad refused e = absurd cc
 explains_no text lines all plan (stops.Plan fault) spelled is refused e =
     subst (λ a. ExplainsTo text a) (ap (λ input. line_answer input (lines ++ stop_line (stops.Plan fault))) refused ∙ ap (printed 1) (sym e))
     (explains_fault text lines fault (ap first_fault spelled ∙ is))
-
--- the same of a fault that stops a check of the plan
-plan_stopped : (text : List ℕ) (plan : PlanData) (stop : Stop) → plan_of text ≡ Ok plan → StopsBy (λ fault. plan_fault plan ≡ Some fault) stop → IsExplained text (stop_answer stop)
-plan_stopped text plan (stops.Unreadable name) spelled bad = absurd bad
-plan_stopped text plan (stops.Placed lines fault) spelled bad = absurd bad
-plan_stopped text plan (stops.Line number) spelled bad = absurd bad
-plan_stopped text plan (stops.Number number) spelled bad = absurd bad
-plan_stopped text plan stops.NoMemory spelled bad = inr refl
-plan_stopped text plan (stops.Plan fault) spelled is = stop_explained text (stops.Plan fault) (ap first_fault spelled ∙ is)
-
--- the explanation of a text that spells a plan
-pub plan_explained : (text : List ℕ) (plan : PlanData) (r : Result Reply Stop) → plan_of text ≡ Ok plan → (plan_of text ≡ Ok plan → IfOk r (λ reply. ExplainsTo text (printed reply.status (string_bytes reply.text))))
-    → IfErr r (StopsBy (λ fault. plan_fault plan ≡ Some fault)) → IsExplained text (answer_of r)
-plan_explained text plan (Ok reply) spelled said stopped = inl (said spelled)
-plan_explained text plan (Err stop) spelled said stopped = plan_stopped text plan stop spelled stopped
-
--- the explanation of a file's text
-pub explains_text : (file : File) (items text : List ℕ) (answer : Answer) → IsRead file (λ t. items ≡ t) → text ≡ items → IsExplained text answer → AnswersOf file ExplainsTo answer
-explains_text file items text answer h e (inl due) = read h.text h.whole h.is_text (subst (λ t. ExplainsTo t answer) (e ∙ h.is_so) due)
-explains_text file items text answer h e (inr out) = unmade out
-
--- an explanation has the status of a check, and says nothing to standard error where that says nothing
-pub as_checked : (file : File) (a : Answer) → AnswersOf file ExplainsTo a → (checked : Answer) × AnswersOf file ChecksTo checked × (a.status ≡ checked.status) × (checked.err ≡ [] → a.err ≡ [])
-as_checked file a (read text whole is due) =
-    (due.checked, read text whole is due.due, ap (λ (b : Answer). b.status) due.is, λ quiet. ap (λ (b : Answer). b.err) due.is ∙ ap (λ t. above due.lines t) quiet)
-as_checked file a (unread failed is) = (a, unread failed is, refl, λ quiet. quiet)
-as_checked file a (unmade is) = (a, unmade is, refl, λ quiet. quiet)

@@ -26,9 +26,9 @@ delivered out err answer status out_old out_new err_old mid err_new g (inr (is, 
 delivered out err answer status out_old out_new err_old mid err_new g (inr (is, broken, inr too)) = unprinted is broken (inr too)
 
 -- an answer that is due is one that is due otherwise
-pub ends_by : {O E : Type 0} (out : O → Option (List ℕ)) (err : E → Option (List ℕ)) (P Q : Answer → Type 0) (status : ℕ) (out_old out_new : Output O) (err_old err_new : Output E)
-    → ((answer : Answer) → P answer → Q answer) → Ends out err P status out_old out_new err_old err_new → Ends out err Q status out_old out_new err_old err_new
-ends_by out err P Q status out_old out_new err_old err_new f h = record { answer = h.answer; due = f h.answer h.due; given = h.given }
+pub ends_by : {O E : Type 0} {out : O → Option (List ℕ)} {err : E → Option (List ℕ)} {P Q : Answer → Type 0} {status : ℕ} {out_old out_new : Output O} {err_old err_new : Output E}
+    → Ends out err P status out_old out_new err_old err_new → ((answer : Answer) → P answer → Q answer) → Ends out err Q status out_old out_new err_old err_new
+ends_by h f = record { answer = h.answer; due = f h.answer h.due; given = h.given }
 
 -- the same of what was given under other names
 pub ends_as : {O E : Type 0} (out : O → Option (List ℕ)) (err : E → Option (List ℕ)) (Due : Answer → Type 0) (status : ℕ) (out_old out_new : Output O) (err_old err_new : Output E) (wanted : ℕ) (text text' notes notes' : List ℕ)

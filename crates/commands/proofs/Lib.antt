@@ -7,14 +7,13 @@ pub mod Due
 pub mod ExplainedPlans
 pub mod ExplainedScripts
 pub mod Failing
-pub mod FaultQueries
 pub mod Findings
 pub mod Fitting
 pub mod Given
 pub mod Says
+pub mod Quiet
+pub mod JobAnswers
 pub mod Searching
 pub mod Printing
-pub mod Edits
-pub mod Drawn
 pub mod Layouts
 pub mod Placed

@@ -1,18 +1,17 @@
 -- What an exit status says.
-use Rattle.std.proofs.Common.{◌≡◌, ap, inl, inr, subst, ℕ, ◌<◌, List, [], Bool, true, false, Option, Some, None, IfSome, take, arith}
+use Rattle.std.proofs.Common.{◌≡◌, ◌∙◌, ap, inl, inr, subst, sym, ℕ, ◌<◌, List, [], Bool, true, false, Option, Some, None, IfSome, take, arith}
 use Rattle.plan.specs.FaultKinds.{is_input}
-use Rattle.commands.specs.Answer.{Answer, IsSaid, line_answer}
-use Rattle.commands.specs.Answers.{AnswersOf, ChecksTo, File}
+use Rattle.plan.specs.PlanData.{PlanData}
+use Rattle.commands.specs.Answer.{Answer, line_answer}
+use Rattle.commands.specs.Answers.{AnswersOf, ChecksTo, File, PlanAnswers}
 use Rattle.commands.specs.Answers.AnswersOf.{read, unread, unmade}
 use Rattle.commands.specs.Answers.PlanAnswers.{faulty, certified}
-use Rattle.commands.specs.Reports.{ChecksFault}
+use Rattle.commands.specs.Reports.{ExplainsAs}
 use Rattle.commands.specs.Searched.{SearchesTo}
-use Rattle.commands.specs.Stops.{is_input_stop, stop_answer, stop_line}
 use Rattle.commands.specs.Streams.{Delivers, Ends, Gets, IsTextOf}
 use Rattle.commands.specs.Streams.Delivers.{given, unreported, unprinted}
 use Rattle.commands.specs.Verdict.{IsCertifiedText, IsFaultyText}
 use Rattle.commands.specs.declared.outputs.Output.{Output}
-use Rattle.commands.specs.declared.reply.Stop.{Stop}
 use Rattle.commands.proofs.Searching.{is_quiet}
 
 -- the text of a file whose bytes are known
@@ -21,7 +20,7 @@ known P None text is p = tt
 known P (Some bytes) text is p = subst P is p
 
 -- a line is no yes, and that of an input is no refusal either
-not_yes : (a : Answer) (input : Bool) (line : List ℕ) → a ≡ line_answer input line → a.status ≡ 0 → ⊥
+pub not_yes : (a : Answer) (input : Bool) (line : List ℕ) → a ≡ line_answer input line → a.status ≡ 0 → ⊥
 not_yes a true line e zero = let two = ap (λ (b : Answer). b.status) e in absurd (omega arith)
 not_yes a false line e zero = let one = ap (λ (b : Answer). b.status) e in absurd (omega arith)
 
@@ -29,49 +28,38 @@ not_no : (a : Answer) (line : List ℕ) → a ≡ line_answer true line → a.st
 not_no a line e one = let two = ap (λ (b : Answer). b.status) e in absurd (omega arith)
 
 -- an answer below 2 was given
-was_given : {O E : Type 0} (out : O → Option (List ℕ)) (err : E → Option (List ℕ)) (a : Answer) (status : ℕ) (out_old out_new : Output O) (err_old err_new : Output E)
+was_given : {O E : Type 0} {out : O → Option (List ℕ)} {err : E → Option (List ℕ)} {a : Answer} {status : ℕ} {out_old out_new : Output O} {err_old err_new : Output E}
     → Delivers out err a status out_old out_new err_old err_new → status < 2 → (status ≡ a.status) × Gets err err_old err_new a.err
-was_given out err a status out_old out_new err_old err_new (given is printed reported) small = (is, reported)
-was_given out err a status out_old out_new err_old err_new (unreported is broken same) small = absurd (omega arith)
-was_given out err a status out_old out_new err_old err_new (unprinted is broken line) small = absurd (omega arith)
+was_given (given is printed reported) small = (is, reported)
+was_given (unreported is broken same) small = absurd (omega arith)
+was_given (unprinted is broken line) small = absurd (omega arith)
 
 -- a status below 2 is that of the answer, and what it says to standard error was written
-pub ends_below : {O E : Type 0} (out : O → Option (List ℕ)) (err : E → Option (List ℕ)) (Due : Answer → Type 0) (status : ℕ) (out_old out_new : Output O) (err_old err_new : Output E)
+pub ends_below : {O E : Type 0} {out : O → Option (List ℕ)} {err : E → Option (List ℕ)} {Due : Answer → Type 0} {status : ℕ} {out_old out_new : Output O} {err_old err_new : Output E}
     → Ends out err Due status out_old out_new err_old err_new → status < 2 → (a : Answer) × Due a × (status ≡ a.status) × Gets err err_old err_new a.err
-ends_below out err Due status out_old out_new err_old err_new h small =
-    let was = was_given out err h.answer status out_old out_new err_old err_new h.given small in
-    (h.answer, h.due, was.0, was.1)
+ends_below h small = let was = was_given h.given small in (h.answer, h.due, was.0, was.1)
 
 -- a line with a status below 2 is no input's, so that nothing is written to standard error
-line_quiet : (a : Answer) (input : Bool) (line : List ℕ) → a ≡ line_answer input line → a.status < 2 → a.err ≡ []
+pub line_quiet : (a : Answer) (input : Bool) (line : List ℕ) → a ≡ line_answer input line → a.status < 2 → a.err ≡ []
 line_quiet a true line e small = let two = ap (λ (b : Answer). b.status) e in absurd (omega arith)
 line_quiet a false line e small = ap (λ (b : Answer). b.err) e
 
--- what is said with a status below 2 where a job ends before its own answer isn't said to standard error
-pub quiet_said : (stop : Stop) (a : Answer) → IsSaid (stop_answer stop) a → a.status < 2 → a.err ≡ []
-quiet_said stop a (inl is) small = line_quiet a (is_input_stop stop) (stop_line stop) is small
-quiet_said stop a (inr is) small = line_quiet a true _ is small
+-- the answer 0 about a plan's text, whatever is said of a plan without a fault
+pub certified_by : {D : PlanData → Answer → Type 0} (text : List ℕ) (a : Answer) → PlanAnswers text D a → a.status ≡ 0 → IsCertifiedText text
+certified_by text a (faulty fault bad said) zero = absurd (not_yes a (is_input fault) _ said zero)
+certified_by text a (certified h said) zero = h
 
--- the answer 0 of a check
-pub yes_due : (file : File) (a : Answer) → AnswersOf file ChecksTo a → a.status ≡ 0 → IfSome file.known (λ bytes. IsCertifiedText (take 16777217 bytes))
-yes_due file a (read text whole is (faulty fault bad said)) zero = absurd (not_yes a (is_input fault) _ said zero)
-yes_due file a (read text whole is (certified h said)) zero = known IsCertifiedText file.known text is h
-yes_due file a (unread failed said) zero = absurd (not_yes a true _ said zero)
-yes_due file a (unmade said) zero = absurd (not_yes a true _ said zero)
+-- the same of an explanation
+pub explained_yes : (json : Bool) (text : List ℕ) (a : Answer) → ExplainsAs json text a → a.status ≡ 0 → IsCertifiedText text
+explained_yes true text a due zero = certified_by text due.checked due.due (sym due.is.status_is ∙ zero)
+explained_yes false text a due zero = certified_by text due.checked due.due (sym (ap (λ (b : Answer). b.status) due.is) ∙ zero)
 
--- the answer 0 about a plan's file, whatever is said of a plan without a fault
-pub yes_fault : (file : File) (a : Answer) → ChecksFault file a → a.status ≡ 0 → IfSome file.known (λ bytes. IsCertifiedText (take 16777217 bytes))
-yes_fault file a (read text whole is (faulty fault bad said)) zero = absurd (not_yes a (is_input fault) _ said zero)
-yes_fault file a (read text whole is (certified h said)) zero = known IsCertifiedText file.known text is h
-yes_fault file a (unread failed said) zero = absurd (not_yes a true _ said zero)
-yes_fault file a (unmade said) zero = absurd (not_yes a true _ said zero)
-
--- an answer below 2 of a check says nothing to standard error
-pub quiet_due : (file : File) (a : Answer) → AnswersOf file ChecksTo a → a.status < 2 → a.err ≡ []
-quiet_due file a (read text whole is (faulty fault bad said)) small = line_quiet a (is_input fault) _ said small
-quiet_due file a (read text whole is (certified h said)) small = ap (λ (b : Answer). b.err) said
-quiet_due file a (unread failed said) small = line_quiet a true _ said small
-quiet_due file a (unmade said) small = line_quiet a true _ said small
+-- the same of the text of a file
+pub yes_of : (D : List ℕ → Answer → Type 0) (file : File) (a : Answer) → ((text : List ℕ) → D text a → a.status ≡ 0 → IsCertifiedText text) → AnswersOf file D a → a.status ≡ 0
+    → IfSome file.known (λ bytes. IsCertifiedText (take 16777217 bytes))
+yes_of D file a f (read text whole is due) zero = known IsCertifiedText file.known text is (f text due zero)
+yes_of D file a f (unread failed said) zero = absurd (not_yes a true _ said zero)
+yes_of D file a f (unmade said) zero = absurd (not_yes a true _ said zero)
 
 -- the answer 1 of a check
 pub no_due : (file : File) (a : Answer) → AnswersOf file ChecksTo a → a.status ≡ 1 → IfSome file.known (λ bytes. IsFaultyText (take 16777217 bytes))

@@ -1,5 +1,5 @@
 -- What the program answers.
-use Rattle.std.specs.Prelude.{◌≡◌, ◌⊎◌, ℕ, List, [], ◌++◌, Bool, true, false, codes}
+use Rattle.std.specs.Prelude.{◌≡◌, ◌⊎◌, ◌<◌, ℕ, List, [], ◌++◌, Bool, true, false, codes}
 use Rattle.std.specs.Fmt.{decimal}
 use Rattle.plan.specs.FaultKinds.{is_input}
 use Rattle.plan.specs.PlanFaultText.{plan_fault_text}
@@ -37,6 +37,14 @@ bad_line number = line_answer true (codes "input: line " ++ decimal number ++ co
 abbrev pub no_memory : Answer
 no_memory = line_answer true (codes "input: 9 NoMemory\n")
 
+-- The answer is one for which Due holds, or memory ran out.
+abbrev pub Says : (Answer → Type 0) → Answer → Type 0
+Says Due answer = Due answer ⊎ (answer ≡ no_memory)
+
 -- this is the answer, or memory ran out
 abbrev pub IsSaid : Answer → Answer → Type 0
-IsSaid answer said = (said ≡ answer) ⊎ (said ≡ no_memory)
+IsSaid answer = Says (λ said. said ≡ answer)
+
+-- an answer with a status below 2 says nothing to standard error
+abbrev pub IsQuiet : Answer → Type 0
+IsQuiet answer = answer.status < 2 → answer.err ≡ []

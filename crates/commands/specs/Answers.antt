@@ -56,10 +56,13 @@ pub record IsBadScript (script : List ℕ) (answer : Answer) : Type 0 where
   pub first : IsFirstBad script number
   pub answered : answer ≡ bad_line number
 
+-- such a status and text, and nothing to standard error
+abbrev pub IsText : (ℕ → List ℕ → Type 0) → Answer → Type 0
+IsText Prints answer = Prints answer.status answer.out × (answer.err ≡ [])
+
 -- the answer about a script's text: its first bad line, or what is printed
 abbrev pub ScriptAnswers : (List ℕ → ℕ → List ℕ → Type 0) → List ℕ → Answer → Type 0
-ScriptAnswers Prints script answer = IsBadScript script answer ⊎ (Prints script answer.status answer.out
-    × (answer.err ≡ []))
+ScriptAnswers Prints script answer = IsBadScript script answer ⊎ IsText (Prints script) answer
 
 -- The answer about a plan's text and a script's file: the plan's first fault; or the script's first bad line; or what
 -- is printed for the script over the plan.

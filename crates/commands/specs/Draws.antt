@@ -1,9 +1,9 @@
 -- The answers of `draw`.
-use Rattle.std.specs.Prelude.{◌≡◌, ◌≤◌, ◌⊎◌, ℕ, List, Ok, Err}
+use Rattle.std.specs.Prelude.{◌≡◌, ◌≤◌, ℕ, List, Ok, Err}
 use Rattle.plan.specs.PlanData.{PlanData}
 use Rattle.plan.specs.PlanText.{plan_of}
 use Rattle.plan.specs.declared.fault.PlanFault.{PlanFault}
-use Rattle.commands.specs.Answer.{Answer, fault_answer, no_memory, printed}
+use Rattle.commands.specs.Answer.{Answer, fault_answer, printed}
 use Rattle.commands.specs.Answers.{BothAnswer, File}
 
 -- The answer to a plan's text: the text's fault; or, to the text of a plan, a picture or a fault of the plan. The plan
@@ -14,10 +14,6 @@ pub data DrawsTo (text : List ℕ) (answer : Answer) : Type 0 where
       → DrawsTo text answer
   drawn : (plan : PlanData) → plan_of text ≡ Ok plan → (picture : List ℕ) → answer ≡ printed 0 picture
       → DrawsTo text answer
-
--- The answer is this one, or memory ran out.
-abbrev pub SaysPicture : List ℕ → Answer → Type 0
-SaysPicture text answer = DrawsTo text answer ⊎ (answer ≡ no_memory)
 
 -- The answer to a plan's text and a script's file: the plan's first fault; or the script's first bad line; or a
 -- picture, or a line that says why there is none.

@@ -1,6 +1,6 @@
 -- The answer of an explanation.
-use Rattle.std.specs.Prelude.{◌≡◌, ◌⊎◌, ℕ, List, [], ◌∷◌, ◌++◌}
-use Rattle.commands.specs.Answer.{Answer, no_memory}
+use Rattle.std.specs.Prelude.{◌≡◌, ℕ, List, [], ◌∷◌, ◌++◌}
+use Rattle.commands.specs.Answer.{Answer}
 use Rattle.commands.specs.Answers.{ChecksTo}
 
 -- a text with these lines above it, unless it is empty
@@ -19,7 +19,3 @@ pub record ExplainsTo (text : List ℕ) (answer : Answer) : Type 0 where
   pub checked : Answer
   pub due : ChecksTo text checked
   pub is : answer ≡ below lines checked
-
--- The answer is this one, or memory ran out.
-abbrev pub IsExplained : List ℕ → Answer → Type 0
-IsExplained text answer = ExplainsTo text answer ⊎ (answer ≡ no_memory)

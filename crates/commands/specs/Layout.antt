@@ -1,5 +1,5 @@
 -- JSON with and without blanks.
-use Rattle.std.specs.Prelude.{◌≡◌, ℕ, List, [], ◌∷◌, Bool, true, false, ◌==◌, ◌||◌, if◌then◌else◌}
+use Rattle.std.specs.Prelude.{ℕ, List, [], ◌∷◌, Bool, false, ◌==◌, ◌||◌, if◌then◌else◌}
 use Rattle.commands.specs.declared.layout.Place.{Place}
 use Rattle.commands.specs.declared.layout.Place.TheVariants.{Outside, Inside, Escaped}
 

@@ -23,5 +23,6 @@ pub mod Explains
 pub mod Reports
 pub mod ShownName
 pub mod FaultQuery
+pub mod JobAnswers
 pub mod Layout
 pub mod Places

@@ -1,8 +1,8 @@
 -- Where the answer of a job goes.
-use Rattle.std.specs.Prelude.{◌≡◌, ◌≢◌, ◌⊎◌, ◌≤◌, ℕ, List, [], ◌++◌, Bool, true, false, Option, None, Some, IfSome, IsSome, Vec, codes, length, option_map}
+use Rattle.std.specs.Prelude.{◌≡◌, ◌≢◌, ◌⊎◌, ◌≤◌, ℕ, List, ◌++◌, Bool, true, Option, None, Some, IfSome, IsSome, codes, length, option_map}
 use Rattle.commands.specs.Answer.{Answer}
 use Rattle.commands.specs.Layout.{squeezed}
-use Rattle.commands.specs.Streams.{Delivers, Gets, is_broken, unwritten_line, writer_of}
+use Rattle.commands.specs.Streams.{Delivers, Gets, is_broken, unwritten_line}
 use Rattle.commands.specs.declared.action.Job.{Job}
 use Rattle.commands.specs.declared.outputs.Output.{Output}
 
@@ -54,29 +54,15 @@ pub record SaysUnsaved {E : Type 0} (err : E → Option (List ℕ)) (name : Opti
   pub why : IsUnsaved name line
   pub said : Gets err old new line ⊎ (is_broken new ≡ true)
 
--- A file gets a text; or the status is 2, the file holds what it held, and standard error gets a line.
+-- A file gets a text, and standard error another; or the status is 2, the file holds what it held, and standard error
+-- gets one more line, unless it fails.
 pub data Saves {F E : Type 0} (holds : F → Option (List ℕ)) (err : E → Option (List ℕ)) (name : Option (List ℕ))
-    (text : List ℕ) (status : ℕ) (file_old file_new : F) (err_old err_new : Output E) : Type 0 where
-  saved : status ≡ 0 → IfSome (holds file_new) (λ bytes. bytes ≡ text) → err_new ≡ err_old
-      → Saves holds err name text status file_old file_new err_old err_new
-  unsaved : status ≡ 2 → holds file_new ≡ holds file_old → SaysUnsaved err name err_old err_new
-      → Saves holds err name text status file_old file_new err_old err_new
-
--- An answer was made whose text is to be brought to its place: standard error has its line, and the text is shown in
--- place of its own; or standard error has failed, and there is no text.
-pub data HasMade {E : Type 0} (err : E → Option (List ℕ)) (pretty : Bool) (answer : Answer) (status : ℕ) (text : List ℕ)
-    (before now : Output E) : Type 0 where
-  made : status ≡ answer.status → IsShown pretty answer.out text → Gets err before now answer.err
-      → HasMade err pretty answer status text before now
-  failed : status ≡ 2 → text ≡ [] → is_broken now ≡ true → HasMade err pretty answer status text before now
-
--- An answer was written to a vector in place of standard output.
-pub record KeptDelivery {A E : Type 0} (err : E → Option (List ℕ)) (answer : Answer) (status : ℕ)
-    (kept : Output (Vec ℕ A)) (before now : Output E) : Type 0 where
-  pub empty : Output (Vec ℕ A)
-  pub is_empty : (writer_of empty).items ≡ []
-  pub is_whole : is_broken empty ≡ false
-  pub given : Delivers (λ v. Some v.items) err answer status empty kept before now
+    (text notes : List ℕ) (status : ℕ) (file_old file_new : F) (err_old err_new : Output E) : Type 0 where
+  saved : status ≡ 0 → IfSome (holds file_new) (λ bytes. bytes ≡ text) → Gets err err_old err_new notes
+      → Saves holds err name text notes status file_old file_new err_old err_new
+  unsaved : status ≡ 2 → holds file_new ≡ holds file_old → (line : List ℕ) → IsUnsaved name line
+      → Gets err err_old err_new (notes ++ line) ⊎ (is_broken err_new ≡ true)
+      → Saves holds err name text notes status file_old file_new err_old err_new
 
 -- the name of the file to which a job's text goes, if one is named
 abbrev pub output_of : Job → Option (List ℕ)

@@ -1,16 +1,12 @@
 -- The answer of a replacement of a member.
-use Rattle.std.specs.Prelude.{◌≡◌, ◌⊎◌, ℕ, List, Result, Ok, Err, string_bytes, unwrap_or}
+use Rattle.std.specs.Prelude.{◌≡◌, ℕ, List, Ok, Err, unwrap_or}
 use Rattle.plan.specs.PlanData.{PlanData}
 use Rattle.plan.specs.PlanText.{plan_of}
 use Rattle.plan.specs.declared.fault.PlanFault.{PlanFault}
 use Rattle.plan_edit.specs.Edited.{IsReplaced}
 use Rattle.plan_edit.specs.declared.replacement.Replacement.{Replacement}
-use Rattle.commands.specs.Answer.{Answer, fault_answer, no_memory, printed}
-use Rattle.commands.specs.Stops.{stop_answer}
+use Rattle.commands.specs.Answer.{Answer, fault_answer, printed}
 use Rattle.commands.specs.declared.action.ReplaceOptions.{ReplaceOptions}
-use Rattle.commands.specs.declared.reply.Edited.{Edited}
-use Rattle.commands.specs.declared.reply.Edited.TheVariants.{Plan, Reason}
-use Rattle.commands.specs.declared.reply.Stop.{Stop}
 
 -- the replacement that the options ask for; it leaves configuration 0 if they name none
 abbrev pub replacement_of : ReplaceOptions → Replacement
@@ -35,17 +31,7 @@ pub data ReplacesTo (options : ReplaceOptions) (text : List ℕ) (answer : Answe
   refused : (plan : PlanData) → plan_of text ≡ Ok plan → (line : List ℕ) → answer ≡ printed 1 line
       → ReplacesTo options text answer
 
--- The answer is this one, or memory ran out.
-abbrev pub SaysEdit : ReplaceOptions → List ℕ → Answer → Type 0
-SaysEdit options text answer = ReplacesTo options text answer ⊎ (answer ≡ no_memory)
-
--- what was made of a text: a plan of that replacement, or a line that says why there is none
-abbrev pub IsEdit : Replacement → List ℕ → Edited → Type 0
-IsEdit replacement text (Plan line) = IsReplaced replacement text line.items
-IsEdit replacement text (Reason line) = Unit {0}
-
--- what was made, as an answer
-abbrev pub edited_answer : Result Edited Stop → Answer
-edited_answer (Ok (Plan line)) = printed 0 line.items
-edited_answer (Ok (Reason line)) = printed 1 (string_bytes line)
-edited_answer (Err stop) = stop_answer stop
+-- the line of a plan of that replacement, or one that says why there is none
+pub data IsEdit (replacement : Replacement) (text : List ℕ) (answer : Answer) : Type 0 where
+  edited : (line : List ℕ) → IsReplaced replacement text line → answer ≡ printed 0 line → IsEdit replacement text answer
+  unedited : (line : List ℕ) → answer ≡ printed 1 line → IsEdit replacement text answer

@@ -1,5 +1,5 @@
 -- The printed text of a search.
-use Rattle.std.specs.Prelude.{◌≡◌, ◌⊎◌, ℕ, ◌-◌, ◌<◌, ◌≤◌, List, ◌++◌, length, replicate, Option, None, Result, Ok, Err, codes, string_bytes}
+use Rattle.std.specs.Prelude.{◌≡◌, ◌⊎◌, ℕ, ◌-◌, ◌<◌, ◌≤◌, List, ◌++◌, length, replicate, Option, None, Result, Ok, Err, codes}
 use Rattle.refutation.specs.Rule.{Rule}
 use Rattle.plan.specs.declared.fault.PlanFault.{PlanFault}
 use Rattle.plan.specs.Kept.{KeepsValues}
@@ -12,10 +12,7 @@ use Rattle.plan.specs.Written.{IsCompact, rewritten, spelt}
 use Rattle.cert_search.specs.Answers.{AreAnswers}
 use Rattle.cert_search.specs.Kept.{AreKept}
 use Rattle.commands.specs.Answer.{Answer, fault_answer}
-use Rattle.commands.specs.Stops.{stop_answer}
 use Rattle.commands.specs.Unfound.{found_status, unfound_lines}
-use Rattle.commands.specs.declared.reply.Stop.{Stop}
-use Rattle.commands.specs.declared.reply.Found.{Found}
 
 -- the claims of a text's plan, or the first fault of the text or of its claims
 abbrev pub claims_of : List ℕ → Result (List PlacedClaim) PlanFault
@@ -67,8 +64,3 @@ pub record PrintsSearch (plan : List ℕ) (status : ℕ) (text notes : List ℕ)
 abbrev pub SearchesTo : List ℕ → Answer → Type 0
 SearchesTo text answer = ((fault : PlanFault) × (claims_of text ≡ Err fault) × (answer ≡ fault_answer fault))
     ⊎ PrintsSearch text answer.status answer.out answer.err
-
--- what was found, as an answer
-abbrev pub found_answer : Result Found Stop → Answer
-found_answer (Ok found) = record { status = found.status; out = found.plan.items; err = string_bytes found.unfound }
-found_answer (Err stop) = stop_answer stop

@@ -9,7 +9,7 @@ use Rattle.plan.specs.declared.fault.PlanFault.TheVariants.{Text}
 use Rattle.drivers.specs.Script.{IsFirstBad}
 use Rattle.drivers.specs.declared.reading.ScriptFault.{ScriptFault}
 use Rattle.drivers.specs.declared.reading.ScriptFault.TheVariants as scripts
-use Rattle.commands.specs.Answer.{Answer, line_answer, printed}
+use Rattle.commands.specs.Answer.{Answer, line_answer}
 use Rattle.commands.specs.declared.reply.Reply.{Reply}
 use Rattle.commands.specs.declared.reply.Stop.{Stop}
 use Rattle.commands.specs.declared.reply.Stop.TheVariants.{Unreadable, Plan, Placed, Line, Number, NoMemory}
@@ -25,7 +25,7 @@ is_input_stop NoMemory = true
 
 -- the line that says why a job stops; the lines of the place are above it
 abbrev pub stop_line : Stop → List ℕ
-stop_line (Unreadable name) = codes "input: cannot read " ++ name.now ++ codes "\n"
+stop_line (Unreadable name) = codes "input: cannot read " ++ string_bytes name ++ codes "\n"
 stop_line (Plan fault) = plan_fault_text fault ++ codes "\n"
 stop_line (Placed lines fault) = string_bytes lines ++ plan_fault_text fault ++ codes "\n"
 stop_line (Line number) = codes "input: line " ++ decimal number ++ codes "\n"
@@ -35,9 +35,13 @@ stop_line NoMemory = codes "input: 9 NoMemory\n"
 abbrev pub stop_answer : Stop → Answer
 stop_answer stop = line_answer (is_input_stop stop) (stop_line stop)
 
+-- a reply, as an answer
+abbrev pub said : Reply → Answer
+said reply = record { status = reply.status; out = reply.out.items; err = reply.err.items }
+
 -- the answer with a reply, or that of a job that stopped before it
 abbrev pub answer_of : Result Reply Stop → Answer
-answer_of (Ok reply) = printed reply.status (string_bytes reply.text)
+answer_of (Ok reply) = said reply
 answer_of (Err stop) = stop_answer stop
 
 -- why a job stops whose plan has this fault

@@ -1,6 +1,6 @@
 //! A refusal in words by its number: `explain N`.
 
-ghost use Rattle.std.specs.Prelude.{◌≡◌, IfNone, IfSome, Some};
+ghost use Rattle.std.specs.Prelude.{IfNone, IfSome, Some};
 ghost use Rattle.commands.specs.FaultQuery.{AnswersNumber, IsFileName};
 ghost use Rattle.commands.specs.Jobs.{IsNumberOf};
 ghost use Rattle.commands.specs.Stops.{answer_of};
@@ -21,12 +21,12 @@ pub fn number_in(word: &str) -> Option<u8>
 }
 
 /// Returns the lines of the refusal with a number, or that none has it.
-pub fn explain_number(alloc: Global, number: u8) -> Result<Reply, Stop<'static>>
+pub fn explain_number(alloc: Global, number: u8) -> Result<Reply, Stop>
     ensures { AnswersNumber number (answer_of result) }
 {
     let Some(entry) = fault_words(number) else {
         return Err(Stop::Number(number));
     };
-    let text = fault_lines(alloc, entry)?;
-    Ok(Reply { status: 0, text })
+    let lines = fault_lines(alloc, entry)?;
+    Ok(Reply::printed(alloc, 0, lines.into_bytes()))
 }

@@ -13,7 +13,7 @@ use std::alloc::Global;
 /// Prints why a job ends before its own answer.
 pub fn refuse<O: FallibleWrite, E: FallibleWrite>(
     alloc: Global,
-    stop: &Stop<'_>,
+    stop: &Stop,
     out: &mut Output<O>,
     err: &mut Output<E>,
 ) -> u8
@@ -32,7 +32,7 @@ pub fn refuse<O: FallibleWrite, E: FallibleWrite>(
 /// Prints a job's answer, or why it ends before it.
 pub fn finish<O: FallibleWrite, E: FallibleWrite>(
     alloc: Global,
-    answer: &Result<Reply, Stop<'_>>,
+    answer: &Result<Reply, Stop>,
     out: &mut Output<O>,
     err: &mut Output<E>,
 ) -> u8
@@ -42,7 +42,13 @@ pub fn finish<O: FallibleWrite, E: FallibleWrite>(
     ensures err_written { FailsByWrite E.answers err.old err.new }
 {
     match answer {
-        Ok(reply) => deliver(reply.status, reply.text.as_bytes(), b"", out, err),
+        Ok(reply) => deliver(
+            reply.status,
+            reply.out.as_slice(),
+            reply.err.as_slice(),
+            out,
+            err,
+        ),
         Err(stop) => refuse(alloc, stop, out, err),
     }
 }

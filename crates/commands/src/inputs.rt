@@ -7,6 +7,7 @@ ghost use Rattle.plan.specs.CheckedModel.{checked_model};
 ghost use Rattle.plan.specs.Plan.{plan_data};
 ghost use Rattle.plan.specs.PlanFaults.{plan_fault};
 ghost use Rattle.plan.specs.PlanText.{plan_of};
+ghost use Rattle.commands.specs.Answer.{IsSaid, unreadable};
 ghost use Rattle.commands.specs.Answers.{AnswersOf, BothAnswer, IsBadScript, PlanAnswers, file_of, script_name};
 ghost use Rattle.commands.specs.Read.{IsPlanOf, IsRead, IsScriptOf};
 ghost use Rattle.commands.specs.Stops.{StopsAtLine, StopsBy, stop_answer};
@@ -26,21 +27,31 @@ use std::sync::Arc;
 /// The most bytes read of a file: one more than a plan's text or a script may have.
 const FILE_BYTES: u64 = 16_777_217;
 
+/// Returns the stop of a file with this name that can't be read.
+fn unreadable(alloc: Global, name: &str) -> Stop
+    ensures { IsSaid (unreadable name.now) (stop_answer result) }
+{
+    match String::from_str(alloc, name) {
+        Ok(name) => Stop::Unreadable(name),
+        Err(_) => Stop::NoMemory,
+    }
+}
+
 /// Reads the text of a file.
-pub fn contents<'a, R: FallibleRead>(
+pub fn contents<R: FallibleRead>(
     alloc: Global,
-    name: &'a str,
+    name: &str,
     file: &mut Source<R>,
-) -> Result<Vec<u8>, Stop<'a>>
-    ensures read { IfOk result (λ v. IsRead (file_of R.remaining name.entry.now file.old file.new)
+) -> Result<Vec<u8>, Stop>
+    ensures read { IfOk result (λ v. IsRead (file_of R.remaining name.now file.old file.new)
         (λ text. v.items ≡ text)) }
-    ensures stop { IfErr result (λ stop. AnswersOf (file_of R.remaining name.entry.now file.old file.new)
+    ensures stop { IfErr result (λ stop. AnswersOf (file_of R.remaining name.now file.old file.new)
         (λ _ _. ⊥) (stop_answer stop)) }
     ensures reason { FailsByRead R.answers file.old file.new }
 {
     match file.read_all(alloc, FILE_BYTES) {
         Ok(bytes) => Ok(bytes),
-        Err(ReadFault::Unreadable) => Err(Stop::Unreadable(name)),
+        Err(ReadFault::Unreadable) => Err(unreadable(alloc, name)),
         Err(ReadFault::NoMemory) => Err(Stop::NoMemory),
     }
 }
@@ -50,7 +61,7 @@ pub fn taped<'a>(
     alloc: Global,
     text: &'a [u8],
     scratch: &'a mut Scratch,
-) -> Result<TapedPlan<'a>, Stop<'static>>
+) -> Result<TapedPlan<'a>, Stop>
     ensures text { IfOk result (λ taped. taped ≡ text.entry.now) }
     ensures stop { IfErr result (StopsBy (λ fault. plan_of text.entry.now ≡ Err fault)) }
 {
@@ -61,7 +72,7 @@ pub fn taped<'a>(
 }
 
 /// Reads the plan of a tape.
-pub fn plan_of_tape(alloc: Global, text: &TapedPlan<'_>) -> Result<Plan, Stop<'static>>
+pub fn plan_of_tape(alloc: Global, text: &TapedPlan<'_>) -> Result<Plan, Stop>
     ensures plan { IfOk result (λ plan. plan_of text.now ≡ Ok (plan_data plan)) }
     ensures stop { IfErr result (StopsBy (λ fault. plan_of text.now ≡ Err fault)) }
 {
@@ -72,7 +83,7 @@ pub fn plan_of_tape(alloc: Global, text: &TapedPlan<'_>) -> Result<Plan, Stop<'s
 }
 
 /// Reads the plan of a text.
-pub fn plan_in(alloc: Global, text: &[u8]) -> Result<Plan, Stop<'static>>
+pub fn plan_in(alloc: Global, text: &[u8]) -> Result<Plan, Stop>
     ensures plan { IfOk result (λ plan. plan_of text.now ≡ Ok (plan_data plan)) }
     ensures stop { IfErr result (StopsBy (λ fault. plan_of text.now ≡ Err fault)) }
 {
@@ -84,7 +95,7 @@ pub fn plan_in(alloc: Global, text: &[u8]) -> Result<Plan, Stop<'static>>
 }
 
 /// Checks a plan.
-pub fn checked_plan(alloc: Global, plan: Plan) -> Result<CheckedPlan, Stop<'static>>
+pub fn checked_plan(alloc: Global, plan: Plan) -> Result<CheckedPlan, Stop>
     ensures plan { IfOk result (λ checked. checked.plan ≡ plan) }
     ensures faultless { IfOk result (λ checked. plan_fault (plan_data plan) ≡ None) }
     ensures certified { IfOk result (λ checked. IsCertified (checked_model checked)) }
@@ -100,7 +111,7 @@ pub fn checked_plan(alloc: Global, plan: Plan) -> Result<CheckedPlan, Stop<'stat
 }
 
 /// Reads and checks the plan of a text.
-fn checked_text(alloc: Global, text: &[u8]) -> Result<CheckedPlan, Stop<'static>>
+fn checked_text(alloc: Global, text: &[u8]) -> Result<CheckedPlan, Stop>
     ensures plan { IfOk result (IsPlanOf text.now) }
     ensures stop { IfErr result (StopsBy (λ fault. text_fault text.now ≡ Some fault)) }
 {
@@ -109,14 +120,14 @@ fn checked_text(alloc: Global, text: &[u8]) -> Result<CheckedPlan, Stop<'static>
 }
 
 /// Reads and checks the plan of a file.
-pub fn checked<'a, P: FallibleRead>(
+pub fn checked<P: FallibleRead>(
     alloc: Global,
-    name: &'a str,
+    name: &str,
     plan: &mut Source<P>,
-) -> Result<CheckedPlan, Stop<'a>>
-    ensures plan { IfOk result (λ checked. IsRead (file_of P.remaining name.entry.now plan.old plan.new)
+) -> Result<CheckedPlan, Stop>
+    ensures plan { IfOk result (λ checked. IsRead (file_of P.remaining name.now plan.old plan.new)
         (λ text. IsPlanOf text checked)) }
-    ensures stop { IfErr result (λ stop. AnswersOf (file_of P.remaining name.entry.now plan.old plan.new)
+    ensures stop { IfErr result (λ stop. AnswersOf (file_of P.remaining name.now plan.old plan.new)
         (λ text. PlanAnswers text (λ _ _. ⊥)) (stop_answer stop)) }
     ensures reason { FailsByRead P.answers plan.old plan.new }
 {
@@ -125,7 +136,7 @@ pub fn checked<'a, P: FallibleRead>(
 }
 
 /// Reads the script of a text.
-fn script_in(alloc: Global, text: &[u8]) -> Result<Script, Stop<'static>>
+fn script_in(alloc: Global, text: &[u8]) -> Result<Script, Stop>
     ensures script { IfOk result (IsScriptOf text.now) }
     ensures stop { IfErr result (StopsAtLine text.now) }
 {
@@ -136,14 +147,14 @@ fn script_in(alloc: Global, text: &[u8]) -> Result<Script, Stop<'static>>
 }
 
 /// Reads the script of a file.
-fn script_of<'a, S: FallibleRead>(
+fn script_of<S: FallibleRead>(
     alloc: Global,
-    name: &'a str,
+    name: &str,
     script: &mut Source<S>,
-) -> Result<Script, Stop<'a>>
-    ensures script { IfOk result (λ read. IsRead (file_of S.remaining name.entry.now script.old script.new)
+) -> Result<Script, Stop>
+    ensures script { IfOk result (λ read. IsRead (file_of S.remaining name.now script.old script.new)
         (λ text. IsScriptOf text read)) }
-    ensures stop { IfErr result (λ stop. AnswersOf (file_of S.remaining name.entry.now script.old script.new)
+    ensures stop { IfErr result (λ stop. AnswersOf (file_of S.remaining name.now script.old script.new)
         IsBadScript (stop_answer stop)) }
     ensures reason { FailsByRead S.answers script.old script.new }
 {
@@ -169,12 +180,12 @@ fn script_name<'a>(job: &Job<'a>) -> &'a str
 }
 
 /// Reads the script of a job's file, beside its plan.
-fn with_script<'a, S: FallibleRead>(
+fn with_script<S: FallibleRead>(
     alloc: Global,
     plan: CheckedPlan,
-    job: &Job<'a>,
+    job: &Job<'_>,
     script: &mut Source<S>,
-) -> Result<PlanAndScript, Stop<'a>>
+) -> Result<PlanAndScript, Stop>
     ensures plan { IfOk result (λ both. arc_value both.plan ≡ plan) }
     ensures script { IfOk result (λ both. IsRead (file_of S.remaining (script_name job.now) script.old script.new)
         (λ text. IsScriptOf text both.script)) }
@@ -188,12 +199,12 @@ fn with_script<'a, S: FallibleRead>(
 }
 
 /// Reads and checks the plan of a job's file, then reads the script of the other.
-pub fn plan_and_script<'a, P: FallibleRead, S: FallibleRead>(
+pub fn plan_and_script<P: FallibleRead, S: FallibleRead>(
     alloc: Global,
-    job: &Job<'a>,
+    job: &Job<'_>,
     plan: &mut Source<P>,
     script: &mut Source<S>,
-) -> Result<PlanAndScript, Stop<'a>>
+) -> Result<PlanAndScript, Stop>
     ensures plan { IfOk result (λ both. IsRead (file_of P.remaining job.now.plan.now plan.old plan.new)
         (λ text. IsPlanOf text (arc_value both.plan))) }
     ensures script { IfOk result (λ both. IsRead (file_of S.remaining (script_name job.now) script.old script.new)

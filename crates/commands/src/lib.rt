@@ -4,7 +4,7 @@
 mod action;
 mod arguments;
 mod beginning;
-mod explain_performing;
+mod checking;
 mod explaining;
 mod fallible;
 mod fault_query;

@@ -1,9 +1,9 @@
 //! What is made of a checked plan: the script of a step, random runs.
 
-ghost use Rattle.std.specs.Prelude.{◌≡◌, ◌≤◌, ◌<◌, IfErr, IfOk, OnOk};
+ghost use Rattle.std.specs.Prelude.{◌≡◌, ◌<◌, IfErr, IfOk};
 ghost use Rattle.commands.specs.Answers.{AnswersOf, file_of};
-ghost use Rattle.commands.specs.Makes.{MakesTo};
-ghost use Rattle.commands.specs.Stops.{answer_of};
+ghost use Rattle.commands.specs.Makes.{IsMade, MakesTo};
+ghost use Rattle.commands.specs.Stops.{answer_of, said};
 ghost use Rattle.commands.specs.Streams.{FailsByRead};
 ghost use Rattle.commands.specs.declared.reply.Stop.TheVariants.{NoMemory};
 
@@ -47,9 +47,8 @@ impl<G: Progress> ScriptRunner for PlanRunner<'_, G> {
             return Err(Broken::from(AllocError));
         };
         let membership = steps_facts(alloc, self.plan, steps, events, outcome.results.as_slice())?;
-        let reply = run_lines(alloc, steps, &outcome)?;
         Ok(ScriptRun {
-            text: reply.text,
+            text: run_lines(alloc, steps, &outcome)?,
             waited: self.plan.lal() <= MOST_LAL && membership.waited(),
         })
     }
@@ -65,8 +64,8 @@ fn simulated<G: Progress>(
     plan: CheckedPlan,
     simulation: Simulation,
     progress: &G,
-) -> Result<Reply, Stop<'static>>
-    ensures status { IfOk result (λ reply. reply.status ≤ 1) }
+) -> Result<Reply, Stop>
+    ensures made { IfOk result (λ reply. IsMade (said reply)) }
     ensures stop { IfErr result (λ stop. stop ≡ NoMemory) }
 {
     let plan = Arc::new(alloc, plan)?;
@@ -78,10 +77,7 @@ fn simulated<G: Progress>(
     let verdict = simulate(alloc, &plan, simulation, &runner);
     progress.clear();
     let verdict = verdict?;
-    Ok(Reply {
-        status: verdict.status,
-        text: verdict.text,
-    })
+    Ok(Reply::printed(alloc, verdict.status, verdict.text.into_bytes()))
 }
 
 /// Returns why a step has no script.
@@ -104,21 +100,16 @@ fn no_step(alloc: Global, why: NoStep, group: u8, configuration: u8) -> Result<S
 }
 
 /// Returns the answer to a step of a plan.
-fn stepped(
-    alloc: Global,
-    plan: &CheckedPlan,
-    group: u8,
-    configuration: u8,
-) -> Result<Reply, Stop<'static>>
-    ensures status { IfOk result (λ reply. reply.status ≤ 1) }
+fn stepped(alloc: Global, plan: &CheckedPlan, group: u8, configuration: u8) -> Result<Reply, Stop>
+    ensures made { IfOk result (λ reply. IsMade (said reply)) }
     ensures stop { IfErr result (λ stop. stop ≡ NoMemory) }
 {
     match step_script(alloc, plan, group, configuration) {
-        Ok(text) => Ok(Reply { status: 0, text }),
+        Ok(text) => Ok(Reply::printed(alloc, 0, text.into_bytes())),
         Err(NoStep::NoMemory) => Err(Stop::NoMemory),
         Err(why) => {
             let text = no_step(alloc, why, group, configuration)?;
-            Ok(Reply { status: 1, text })
+            Ok(Reply::printed(alloc, 1, text.into_bytes()))
         }
     }
 }
@@ -129,8 +120,8 @@ fn made<G: Progress>(
     plan: CheckedPlan,
     making: Making,
     progress: &G,
-) -> Result<Reply, Stop<'static>>
-    ensures status { IfOk result (λ reply. reply.status ≤ 1) }
+) -> Result<Reply, Stop>
+    ensures made { IfOk result (λ reply. IsMade (said reply)) }
     ensures stop { IfErr result (λ stop. stop ≡ NoMemory) }
 {
     match making {
@@ -143,13 +134,13 @@ fn made<G: Progress>(
 }
 
 /// Returns the answer of `steps` or `simulate`: checks the plan, and makes what is asked for.
-pub fn make<'a, P: FallibleRead, G: Progress>(
+pub fn make<P: FallibleRead, G: Progress>(
     alloc: Global,
-    job: &Job<'a>,
+    job: &Job<'_>,
     making: Making,
     plan: &mut Source<P>,
     progress: &G,
-) -> Result<Reply, Stop<'a>>
+) -> Result<Reply, Stop>
     ensures answers { AnswersOf (file_of P.remaining job.now.plan.now plan.old plan.new) MakesTo (answer_of result) }
     ensures reason { FailsByRead P.answers plan.old plan.new }
 {

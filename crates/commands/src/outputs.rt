@@ -34,21 +34,6 @@ impl<W> Output<W> {
             failed: false,
         }
     }
-
-    /// Returns whether a write has failed.
-    pub fn has_failed(&self) -> bool
-        ensures { result ≡ is_broken self.now }
-    {
-        self.failed
-    }
-
-    /// Returns the writer.
-    pub fn into_inner(self) -> W
-        ensures { result ≡ writer_of self }
-    {
-        let Output { writer, failed: _ } = self;
-        writer
-    }
 }
 
 /// Makes one write, again if it is interrupted.

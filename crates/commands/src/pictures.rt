@@ -1,9 +1,11 @@
 //! Pictures of a plan and of a script's run over it: `draw`.
 
-ghost use Rattle.std.specs.Prelude.{◌≡◌, ◌≤◌, IfErr, IfOk};
+ghost use Rattle.std.specs.Prelude.{◌≡◌, IfErr, IfOk, List, ℕ};
+ghost use Rattle.commands.specs.Answer.{Says, printed};
 ghost use Rattle.commands.specs.Answers.{AnswersOf, file_of, script_name};
-ghost use Rattle.commands.specs.Draws.{DrawsRunTo, DrawsTo, SaysPicture};
-ghost use Rattle.commands.specs.Stops.{StopsBy, answer_of};
+ghost use Rattle.commands.specs.Draws.{DrawsRunTo, DrawsTo};
+ghost use Rattle.commands.specs.Makes.{IsMade};
+ghost use Rattle.commands.specs.Stops.{StopsBy, answer_of, said};
 ghost use Rattle.commands.specs.Streams.{FailsByRead};
 ghost use Rattle.commands.specs.declared.reply.Stop.TheVariants.{NoMemory};
 
@@ -19,19 +21,19 @@ use std::alloc::{AllocError, Global};
 use volume_model::Fault;
 
 /// Returns the picture of a plan.
-fn drawn_plan(alloc: Global, plan: &Plan) -> Result<Reply, Stop<'static>>
-    ensures status { IfOk result (λ reply. reply.status ≡ 0) }
+fn drawn_plan(alloc: Global, plan: &Plan) -> Result<Reply, Stop>
+    ensures picture { IfOk result (λ reply. (picture : List ℕ) × (said reply ≡ printed 0 picture)) }
     ensures stop { IfErr result (StopsBy (λ _. Unit {0})) }
 {
     match draw_plan(alloc, plan) {
-        Ok(text) => Ok(Reply { status: 0, text }),
+        Ok(text) => Ok(Reply::printed(alloc, 0, text.into_bytes())),
         Err(fault) => Err(Stop::of_plan(fault)),
     }
 }
 
 /// Returns the picture of a text's plan.
-fn drawn_text(alloc: Global, text: &[u8]) -> Result<Reply, Stop<'static>>
-    ensures { SaysPicture text.now (answer_of result) }
+fn drawn_text(alloc: Global, text: &[u8]) -> Result<Reply, Stop>
+    ensures { Says (DrawsTo text.now) (answer_of result) }
 {
     match plan_in(alloc, text) {
         Ok(plan) => drawn_plan(alloc, &plan),
@@ -40,12 +42,12 @@ fn drawn_text(alloc: Global, text: &[u8]) -> Result<Reply, Stop<'static>>
 }
 
 /// Returns the answer of `draw` to a plan's file.
-pub fn drawn<'a, P: FallibleRead>(
+pub fn drawn<P: FallibleRead>(
     alloc: Global,
-    name: &'a str,
+    name: &str,
     plan: &mut Source<P>,
-) -> Result<Reply, Stop<'a>>
-    ensures answers { AnswersOf (file_of P.remaining name.entry.now plan.old plan.new) DrawsTo (answer_of result) }
+) -> Result<Reply, Stop>
+    ensures answers { AnswersOf (file_of P.remaining name.now plan.old plan.new) DrawsTo (answer_of result) }
     ensures reason { FailsByRead P.answers plan.old plan.new }
 {
     let text = contents(alloc, name, plan)?;
@@ -64,33 +66,33 @@ fn event_lines(alloc: Global, steps: &[Step]) -> Result<Vec<u32>, AllocError> {
 }
 
 /// Returns the picture of a script's run over a plan, or a line that says why there is none.
-fn drawn_run(alloc: Global, both: PlanAndScript) -> Result<Reply, Stop<'static>>
-    ensures status { IfOk result (λ reply. reply.status ≤ 1) }
+fn drawn_run(alloc: Global, both: PlanAndScript) -> Result<Reply, Stop>
+    ensures made { IfOk result (λ reply. IsMade (said reply)) }
     ensures stop { IfErr result (λ stop. stop ≡ NoMemory) }
 {
     let PlanAndScript { plan, script } = both;
     let Script { steps, orders } = script;
     let lines = event_lines(alloc, steps.as_slice())?;
     match draw_run(alloc, &plan, lines.as_slice(), orders.as_slice()) {
-        Ok(text) => Ok(Reply { status: 0, text }),
+        Ok(text) => Ok(Reply::printed(alloc, 0, text.into_bytes())),
         Err(Fault::NoMemory) => Err(Stop::NoMemory),
         Err(_) => {
             let count = orders.len();
             let text = format!(in alloc;
                 "no: the script has {count} events, and at most {MOST_ROWS} are drawn\n"
             )?;
-            Ok(Reply { status: 1, text })
+            Ok(Reply::printed(alloc, 1, text.into_bytes()))
         }
     }
 }
 
 /// Returns the answer of `draw` to the files of a plan and a script.
-pub fn drawn_script<'a, P: FallibleRead, S: FallibleRead>(
+pub fn drawn_script<P: FallibleRead, S: FallibleRead>(
     alloc: Global,
-    job: &Job<'a>,
+    job: &Job<'_>,
     plan: &mut Source<P>,
     script: &mut Source<S>,
-) -> Result<Reply, Stop<'a>>
+) -> Result<Reply, Stop>
     ensures answers { AnswersOf (file_of P.remaining job.now.plan.now plan.old plan.new)
         (DrawsRunTo (file_of S.remaining (script_name job.now) script.old script.new)) (answer_of result) }
     ensures plan_read { FailsByRead P.answers plan.old plan.new }

@@ -15,7 +15,7 @@ use crate::Job;
 use crate::fallible::{FallibleRead, FallibleWrite};
 use crate::files::Source;
 use crate::outputs::Output;
-use crate::performing::perform;
+use crate::performing::answer;
 use crate::placing::place;
 use crate::progress_line::Unseen;
 use crate::whole_file::WholeFile;
@@ -23,9 +23,9 @@ use std::alloc::Global;
 use std::sync::Wait;
 use std::thread::Threads;
 
-/// Performs a job as [`perform`] does, and lays a plan out if the job asks for that. If the job names a file, and the
-/// status is 0, the text goes to `file` in place of standard output, whole or not at all; with another status it is
-/// printed, and the file isn't touched. The status is also 2 if the file can't be written.
+/// Performs a job as [`perform`](crate::perform) does, and lays a plan out if the job asks for that. If the job names a
+/// file, and the status is 0, the text goes to `file` in place of standard output, whole or not at all; with another
+/// status it is printed, and the file isn't touched. The status is also 2 if the file can't be written.
 pub fn perform_placed<
     H: Threads + Wait + Sync,
     P: FallibleRead,
@@ -68,7 +68,6 @@ pub fn perform_placed<
     ensures out_written { FailsByWrite O.answers out.old out.new }
     ensures err_written { FailsByWrite E.answers err.old err.new }
 {
-    let mut kept = Output::new(Vec::new(alloc));
-    let status = perform(rt, alloc, job, plan, script, &Unseen, &mut kept, err);
-    place(alloc, status, kept, job, file, out, err)
+    let reply = answer(rt, alloc, job, plan, script, &Unseen);
+    place(alloc, reply, job, file, out, err)
 }

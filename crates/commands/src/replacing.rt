@@ -1,16 +1,17 @@
 //! The replacement of a member: `replace`.
 
-ghost use Rattle.std.specs.Prelude.{◌≡◌, ◌<◌, ◌≤◌, IfErr, IfOk};
+ghost use Rattle.std.specs.Prelude.{◌≡◌, ◌<◌, ◌≤◌, IfErr, IfOk, List, ℕ};
+ghost use Rattle.commands.specs.Answer.{Says, printed};
 ghost use Rattle.commands.specs.Answers.{AnswersOf, file_of};
-ghost use Rattle.commands.specs.Replaces.{IsEdit, ReplacesTo, edited_answer, replacement_of, SaysEdit};
-ghost use Rattle.commands.specs.Stops.{StopsBy};
+ghost use Rattle.commands.specs.Replaces.{IsEdit, ReplacesTo, replacement_of};
+ghost use Rattle.commands.specs.Stops.{StopsBy, answer_of, said};
 ghost use Rattle.commands.specs.Streams.{FailsByRead};
 
 use crate::action::{Job, ReplaceOptions};
 use crate::fallible::FallibleRead;
 use crate::files::Source;
 use crate::inputs::{contents, plan_in};
-use crate::reply::{Edited, Stop};
+use crate::reply::{Reply, Stop};
 use plan::Plan;
 use plan_edit::{EditRefusal, Replacement, reason, replace};
 use std::alloc::{AllocError, Global};
@@ -47,18 +48,16 @@ fn question(alloc: Global, group: u8) -> Result<String, AllocError> {
 }
 
 /// Returns why a member isn't replaced.
-fn refused(
-    alloc: Global,
-    refusal: EditRefusal,
-    replacement: Replacement,
-) -> Result<String, Stop<'static>>
-    ensures { IfErr result (StopsBy (λ _. Unit {0})) }
+fn refused(alloc: Global, refusal: EditRefusal, replacement: Replacement) -> Result<Reply, Stop>
+    ensures line { IfOk result (λ reply. (line : List ℕ) × (said reply ≡ printed 1 line)) }
+    ensures stop { IfErr result (StopsBy (λ _. Unit {0})) }
 {
-    match refusal {
-        EditRefusal::Plan(fault) => Err(Stop::of_plan(fault)),
-        EditRefusal::NoMemory => Err(Stop::NoMemory),
-        other => Ok(reason(alloc, &other, replacement)?),
-    }
+    let line = match refusal {
+        EditRefusal::Plan(fault) => return Err(Stop::of_plan(fault)),
+        EditRefusal::NoMemory => return Err(Stop::NoMemory),
+        other => reason(alloc, &other, replacement)?,
+    };
+    Ok(Reply::printed(alloc, 1, line.into_bytes()))
 }
 
 /// Returns the new plan of a text, or why there is none.
@@ -68,14 +67,14 @@ fn edited<H: Threads + Wait + Sync>(
     text: &[u8],
     replacement: Replacement,
     workers: u8,
-) -> Result<Edited, Stop<'static>>
+) -> Result<Reply, Stop>
     requires { (0 < workers) × (workers ≤ 16) }
-    ensures edit { IfOk result (IsEdit replacement text.now) }
+    ensures edit { IfOk result (λ reply. IsEdit replacement text.now (said reply)) }
     ensures stop { IfErr result (StopsBy (λ _. Unit {0})) }
 {
     match replace(rt, alloc, text, replacement, workers) {
-        Ok(line) => Ok(Edited::Plan(line)),
-        Err(refusal) => Ok(Edited::Reason(refused(alloc, refusal, replacement)?)),
+        Ok(line) => Ok(Reply::printed(alloc, 0, line)),
+        Err(refusal) => refused(alloc, refusal, replacement),
     }
 }
 
@@ -88,13 +87,14 @@ fn edited_plan<H: Threads + Wait + Sync>(
     plan: &Plan,
     options: ReplaceOptions,
     workers: u8,
-) -> Result<Edited, Stop<'static>>
+) -> Result<Reply, Stop>
     requires { (0 < workers) × (workers ≤ 16) }
-    ensures edit { IfOk result (IsEdit (replacement_of options) text.now) }
+    ensures edit { IfOk result (λ reply. IsEdit (replacement_of options) text.now (said reply)) }
     ensures stop { IfErr result (StopsBy (λ _. Unit {0})) }
 {
     if options.configuration.is_none() && has_choice(plan, options.group) {
-        return Ok(Edited::Reason(question(alloc, options.group)?));
+        let question = question(alloc, options.group)?;
+        return Ok(Reply::printed(alloc, 1, question.into_bytes()));
     }
     edited(rt, alloc, text, replacement_of(options), workers)
 }
@@ -106,9 +106,9 @@ fn edited_text<H: Threads + Wait + Sync>(
     text: &[u8],
     options: ReplaceOptions,
     workers: u8,
-) -> Result<Edited, Stop<'static>>
+) -> Result<Reply, Stop>
     requires { (0 < workers) × (workers ≤ 16) }
-    ensures { SaysEdit options text.now (edited_answer result) }
+    ensures { Says (ReplacesTo options text.now) (answer_of result) }
 {
     match plan_in(alloc, text) {
         Ok(plan) => edited_plan(rt, alloc, text, &plan, options, workers),
@@ -117,15 +117,15 @@ fn edited_text<H: Threads + Wait + Sync>(
 }
 
 /// Returns the answer of `replace`.
-pub fn replaced<'a, H: Threads + Wait + Sync, P: FallibleRead>(
+pub fn replaced<H: Threads + Wait + Sync, P: FallibleRead>(
     rt: &H,
     alloc: Global,
-    job: &Job<'a>,
+    job: &Job<'_>,
     options: ReplaceOptions,
     plan: &mut Source<P>,
-) -> Result<Edited, Stop<'a>>
+) -> Result<Reply, Stop>
     ensures answers { AnswersOf (file_of P.remaining job.now.plan.now plan.old plan.new) (ReplacesTo options)
-        (edited_answer result) }
+        (answer_of result) }
     ensures reason { FailsByRead P.answers plan.old plan.new }
 {
     let text = contents(alloc, job.plan, plan)?;

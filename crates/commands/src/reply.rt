@@ -4,62 +4,42 @@ ghost use Rattle.std.specs.Prelude.{◌≤◌};
 
 use drivers::ScriptFault;
 use plan::PlanFault;
-use std::alloc::{AllocError, AllocFailed};
+use std::alloc::{AllocError, AllocFailed, Global};
 use std::fmt;
 use volume_model::Fault;
 
-/// An exit status and a text for standard output.
+/// An answer: the exit status, and what is written to standard output and to standard error.
 #[derive(Drop)]
 pub struct Reply {
     pub status: u8,
-    pub text: String,
+    pub out: Vec<u8>,
+    pub err: Vec<u8>,
     ghost known: { status ≤ 2 },
 }
 
-/// The answer of a search: the exit status, the plan's line with what was found, and a line for each claim without a
-/// certificate.
-#[derive(Drop)]
-pub struct Found {
-    pub status: u8,
-    pub plan: Vec<u8>,
-    pub unfound: String,
-    ghost few: { status ≤ 1 },
-}
+impl Reply {
+    ghost use Rattle.std.specs.Prelude.{◌≡◌};
+    ghost use Rattle.commands.specs.Answer.{printed};
+    ghost use Rattle.commands.specs.Stops.{said};
 
-/// The answer of `explain --json`: the exit status, a JSON value for standard output, and a line for standard error.
-#[derive(Drop)]
-pub struct Report {
-    pub status: u8,
-    pub value: String,
-    pub line: String,
-    ghost known: { status ≤ 2 },
-}
-
-/// The answer of a replacement.
-#[derive(Drop)]
-pub enum Edited {
-    /// The line of the new plan.
-    Plan(Vec<u8>),
-    /// The line that says why there is none.
-    Reason(String),
-}
-
-/// The answer of `new`.
-#[derive(Drop)]
-pub enum Begun {
-    /// The line of the new plan.
-    Plan(Vec<u8>),
-    /// The line that says why there is none.
-    Reason(String),
-    /// The lines that say why the words can't be used.
-    Usage(String),
+    /// Makes the answer that prints a text, and nothing to standard error.
+    pub fn printed(alloc: Global, status: u8, text: Vec<u8>) -> Reply
+        requires { status ≤ 2 }
+        ensures { said result ≡ printed status text.items }
+    {
+        Reply {
+            status,
+            out: text,
+            err: Vec::new(alloc),
+        }
+    }
 }
 
 /// Why a job ends before its own answer.
 #[derive(Drop)]
-pub enum Stop<'a> {
+pub enum Stop {
     /// The file with this name can't be read.
-    Unreadable(&'a str),
+    Unreadable(String),
     /// The plan has this fault, or its text isn't a plan's.
     Plan(PlanFault),
     /// The plan's text has this fault; the lines say where.
@@ -73,7 +53,7 @@ pub enum Stop<'a> {
 }
 
 /// Writes its line, and above it those of the place.
-impl fmt::Display for Stop<'_> {
+impl fmt::Display for Stop {
     ghost use Rattle.std.specs.Prelude.{Some};
     ghost use Rattle.commands.specs.Stops.{stop_line};
 
@@ -91,7 +71,7 @@ impl fmt::Display for Stop<'_> {
     }
 }
 
-impl From<AllocError> for Stop<'_> {
+impl From<AllocError> for Stop {
     ghost use Rattle.std.specs.Prelude.{◌≡◌};
     ghost use Rattle.commands.specs.declared.reply.Stop.TheVariants.{NoMemory};
 
@@ -102,7 +82,7 @@ impl From<AllocError> for Stop<'_> {
     }
 }
 
-impl<T: Drop> From<AllocFailed<T>> for Stop<'_> {
+impl<T: Drop> From<AllocFailed<T>> for Stop {
     ghost use Rattle.std.specs.Prelude.{◌≡◌};
     ghost use Rattle.commands.specs.declared.reply.Stop.TheVariants.{NoMemory};
 
@@ -113,7 +93,7 @@ impl<T: Drop> From<AllocFailed<T>> for Stop<'_> {
     }
 }
 
-impl Stop<'_> {
+impl Stop {
     ghost use Rattle.std.specs.Prelude.{◌≡◌, ◌≢◌};
     ghost use Rattle.volume_model.specs.declared.fault.Fault.TheVariants.{NoMemory};
     ghost use Rattle.plan.specs.declared.fault.PlanFault.TheVariants.{Text};

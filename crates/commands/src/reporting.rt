@@ -5,39 +5,31 @@ ghost use Rattle.plan.specs.FaultKinds.{is_input};
 ghost use Rattle.plan.specs.Plan.{plan_data};
 ghost use Rattle.plan.specs.PlanFaults.{plan_fault};
 ghost use Rattle.plan.specs.PlanText.{plan_of};
-ghost use Rattle.commands.specs.Answers.{AnswersOf, file_of};
-ghost use Rattle.commands.specs.Reports.{IsReport, IsReported, ReportsTo, made_of, report_answer, status_of};
-ghost use Rattle.commands.specs.Stops.{StopsBy};
-ghost use Rattle.commands.specs.Streams.{FailsByRead};
+ghost use Rattle.commands.specs.Answer.{Says};
+ghost use Rattle.commands.specs.Reports.{IsReport, ReportsTo, status_of};
+ghost use Rattle.commands.specs.Stops.{StopsBy, answer_of, said};
 ghost use Rattle.commands.specs.declared.reply.Stop.TheVariants.{NoMemory};
 
-use crate::fallible::FallibleRead;
-use crate::files::Source;
-use crate::inputs::{checked_plan, contents, plan_in};
+use crate::inputs::{checked_plan, plan_in};
 use crate::leaking::leak;
-use crate::reply::{Report, Stop};
+use crate::reply::{Reply, Stop};
 use crate::run_text::checked_line;
 use explain::{ConfigurationFacts, json_report, known_configurations};
 use plan::{Plan, PlanFault};
 use std::alloc::Global;
 
 /// Returns a report with this value, beside the status and the line of a check.
-pub(crate) fn report_of(
-    alloc: Global,
-    value: String,
-    status: u8,
-    line: &str,
-) -> Result<Report, Stop<'static>>
+pub(crate) fn report_of(alloc: Global, value: String, status: u8, line: &str) -> Result<Reply, Stop>
     requires { status ≤ 2 }
-    ensures report { IfOk result (IsReport status line.now) }
+    ensures report { IfOk result (λ reply. IsReport status line.now (said reply)) }
     ensures stop { IfErr result (λ stop. stop ≡ NoMemory) }
 {
     let shown = if status < 2 { "" } else { line };
     let line = String::from_str(alloc, shown)?;
-    Ok(Report {
+    Ok(Reply {
         status,
-        value,
-        line,
+        out: value.into_bytes(),
+        err: line.into_bytes(),
     })
 }
 
@@ -48,9 +40,9 @@ fn made(
     known: Option<Vec<ConfigurationFacts>>,
     status: u8,
     line: &str,
-) -> Result<Report, Stop<'static>>
+) -> Result<Reply, Stop>
     requires { status ≤ 2 }
-    ensures report { IfOk result (IsReport status line.now) }
+    ensures report { IfOk result (λ reply. IsReport status line.now (said reply)) }
     ensures stop { IfErr result (λ stop. stop ≡ NoMemory) }
 {
     let value = json_report(alloc, text, known, status, line)?;
@@ -58,9 +50,9 @@ fn made(
 }
 
 /// Returns the report of a text that spells a plan.
-fn reported_plan(alloc: Global, text: &[u8], plan: Plan) -> Result<Report, Stop<'static>>
+fn reported_plan(alloc: Global, text: &[u8], plan: Plan) -> Result<Reply, Stop>
     ensures report { plan_of text.now ≡ Ok (plan_data plan)
-        → IfOk result (λ report. ReportsTo text.now (made_of report)) }
+        → IfOk result (λ reply. ReportsTo text.now (said reply)) }
     ensures stop { IfErr result (StopsBy (λ fault. plan_fault (plan_data plan) ≡ Some fault)) }
 {
     let known = Some(known_configurations(alloc, &plan)?);
@@ -91,9 +83,9 @@ pub(crate) fn status_of(fault: &PlanFault) -> u8
 }
 
 /// Returns the report of a text that isn't a plan's.
-fn reported_fault(alloc: Global, text: &[u8], fault: PlanFault) -> Result<Report, Stop<'static>>
+fn reported_fault(alloc: Global, text: &[u8], fault: PlanFault) -> Result<Reply, Stop>
     ensures report { plan_of text.now ≡ Err fault
-        → IfOk result (λ report. ReportsTo text.now (made_of report)) }
+        → IfOk result (λ reply. ReportsTo text.now (said reply)) }
     ensures stop { IfErr result (λ stop. stop ≡ NoMemory) }
 {
     let status = status_of(&fault);
@@ -102,26 +94,12 @@ fn reported_fault(alloc: Global, text: &[u8], fault: PlanFault) -> Result<Report
 }
 
 /// Returns the report of a text.
-fn reported_text(alloc: Global, text: &[u8]) -> Result<Report, Stop<'static>>
-    ensures { IsReported text.now (report_answer result) }
+pub fn reported_text(alloc: Global, text: &[u8]) -> Result<Reply, Stop>
+    ensures { Says (ReportsTo text.now) (answer_of result) }
 {
     match plan_in(alloc, text) {
         Ok(plan) => reported_plan(alloc, text, plan),
         Err(Stop::Plan(fault)) => reported_fault(alloc, text, fault),
         Err(stop) => Err(stop),
     }
-}
-
-/// Returns the answer of `explain --json`.
-pub fn reported<'a, P: FallibleRead>(
-    alloc: Global,
-    name: &'a str,
-    plan: &mut Source<P>,
-) -> Result<Report, Stop<'a>>
-    ensures answers { AnswersOf (file_of P.remaining name.entry.now plan.old plan.new) ReportsTo
-        (report_answer result) }
-    ensures reason { FailsByRead P.answers plan.old plan.new }
-{
-    let text = contents(alloc, name, plan)?;
-    reported_text(alloc, text.as_slice())
 }

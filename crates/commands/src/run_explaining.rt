@@ -1,24 +1,27 @@
 //! A script's run in words or as JSON: `explain PLAN SCRIPT`.
 
 ghost use Rattle.std.specs.Prelude.{◌≡◌, IfErr, IfOk};
-ghost use Rattle.commands.specs.Answer.{fault_answer};
+ghost use Rattle.commands.specs.Answer.{IsQuiet, Says, fault_answer};
 ghost use Rattle.commands.specs.Answers.{file_of};
-ghost use Rattle.commands.specs.Reports.{ExplainsFault, IsQuiet, IsReportOf, SaysAs, made_of, report_answer};
-ghost use Rattle.commands.specs.Stops.{stop_answer};
+ghost use Rattle.commands.specs.Reports.{ExplainsFault, IsReportOf};
+ghost use Rattle.commands.specs.ShownName.{shown_name};
+ghost use Rattle.commands.specs.Stops.{answer_of, said, stop_answer};
 ghost use Rattle.commands.specs.Streams.{FailsByRead};
 ghost use Rattle.commands.specs.declared.reply.Stop.TheVariants.{NoMemory};
 
+use crate::Job;
 use crate::fallible::FallibleRead;
 use crate::files::Source;
 use crate::inputs::{checked, contents};
 use crate::leaking::leak;
-use crate::reply::{Report, Stop};
+use crate::names::shown_name;
+use crate::reply::{Reply, Stop};
 use crate::reporting::{report_of, status_of};
 use crate::run_json::{refusal_report, run_report};
 use crate::run_state::run_facts;
 use crate::run_steps::{step_events, steps_facts};
 use crate::run_tables::run_words;
-use crate::run_text::end_lines;
+use crate::run_text::{end_lines, run_status};
 use drivers::{Script, ScriptFault, read_script};
 use explain::bad_line;
 use plan::{CheckedPlan, PlanFault};
@@ -32,8 +35,8 @@ fn explained_run(
     json: bool,
     plan: Arc<CheckedPlan>,
     script: Script,
-) -> Result<Report, Stop<'static>>
-    ensures quiet { IfOk result IsQuiet }
+) -> Result<Reply, Stop>
+    ensures quiet { IfOk result (λ reply. IsQuiet (said reply)) }
 {
     let Script { steps, orders } = script;
     let events = step_events(alloc, orders.as_slice())?;
@@ -44,29 +47,21 @@ fn explained_run(
     let membership = steps_facts(alloc, &plan, lines, events, results)?;
     leak(plan);
     let ends = end_lines(alloc, &outcome)?;
+    let status = run_status(&outcome);
     let facts = run_facts(alloc, steps.as_slice(), outcome)?;
     let value = if json {
-        run_report(alloc, facts, membership, ends.status)?
+        run_report(alloc, facts, membership, status)?
     } else {
         let mut words = run_words(alloc, &facts, &membership)?;
-        words.push_str(ends.text.as_str())?;
+        words.push_str(ends.as_str())?;
         words
     };
-    Ok(Report {
-        status: ends.status,
-        value,
-        line: String::new(alloc),
-    })
+    Ok(Reply::printed(alloc, status, value.into_bytes()))
 }
 
 /// Returns the report of a script whose line `number` is the first bad one.
-fn explained_line(
-    alloc: Global,
-    json: bool,
-    text: &[u8],
-    number: usize,
-) -> Result<Report, Stop<'static>>
-    ensures quiet { IfOk result IsQuiet }
+fn explained_line(alloc: Global, json: bool, text: &[u8], number: usize) -> Result<Reply, Stop>
+    ensures quiet { IfOk result (λ reply. IsQuiet (said reply)) }
 {
     let mut lines = match bad_line(alloc, text, number)? {
         Some(lines) => lines,
@@ -82,18 +77,18 @@ fn explained_line(
         lines = String::new(alloc);
     }
     lines.push_str(verdict.as_str())?;
-    Ok(Report {
+    Ok(Reply {
         status: 2,
-        value,
-        line: lines,
+        out: value.into_bytes(),
+        err: lines.into_bytes(),
     })
 }
 
 /// Returns the report of a plan's fault, as JSON.
-fn explained_fault(alloc: Global, fault: PlanFault) -> Result<Report, Stop<'static>>
-    ensures report { IfOk result (λ report. IsReportOf (fault_answer fault) (made_of report)) }
+fn explained_fault(alloc: Global, fault: PlanFault) -> Result<Reply, Stop>
+    ensures report { IfOk result (λ reply. IsReportOf (fault_answer fault) (said reply)) }
     ensures stop { IfErr result (λ stop. stop ≡ NoMemory) }
-    ensures quiet { IfOk result IsQuiet }
+    ensures quiet { IfOk result (λ reply. IsQuiet (said reply)) }
 {
     let status = status_of(&fault);
     let text = format!(in alloc; "{fault}\n")?;
@@ -103,9 +98,9 @@ fn explained_fault(alloc: Global, fault: PlanFault) -> Result<Report, Stop<'stat
 }
 
 /// Returns the report of a plan that can't be used, as JSON if the plan has a fault.
-fn explained_stop<'a>(alloc: Global, stop: Stop<'a>) -> Result<Report, Stop<'a>>
-    ensures answers { SaysAs (stop_answer stop.entry) (report_answer result) }
-    ensures quiet { IfOk result IsQuiet }
+fn explained_stop(alloc: Global, stop: Stop) -> Result<Reply, Stop>
+    ensures answers { Says (IsReportOf (stop_answer stop)) (answer_of result) }
+    ensures quiet { IfOk result (λ reply. IsQuiet (said reply)) }
 {
     match stop {
         Stop::Plan(fault) => explained_fault(alloc, fault),
@@ -119,8 +114,8 @@ fn explained_script(
     json: bool,
     plan: CheckedPlan,
     text: &[u8],
-) -> Result<Report, Stop<'static>>
-    ensures quiet { IfOk result IsQuiet }
+) -> Result<Reply, Stop>
+    ensures quiet { IfOk result (λ reply. IsQuiet (said reply)) }
 {
     let plan = Arc::new(alloc, plan)?;
     match read_script(alloc, text) {
@@ -131,38 +126,39 @@ fn explained_script(
 }
 
 /// Returns the report of a script's file over a plan.
-fn over_plan<'a, S: FallibleRead>(
+fn over_plan<S: FallibleRead>(
     alloc: Global,
     json: bool,
     plan: CheckedPlan,
-    name: &'a str,
+    name: &str,
     script: &mut Source<S>,
-) -> Result<Report, Stop<'a>>
-    ensures quiet { IfOk result IsQuiet }
+) -> Result<Reply, Stop>
+    ensures quiet { IfOk result (λ reply. IsQuiet (said reply)) }
     ensures reason { FailsByRead S.answers script.old script.new }
 {
-    let text = contents(alloc, name, script)?;
+    let name = shown_name(alloc, name)?;
+    let text = contents(alloc, name.as_str(), script)?;
     explained_script(alloc, json, plan, text.as_slice())
 }
 
-/// Returns the answer of `explain PLAN SCRIPT`, where the files are printed with these names.
-pub fn explain_script<'a, P: FallibleRead, S: FallibleRead>(
+/// Returns the answer of `explain PLAN SCRIPT`. The files' names are printed with escapes.
+pub fn explain_script<P: FallibleRead, S: FallibleRead>(
     alloc: Global,
-    json: bool,
-    plan_name: &'a str,
-    script_name: &'a str,
+    job: &Job<'_>,
+    name: &str,
     plan: &mut Source<P>,
     script: &mut Source<S>,
-) -> Result<Report, Stop<'a>>
-    ensures answers { ExplainsFault json (file_of P.remaining plan_name.entry.now plan.old plan.new)
-        (report_answer result) }
-    ensures quiet { IfOk result IsQuiet }
+) -> Result<Reply, Stop>
+    ensures answers { ExplainsFault job.now.json
+        (file_of P.remaining (shown_name job.now.plan.now) plan.old plan.new) (answer_of result) }
+    ensures quiet { IfOk result (λ reply. IsQuiet (said reply)) }
     ensures plan_read { FailsByRead P.answers plan.old plan.new }
     ensures script_read { FailsByRead S.answers script.old script.new }
 {
-    match checked(alloc, plan_name, plan) {
-        Ok(plan) => over_plan(alloc, json, plan, script_name, script),
-        Err(stop) if json => explained_stop(alloc, stop),
+    let plan_name = shown_name(alloc, job.plan)?;
+    match checked(alloc, plan_name.as_str(), plan) {
+        Ok(plan) => over_plan(alloc, job.json, plan, name, script),
+        Err(stop) if job.json => explained_stop(alloc, stop),
         Err(stop) => Err(stop),
     }
 }

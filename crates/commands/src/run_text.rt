@@ -6,6 +6,8 @@ ghost use Rattle.std.specs.Option.{option_copied};
 ghost use Rattle.plan.specs.CheckedModel.{checked_model};
 ghost use Rattle.world.specs.Outcomes.{find_of, opened_of};
 ghost use Rattle.plan.specs.Sums.{sum_below};
+ghost use Rattle.commands.specs.Answers.{IsText};
+ghost use Rattle.commands.specs.Stops.{said};
 ghost use Rattle.commands.specs.RunText.{PrintsRun, counts_line, each_line, find_line, first_if, next_lsn, plan_line, refused_line, rest_if, status_of, writer_line};
 ghost use Rattle.commands.specs.FleetText.{PrintsDriven, journal_line, numbers_lines};
 ghost use Rattle.commands.specs.RunLines.{AppendsLine, AppendsLines};
@@ -235,35 +237,38 @@ fn add_writers(text: &mut String, writers: &[WriterOutcome]) -> Result<(), Alloc
     Ok(())
 }
 
-/// Returns the lines of the opened writers and of the recoveries that have cut, and the status of a run: 1 if a step
-/// was refused.
-pub fn end_lines(alloc: Global, outcome: &Outcome) -> Result<Reply, AllocError>
-    ensures status { IfOk result (λ reply. reply.status ≡ status_of outcome.now.results.items) }
-    ensures text { IfOk result (λ reply. string_bytes reply.text ≡ each_line writer_line
-        (map opened_of outcome.now.writers.items) ++ each_line find_line (map find_of outcome.now.finds.items)) }
+/// Returns the status of a run: 1 if a step was refused.
+pub fn run_status(outcome: &Outcome) -> u8
+    ensures status { result ≡ status_of outcome.now.results.items }
+    ensures small { result ≤ 1 }
+{
+    u8::from(has_refusal(outcome.results.as_slice()))
+}
+
+/// Returns the lines of the opened writers and of the recoveries that have cut.
+pub fn end_lines(alloc: Global, outcome: &Outcome) -> Result<String, AllocError>
+    ensures { IfOk result (λ text. string_bytes text ≡ each_line writer_line (map opened_of outcome.now.writers.items)
+        ++ each_line find_line (map find_of outcome.now.finds.items)) }
 {
     let ends = outcome.writers.len().saturating_add(outcome.finds.len());
     let mut text = String::with_capacity(alloc, room_for(0, ends))?;
     add_writers(&mut text, outcome.writers.as_slice())?;
     add_finds(&mut text, outcome.finds.as_slice())?;
-    let status = u8::from(has_refusal(outcome.results.as_slice()));
-    Ok(Reply { status, text })
+    Ok(text)
 }
 
-/// Returns a line for each step of a script, for each opened writer, and for each recovery that has cut. The status
-/// is 1 if a step was refused.
-pub fn run_lines(alloc: Global, steps: &[Step], outcome: &Outcome) -> Result<Reply, AllocError>
-    ensures { IfOk result (λ reply. PrintsRun steps.now outcome.now.results.items
-        (map opened_of outcome.now.writers.items) (map find_of outcome.now.finds.items) reply.status
-        (string_bytes reply.text)) }
+/// Returns a line for each step of a script, for each opened writer, and for each recovery that has cut.
+pub fn run_lines(alloc: Global, steps: &[Step], outcome: &Outcome) -> Result<String, AllocError>
+    ensures { IfOk result (λ text. PrintsRun steps.now outcome.now.results.items
+        (map opened_of outcome.now.writers.items) (map find_of outcome.now.finds.items)
+        (status_of outcome.now.results.items) (string_bytes text)) }
 {
     let ends = outcome.writers.len().saturating_add(outcome.finds.len());
     let mut text = String::with_capacity(alloc, room_for(steps.len(), ends))?;
     add_steps(&mut text, steps, outcome.results.as_slice())?;
     add_writers(&mut text, outcome.writers.as_slice())?;
     add_finds(&mut text, outcome.finds.as_slice())?;
-    let status = u8::from(has_refusal(outcome.results.as_slice()));
-    Ok(Reply { status, text })
+    Ok(text)
 }
 
 /// Returns the lines of how many events were made and refused.
@@ -290,7 +295,7 @@ fn journal_line(agrees: bool) -> &'static str
 /// writer and each recovery that has cut, and whether the journal agrees. The status is 0 if no event was refused and
 /// it agrees, else 1.
 pub fn fleet_lines(alloc: Global, driven: &Driven) -> Result<Reply, AllocError>
-    ensures { IfOk result (λ reply. PrintsDriven driven.now reply.status (string_bytes reply.text)) }
+    ensures { IfOk result (λ reply. IsText (PrintsDriven driven.now) (said reply)) }
 {
     let mut text = numbers(alloc, driven.steps, driven.refused)?;
     add_writers(&mut text, driven.outcome.writers.as_slice())?;
@@ -301,5 +306,5 @@ pub fn fleet_lines(alloc: Global, driven: &Driven) -> Result<Reply, AllocError>
     } else {
         1
     };
-    Ok(Reply { status, text })
+    Ok(Reply::printed(alloc, status, text.into_bytes()))
 }

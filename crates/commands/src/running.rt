@@ -1,10 +1,10 @@
 //! A script over a plan: `run`, and `fleet` on threads.
 
-ghost use Rattle.std.specs.Prelude.{◌≡◌, ◌≤◌, IfErr, IfOk, string_bytes, vec_len};
+ghost use Rattle.std.specs.Prelude.{◌≡◌, ◌≤◌, IfErr, IfOk, vec_len};
 ghost use Rattle.std.specs.Arc.{arc_value};
 ghost use Rattle.plan.specs.CheckedModel.{checked_model};
-ghost use Rattle.commands.specs.Answers.{AnswersOf, FleetsTo, RunsTo, PrintsOrders, file_of, script_name};
-ghost use Rattle.commands.specs.Stops.{answer_of};
+ghost use Rattle.commands.specs.Answers.{AnswersOf, FleetsTo, IsText, PrintsOrders, RunsTo, file_of, script_name};
+ghost use Rattle.commands.specs.Stops.{answer_of, said};
 ghost use Rattle.commands.specs.Streams.{FailsByRead};
 ghost use Rattle.commands.specs.FleetText.{PrintsFleet};
 ghost use Rattle.commands.specs.declared.reply.Stop.TheVariants.{NoMemory};
@@ -15,7 +15,7 @@ use crate::files::Source;
 use crate::inputs::{PlanAndScript, plan_and_script};
 use crate::leaking::leak;
 use crate::reply::{Reply, Stop};
-use crate::run_text::{fleet_lines, run_lines};
+use crate::run_text::{fleet_lines, run_lines, run_status};
 use drivers::{Script, drive};
 use plan::CheckedPlan;
 use std::alloc::Global;
@@ -24,32 +24,33 @@ use std::thread::Threads;
 use world::run_orders;
 
 /// Returns the answer of a script's run over a plan.
-fn ran(alloc: Global, both: PlanAndScript) -> Result<Reply, Stop<'static>>
-    ensures reported { IfOk result (λ reply. PrintsOrders (checked_model (arc_value both.plan)) both.script.steps.items
-        both.script.orders.items reply.status (string_bytes reply.text)) }
+fn ran(alloc: Global, both: PlanAndScript) -> Result<Reply, Stop>
+    ensures reported { IfOk result (λ reply. IsText (PrintsOrders (checked_model (arc_value both.plan))
+        both.script.steps.items both.script.orders.items) (said reply)) }
     ensures stop { IfErr result (λ stop. stop ≡ NoMemory) }
 {
     let PlanAndScript { plan, script } = both;
     let Script { steps, orders } = script;
     match run_orders(alloc, &plan, orders) {
         Ok(outcome) => {
-            let reported = run_lines(alloc, steps.as_slice(), &outcome)?;
+            let text = run_lines(alloc, steps.as_slice(), &outcome)?;
+            let status = run_status(&outcome);
             leak(outcome);
             leak(steps);
             leak(plan);
-            Ok(reported)
+            Ok(Reply::printed(alloc, status, text.into_bytes()))
         }
         Err(_) => Err(Stop::NoMemory),
     }
 }
 
 /// Returns the answer of `run`: checks the plan, reads the whole script, then runs it.
-pub fn run<'a, P: FallibleRead, S: FallibleRead>(
+pub fn run<P: FallibleRead, S: FallibleRead>(
     alloc: Global,
-    job: &Job<'a>,
+    job: &Job<'_>,
     plan: &mut Source<P>,
     script: &mut Source<S>,
-) -> Result<Reply, Stop<'a>>
+) -> Result<Reply, Stop>
     ensures answers { AnswersOf (file_of P.remaining job.now.plan.now plan.old plan.new)
         (RunsTo (file_of S.remaining (script_name job.now) script.old script.new)) (answer_of result) }
     ensures plan_read { FailsByRead P.answers plan.old plan.new }
@@ -68,10 +69,10 @@ fn driven<H: Threads + Wait + Sync>(
     plan: &Arc<CheckedPlan>,
     script: &Script,
     workers: u8,
-) -> Result<Reply, Stop<'static>>
+) -> Result<Reply, Stop>
     requires { (1 ≤ workers) × (workers ≤ 16) }
-    ensures reported { IfOk result (λ reply. PrintsFleet (checked_model (arc_value plan.now))
-        (vec_len script.now.orders) reply.status (string_bytes reply.text)) }
+    ensures reported { IfOk result (λ reply. IsText (PrintsFleet (checked_model (arc_value plan.now))
+        (vec_len script.now.orders)) (said reply)) }
     ensures stop { IfErr result (λ stop. stop ≡ NoMemory) }
 {
     match drive(rt, alloc, plan, script, workers) {
@@ -85,13 +86,13 @@ fn driven<H: Threads + Wait + Sync>(
 }
 
 /// Returns the answer of `fleet`: checks the plan, reads the whole script, then runs it on threads.
-pub fn fleet<'a, H: Threads + Wait + Sync, P: FallibleRead, S: FallibleRead>(
+pub fn fleet<H: Threads + Wait + Sync, P: FallibleRead, S: FallibleRead>(
     rt: &H,
     alloc: Global,
-    job: &Job<'a>,
+    job: &Job<'_>,
     plan: &mut Source<P>,
     script: &mut Source<S>,
-) -> Result<Reply, Stop<'a>>
+) -> Result<Reply, Stop>
     ensures answers { AnswersOf (file_of P.remaining job.now.plan.now plan.old plan.new)
         (FleetsTo (file_of S.remaining (script_name job.now) script.old script.new)) (answer_of result) }
     ensures plan_read { FailsByRead P.answers plan.old plan.new }

@@ -9,8 +9,8 @@ ghost use Rattle.plan.specs.PlanClaims.{claims_in};
 ghost use Rattle.plan.specs.Taped.{HasClaims};
 ghost use Rattle.cert_search.specs.Answers.{rule_in, AreAnswersOf};
 ghost use Rattle.commands.specs.Answers.{AnswersOf, file_of};
-ghost use Rattle.commands.specs.Searched.{AreFitted, IsLineWith, IsRoom, SearchesTo, PrintsSearch, claims_of, found_answer};
-ghost use Rattle.commands.specs.Stops.{StopsBy};
+ghost use Rattle.commands.specs.Searched.{AreFitted, IsLineWith, IsRoom, SearchesTo, PrintsSearch, claims_of};
+ghost use Rattle.commands.specs.Stops.{StopsBy, answer_of};
 ghost use Rattle.commands.specs.Streams.{FailsByRead};
 ghost use Rattle.commands.specs.Unfound.{claim_line, unfound_line, unfound_lines};
 ghost use Rattle.commands.specs.declared.reply.Stop.TheVariants.{NoMemory};
@@ -20,7 +20,7 @@ use crate::fallible::FallibleRead;
 use crate::files::Source;
 use crate::inputs::{contents, plan_of_tape, taped};
 use crate::leaking::leak;
-use crate::reply::{Found, Stop};
+use crate::reply::{Reply, Stop};
 use cert_search::{Gate, keep_shortest, search_all};
 use json::Scratch;
 use plan::{ClaimRef, PLAN_BYTES, Plan, TapedPlan, claim_name, lent_claims, shown_claims_certify};
@@ -42,7 +42,7 @@ impl Gate for NoGate {
 }
 
 /// Returns the claims of a plan.
-fn claims_of<'p>(alloc: Global, plan: &'p Plan) -> Result<Vec<ClaimRef<'p>>, Stop<'static>>
+fn claims_of<'p>(alloc: Global, plan: &'p Plan) -> Result<Vec<ClaimRef<'p>>, Stop>
     ensures claims { IfOk result (λ v. claims_in (plan_data plan.entry.now) ≡ Ok (all_lent v.items)) }
     ensures stop { IfErr result (StopsBy (λ fault. claims_in (plan_data plan.entry.now) ≡ Err fault)) }
 {
@@ -58,7 +58,7 @@ fn answers<H: Threads + Wait + Sync>(
     alloc: Global,
     plan: &Plan,
     workers: u8,
-) -> Result<Vec<Option<Certificate<Global>>>, Stop<'static>>
+) -> Result<Vec<Option<Certificate<Global>>>, Stop>
     requires { (0 < workers) × (workers ≤ 16) }
     ensures answers { IfOk result (λ v. AreAnswersOf 100000 (claims_in (plan_data plan.now)) (map rule_in v.items)) }
     ensures stop { IfErr result (λ stop. stop ≡ NoMemory) }
@@ -74,7 +74,7 @@ fn plan_line(
     alloc: Global,
     text: &TapedPlan<'_>,
     certificates: &[Option<Certificate<Global>>],
-) -> Result<Vec<u8>, Stop<'static>>
+) -> Result<Vec<u8>, Stop>
     requires { HasClaims text.now (length certificates.now) }
     ensures line { IfOk result (λ line. IsLineWith text.now (map rule_in certificates.now) line.items) }
     ensures stop { IfErr result (λ stop. stop ≡ NoMemory) }
@@ -100,7 +100,7 @@ fn nothing(alloc: Global, places: usize) -> Result<Vec<Option<Certificate<Global
 }
 
 /// Returns the bytes that the line of a text's plan without certificates leaves for them.
-fn room_beside(alloc: Global, text: &TapedPlan<'_>, places: usize) -> Result<u32, Stop<'static>>
+fn room_beside(alloc: Global, text: &TapedPlan<'_>, places: usize) -> Result<u32, Stop>
     requires { HasClaims text.now places }
     ensures room { IfOk result (IsRoom text.now places) }
     ensures stop { IfErr result (λ stop. stop ≡ NoMemory) }
@@ -116,7 +116,7 @@ fn fitting_line(
     alloc: Global,
     text: &TapedPlan<'_>,
     certificates: &mut Vec<Option<Certificate<Global>>>,
-) -> Result<Vec<u8>, Stop<'static>>
+) -> Result<Vec<u8>, Stop>
     requires { HasClaims text.now (length certificates.old.items) }
     ensures line { IfOk result (λ line. IsLineWith text.now (map rule_in certificates.new.items) line.items) }
     ensures fitted { IfOk result (λ _. AreFitted text.now (map rule_in certificates.old.items)
@@ -197,10 +197,9 @@ fn searched_tape<H: Threads + Wait + Sync>(
     alloc: Global,
     text: &TapedPlan<'_>,
     workers: u8,
-) -> Result<Found, Stop<'static>>
+) -> Result<Reply, Stop>
     requires { (0 < workers) × (workers ≤ 16) }
-    ensures reported { IfOk result (λ found. PrintsSearch text.now found.status found.plan.items
-        (string_bytes found.unfound)) }
+    ensures reported { IfOk result (λ reply. PrintsSearch text.now reply.status reply.out.items reply.err.items) }
     ensures stop { IfErr result (StopsBy (λ fault. claims_of text.now ≡ Err fault)) }
 {
     shown_claims_certify();
@@ -213,10 +212,10 @@ fn searched_tape<H: Threads + Wait + Sync>(
     leak(certificates);
     leak(claims);
     leak(plan);
-    Ok(Found {
+    Ok(Reply {
         status,
-        plan: line,
-        unfound,
+        out: line,
+        err: unfound.into_bytes(),
     })
 }
 
@@ -226,10 +225,9 @@ fn searched<H: Threads + Wait + Sync>(
     alloc: Global,
     text: &[u8],
     workers: u8,
-) -> Result<Found, Stop<'static>>
+) -> Result<Reply, Stop>
     requires { (0 < workers) × (workers ≤ 16) }
-    ensures reported { IfOk result (λ found. PrintsSearch text.now found.status found.plan.items
-        (string_bytes found.unfound)) }
+    ensures reported { IfOk result (λ reply. PrintsSearch text.now reply.status reply.out.items reply.err.items) }
     ensures stop { IfErr result (StopsBy (λ fault. claims_of text.now ≡ Err fault)) }
 {
     let mut scratch = Scratch::new(alloc);
@@ -240,14 +238,14 @@ fn searched<H: Threads + Wait + Sync>(
 }
 
 /// Returns the answer of `search`.
-pub fn search<'a, H: Threads + Wait + Sync, P: FallibleRead>(
+pub fn search<H: Threads + Wait + Sync, P: FallibleRead>(
     rt: &H,
     alloc: Global,
-    job: &Job<'a>,
+    job: &Job<'_>,
     plan: &mut Source<P>,
-) -> Result<Found, Stop<'a>>
+) -> Result<Reply, Stop>
     ensures answers { AnswersOf (file_of P.remaining job.now.plan.now plan.old plan.new) SearchesTo
-        (found_answer result) }
+        (answer_of result) }
     ensures reason { FailsByRead P.answers plan.old plan.new }
 {
     let text = contents(alloc, job.plan, plan)?;

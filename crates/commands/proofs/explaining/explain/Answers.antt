@@ -1,9 +1,15 @@
-use Rattle.commands.specs.Answers.{file_of}
-use Rattle.commands.specs.Stops.{answer_of}
-use Rattle.commands.proofs.ExplainedPlans.{explains_text}
+use Rattle.std.proofs.Common.{arith}
+use Rattle.commands.specs.FaultQuery.ExplainsJob.{of_file, of_number}
 use Rattle.commands.proofs.explaining.explain.Goals as goal
 
-pub returns-clause-answers : goal.returns-clause-answers
-returns-clause-answers g c =
-    explains_text (file_of g.P.Read.remaining c.args.name.now c.args.plan.now c.contents.new.file) c.in_ok-text.text.items c.as_slice.result.now (answer_of c.explained_text.result) c.in_ok-text.ensures.read c.as_slice.ensures.value
-    c.explained_text.ensures
+pub returns-in-Some-clause-answers : goal.returns-in-Some-clause-answers
+returns-in-Some-clause-answers g c = record {
+  explains = of_number c.in-Some.number c.in-Some.ensures.number c.explain_number.ensures;
+  of_file = λ file. absurd (file c.in-Some.number (omega arith) c.in-Some.ensures.number);
+}
+
+pub returns-in-None-clause-answers : goal.returns-in-None-clause-answers
+returns-in-None-clause-answers g c = record {
+  explains = of_file c.in-None.ensures.none c.explain_file.ensures.answers;
+  of_file = λ file. c.explain_file.ensures.answers;
+}

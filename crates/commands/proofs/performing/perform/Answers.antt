@@ -1,34 +1,58 @@
-use Rattle.std.proofs.Common.{◌≡◌, ◌∙◌, ap, false, subst, sym, true}
-use Rattle.commands.specs.Answers.{AnswersOf, file_of}
-use Rattle.commands.specs.Jobs.{prints_plan}
-use Rattle.commands.specs.Replaces.{ReplacesTo}
-use Rattle.commands.specs.Streams.{Ends}
-use Rattle.commands.specs.declared.action.ReplaceOptions.{ReplaceOptions}
+use Rattle.std.proofs.Common.{◌∙◌, ◌<◌, ℕ, subst, sym, arith}
+use Rattle.commands.proofs.Given.{ends_by}
+use Rattle.commands.proofs.JobAnswers.{job_no, job_quiet, job_silent, job_yes, said_by, said_job}
+use Rattle.commands.proofs.Says.{ends_below}
 use Rattle.commands.proofs.performing.perform.Goals as goal
 
-pub returns-in-None-clause-yes : goal.returns-in-None-clause-yes
-returns-in-None-clause-yes g c = λ other has zero. c.perform_explain.ensures.yes (has c.in-Explain.is c.in-None.is) zero
+pub returns-clause-yes : goal.returns-clause-yes
+returns-clause-yes g c = λ other has zero.
+    let end = ends_below c.finish.ensures.ends (omega arith) in
+    job_yes (said_job c.answer-reply.ensures.answers end.1) other has (sym end.2 ∙ zero)
 
-pub returns-in-Some-clause-yes : goal.returns-in-Some-clause-yes
-returns-in-Some-clause-yes g c = λ other has zero. c.perform_explain_script.ensures.yes zero
+pub returns-clause-no : goal.returns-clause-no
+returns-clause-no g c = λ is one.
+    let end = ends_below c.finish.ensures.ends (omega arith) in
+    job_no c.answer-reply.ensures.answers end.1 is (sym end.2 ∙ one)
 
-pub returns-in-Search-clause-yes : goal.returns-in-Search-clause-yes
-returns-in-Search-clause-yes g c = λ other has zero. let bad : true ≡ false = sym (ap prints_plan c.in-Search.is) ∙ other in absurd cc
+pub returns-clause-quiet : goal.returns-clause-quiet
+returns-clause-quiet g c = λ other small.
+    let end = ends_below c.finish.ensures.ends small in
+    end.3.untouched (job_quiet (said_job c.answer-reply.ensures.answers end.1) other (subst (λ (n : ℕ). n < 2) end.2 small))
 
-pub returns-in-Replace-clause-yes : goal.returns-in-Replace-clause-yes
-returns-in-Replace-clause-yes g c = λ other has zero. let bad : true ≡ false = sym (ap prints_plan c.in-Replace.is) ∙ other in absurd cc
+pub returns-clause-silent : goal.returns-clause-silent
+returns-clause-silent g c = λ zero.
+    let end = ends_below c.finish.ensures.ends (omega arith) in
+    end.3.untouched (job_silent (said_job c.answer-reply.ensures.answers end.1) (sym end.2 ∙ zero))
 
-pub returns-in-Replace-clause-replaces : goal.returns-in-Replace-clause-replaces
-returns-in-Replace-clause-replaces g c = λ o is.
-    let same : c.in-Replace.options ≡ o = cc in
-    subst (λ (p : ReplaceOptions). Ends g.O.Write.contents g.E.Write.contents (AnswersOf (file_of g.P.Read.remaining c.args.job.now.plan.now c.args.plan.now c.perform_replace.new.plan) (ReplacesTo p)) c.perform_replace.result c.args.out.now c.perform_replace.new.out c.args.err.now c.perform_replace.new.err)
-    same c.perform_replace.ensures.ends
+pub returns-clause-checks : goal.returns-clause-checks
+returns-clause-checks g c = λ is. ends_by c.finish.ensures.ends (λ a said. said_by c.answer-reply.ensures.answers said _ is)
 
-pub returns-in-Make-clause-makes : goal.returns-in-Make-clause-makes
-returns-in-Make-clause-makes g c = λ making is. c.perform_make.ensures.ends
+pub returns-clause-runs : goal.returns-clause-runs
+returns-clause-runs g c = λ is. ends_by c.finish.ensures.ends (λ a said. said_by c.answer-reply.ensures.answers said _ is)
 
-pub returns-in-New-clause-yes : goal.returns-in-New-clause-yes
-returns-in-New-clause-yes g c = λ other has zero. let bad : true ≡ false = sym (ap prints_plan c.in-New.is) ∙ other in absurd cc
+pub returns-clause-fleets : goal.returns-clause-fleets
+returns-clause-fleets g c = λ is. ends_by c.finish.ensures.ends (λ a said. said_by c.answer-reply.ensures.answers said _ is)
 
-pub returns-in-Draw-clause-yes : goal.returns-in-Draw-clause-yes
-returns-in-Draw-clause-yes g c = λ other has zero. let bad : true ≡ false = sym (ap prints_plan c.in-Draw.is) ∙ other in absurd cc
+pub returns-clause-searches : goal.returns-clause-searches
+returns-clause-searches g c = λ is. ends_by c.finish.ensures.ends (λ a said. said_by c.answer-reply.ensures.answers said _ is)
+
+pub returns-clause-replaces : goal.returns-clause-replaces
+returns-clause-replaces g c = λ options is. ends_by c.finish.ensures.ends (λ a said. said_by c.answer-reply.ensures.answers said _ is)
+
+pub returns-clause-makes : goal.returns-clause-makes
+returns-clause-makes g c = λ making is. ends_by c.finish.ensures.ends (λ a said. said_by c.answer-reply.ensures.answers said _ is)
+
+pub returns-clause-begins : goal.returns-clause-begins
+returns-clause-begins g c = λ is. ends_by c.finish.ensures.ends (λ a said. said_by c.answer-reply.ensures.answers said _ is)
+
+pub returns-clause-draws : goal.returns-clause-draws
+returns-clause-draws g c = λ is none. ends_by c.finish.ensures.ends (λ a said. (said_by c.answer-reply.ensures.answers said _ is).alone none)
+
+pub returns-clause-draws_run : goal.returns-clause-draws_run
+returns-clause-draws_run g c = λ is some. ends_by c.finish.ensures.ends (λ a said. (said_by c.answer-reply.ensures.answers said _ is).over some)
+
+pub returns-clause-explains : goal.returns-clause-explains
+returns-clause-explains g c = λ is none. ends_by c.finish.ensures.ends (λ a said. ((said_by c.answer-reply.ensures.answers said _ is).alone none).explains)
+
+pub returns-clause-explains_fault : goal.returns-clause-explains_fault
+returns-clause-explains_fault g c = λ is some. ends_by c.finish.ensures.ends (λ a said. ((said_by c.answer-reply.ensures.answers said _ is).over some).explains)

@@ -1,4 +1,4 @@
-use Rattle.commands.proofs.Edits.{any_fault}
+use Rattle.commands.proofs.Due.{any_fault}
 use Rattle.commands.proofs.pictures.drawn_plan.Goals as goal
 
 pub returns-in-Err-clause-stop : goal.returns-in-Err-clause-stop

@@ -9,7 +9,7 @@ pub returns-in-Ok-clause-answers : goal.returns-in-Ok-clause-answers
 returns-in-Ok-clause-answers g c =
     let both = c.in-Ok.both in
     both_reported (λ plan script status text. status ≤ 1) (file_of g.P.Read.remaining c.args.job.now.plan.now c.args.plan.now c.plan_and_script.new.plan) (file_of g.S.Read.remaining (script_name c.args.job.now) c.args.script.now c.plan_and_script.new.script)
-    (arc_value both.plan) both.script c.drawn_run.result c.in-Ok.ensures.plan c.in-Ok.ensures.script (λ text is. c.drawn_run.ensures.status) c.drawn_run.ensures.stop
+    (arc_value both.plan) both.script c.drawn_run.result c.in-Ok.ensures.plan c.in-Ok.ensures.script (λ text is. c.drawn_run.ensures.made) c.drawn_run.ensures.stop
 
 pub returns-in-Err-clause-answers : goal.returns-in-Err-clause-answers
 returns-in-Err-clause-answers g c =

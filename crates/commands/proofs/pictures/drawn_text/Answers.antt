@@ -1,9 +1,17 @@
+use Rattle.std.proofs.Common.{◌≡◌, Err, refl}
+use Rattle.std.proofs.lemmas.Result.{IfOk-weaker}
 use Rattle.plan.specs.Plan.{plan_data}
-use Rattle.commands.proofs.Drawn.{plan_drawn, unread_picture}
+use Rattle.plan.specs.PlanText.{plan_of}
+use Rattle.commands.specs.Draws.{DrawsTo}
+use Rattle.commands.specs.Draws.DrawsTo.{faulty, undrawn, drawn}
+use Rattle.commands.proofs.Due.{plan_says, stop_says}
 use Rattle.commands.proofs.pictures.drawn_text.Goals as goal
 
 pub returns-in-Ok : goal.returns-in-Ok
-returns-in-Ok c = plan_drawn c.args.text.now (plan_data c.in-Ok.plan) c.drawn_plan.result c.in-Ok.ensures.plan c.drawn_plan.ensures.status c.drawn_plan.ensures.stop
+returns-in-Ok c =
+    let plan = plan_data c.in-Ok.plan in
+    plan_says (λ fault. Unit {0}) (DrawsTo c.args.text.now) c.drawn_plan.result (λ fault is. undrawn plan c.in-Ok.ensures.plan fault refl)
+    (IfOk-weaker c.drawn_plan.result _ _ (λ reply h. drawn plan c.in-Ok.ensures.plan h.0 h.1) c.drawn_plan.ensures.picture) c.drawn_plan.ensures.stop
 
 pub returns-in-Err : goal.returns-in-Err
-returns-in-Err c = unread_picture c.args.text.now c.in-Err.stop c.in-Err.ensures.stop
+returns-in-Err c = stop_says (λ fault. plan_of c.args.text.now ≡ Err fault) (DrawsTo c.args.text.now) c.in-Err.stop (λ fault is. faulty fault is refl) c.in-Err.ensures.stop

@@ -1,5 +1,5 @@
 use Rattle.std.proofs.Common.{◌∙◌}
-use Rattle.commands.proofs.ExplainedScripts.{fault_reports, made_quiet}
+use Rattle.commands.proofs.Reported.{fault_reports, made_quiet}
 use Rattle.commands.proofs.run_explaining.explained_fault.Goals as goal
 
 pub returns-clause-report : goal.returns-clause-report

@@ -1,4 +1,4 @@
-use Rattle.std.proofs.Common.{◌≡◌, ◌∙◌, ap, ap₂, sym, subst, List, Option, Result, Ok, is_none, map}
+use Rattle.std.proofs.Common.{◌≡◌, ◌∙◌, ap, ap₂, sym, subst, List, Option, Result, Ok, is_none, map, rules, string_bytes}
 use Rattle.std.specs.List.{list_any}
 use Rattle.std.specs.declared.alloc.Global.{Global}
 use Rattle.refutation.specs.declared.certificate.Certificate.{Certificate}
@@ -20,6 +20,7 @@ use Rattle.commands.proofs.search.searched_tape.Goals as goal
 
 pub returns-clause-reported : goal.returns-clause-reported
 returns-clause-reported g c =
+    let same : c.into_bytes.result.items ≡ string_bytes c.in_ok-unfound.unfound = search rules in
     let text = c.args.text.now in
     let plan = plan_data c.in_ok-plan.plan in
     let claims = all_lent c.in_ok-claims.claims.items in
@@ -46,7 +47,7 @@ returns-clause-reported g c =
       rules = rules;
       fitted = fitted;
       line = subst (λ (p : PlanData). IsPlanLine text p c.in_ok-line.line.items) is line.2;
-      notes_are = c.in_ok-unfound.ensures ∙ ap₂ (λ xs ys. unfound_lines (all_lent xs) (rules_of ys)) c.deref.ensures.value c.deref-2.ensures.value;
+      notes_are = same ∙ c.in_ok-unfound.ensures ∙ ap₂ (λ xs ys. unfound_lines (all_lent xs) (rules_of ys)) c.deref.ensures.value c.deref-2.ensures.value;
       status_is = status;
       faultless = λ zero. c.shown_claims_certify.ensures.fault_free plan claims rules listed (all_shown 100000 text claims found rules answered fitted (no_gap rules (sym status ∙ zero)));
     }
