@@ -1,11 +1,11 @@
 -- Each step of a client keeps the invariant
-use Rattle.std.proofs.Common.{◌≡◌, ℕ, ◌+◌, ◌^◌, ◌<◌, ◌≤◌, max, Bool, true, false, not, ◌&&◌, ◌||◌, ◌==◌, nat_lt, nat_le, eqb, ◌⊎◌, List, [], ◌∷◌, ◌++◌, Option, Some, None, Ok, Err, length, refl, sym, ap, ◌∙◌, subst, inl, inr, arith}
+use Rattle.std.proofs.Common.{◌≡◌, ℕ, ◌+◌, ◌<◌, ◌≤◌, max, Bool, true, false, not, ◌&&◌, ◌||◌, ◌==◌, nat_lt, nat_le, eqb, ◌⊎◌, List, [], ◌∷◌, ◌++◌, Option, Some, None, Ok, Err, length, refl, sym, ap, ◌∙◌, subst, inl, inr, arith}
 use Rattle.std.proofs.lemmas.Bool.{cases_Bool, cases_lt, and_parts, true≢false, both_ways, eqb-true, eq-eqb, ltb-true, lt-ltb, leb-true, not-true, not-false}
 use Rattle.std.proofs.lemmas.List.{length-map}
 use Rattle.volume_model.specs.Lists.{IsIn, every, each_below, numbered, put}
 use Rattle.volume_model.specs.Formula.{Formula, sat}
 use Rattle.volume_model.proofs.FormulaLaws.{sat-some}
-use Rattle.volume_model.specs.Redo.{Redo, of_group, record_at, last_lsn, cut_of, log_found}
+use Rattle.volume_model.specs.Redo.{Redo, of_group, record_at, cut_of, log_found}
 use Rattle.volume_model.specs.Lineage.{Lineage, last_epoch, last_start, extended, Contents, newest, found_in}
 use Rattle.volume_model.specs.Pieces.{in_pieces}
 use Rattle.volume_model.specs.Plan.{Plan, IsCertified}
@@ -14,7 +14,7 @@ use Rattle.volume_model.specs.Message.Message.{View, Fence, Report, Install, Wri
 use Rattle.volume_model.specs.Node.{From, senders, with_first, in_group}
 use Rattle.volume_model.specs.Client.{Client, Stage, Count, ClientStep, ClientAnswer, is_born, has_cut, is_open, unborn, place_configuration, ClientGroup, newly_at, group_of, place_of, reports_of, counts_of, label_of, stays, place_of, reports_of, counts_of, no_group}
 use Rattle.volume_model.specs.ClientPoints.{reaching, best, counted_by, with_count, raised_group, raised, groups_now, durable_point}
-use Rattle.volume_model.specs.ClientWriter.{Change, record_of, is_last, issued_log, issued_writes, is_change, is_transaction, have_joined, issued, write_of, resent, last_of_group_below, page_asked}
+use Rattle.volume_model.specs.ClientWriter.{Change, record_of, is_last, issued_log, issued_writes, is_change, issued, write_of, resent, last_of_group_below, page_asked}
 use Rattle.volume_model.specs.ClientRecovery.{fences, to_install, installs, report_taken, all_reports, has_read, has_installed, cut_client, opened}
 use Rattle.volume_model.specs.ClientMessages.{is_later, later_in, later_unjoined, later_group, reread_group, with_places, viewed, ack_taken, are_places, taken}
 use Rattle.volume_model.specs.Client.Stage.{Unborn, Reading, Installing, Writing}
@@ -27,6 +27,7 @@ use Rattle.volume_model.specs.PieceLaws.{IsPieceOf}
 use Rattle.volume_model.proofs.Pieces.{in_pieces-from}
 use Rattle.volume_model.proofs.Kept.{install_of, IsPlace, IsGrown, HasRead, IsHeir, IsOwned, IsCutClient, IsReached, AreUnjoined, HasView, IsBorn, ClientKept, IsView, MessageKept, IsKept}
 use Rattle.volume_model.proofs.Added.{MessageNew, messages_added}
+use Rattle.volume_model.proofs.ClientRelations.{Ok-is, issued-ok}
 use Rattle.volume_model.proofs.Changed.{ClientGrows, client_changed}
 use Rattle.volume_model.proofs.Records.{of_group-from, of_group-has, of_group-none, found_in-from, newest-most, newest-of, all_reports-from, all_reports-has, all_reports-beyond, with_first-from, from_there}
 use Rattle.volume_model.proofs.Sound.{born_from_cut, is_sound}
@@ -34,7 +35,7 @@ use Rattle.volume_model.proofs.NodeSteps.{refuse_if-ok, extension-ok}
 use Rattle.volume_model.proofs.Groups.{set-all, length-slice_set, length-with_places, length-raised, group_of-beyond, group_of-with_places, later_group-none, reread_group-none, group_of-new, group_of-raised, raised-keeps}
 use Rattle.volume_model.proofs.Views.{place_in-there}
 use Rattle.std.specs.Prelude.{map, slice_set}
-use Rattle.volume_model.specs.declared.fault.Fault.TheVariants.{AlreadyDone, BadTransaction, LimitReached, LsnSpent, NoActor, NoGroup, NotAddressed, NotInPlan, NotJoined, NotOpen, NotReady}
+use Rattle.volume_model.specs.declared.fault.Fault.TheVariants.{AlreadyDone, NoActor, NoGroup, NotAddressed, NotInPlan, NotOpen, NotReady}
 
 cut_from_open : (stage : Stage) → is_open stage ≡ true → has_cut stage ≡ true
 cut_from_open Unborn h = h
@@ -159,9 +160,6 @@ module _ (plan : Plan) (certified : IsCertified plan) {held : Held} (world : Wor
 
   now : ClientKept plan world v client
   now = kept.clients v
-
-  Ok-is : (a b : ClientStep) → ◌≡◌ {A = ClientAnswer} (Ok a) (Ok b) → a ≡ b
-  Ok-is a b h = cc
 
   -- a client that stays, and says something
   stays_good : (made : List Message) → ((m : Message) → IsIn m made → ClientSays v client m) → IsGoodMove plan world v (record { made = made; client = client })
@@ -338,23 +336,17 @@ module _ (plan : Plan) (certified : IsCertified plan) {held : Held} (world : Wor
   pub issued_good : (changes : List Change) (step : ClientStep) → issued plan v client changes ≡ Ok step → IsGoodMove plan world v step
   issued_good changes step h =
       let start : ℕ = last_start client.lineage in
-      let last : ℕ = max (last_lsn client.log) start + length changes in
-      let (z, h0) = refuse_if-ok (not (is_born client.stage)) NoActor _ step h in
-      let (a, h1) = refuse_if-ok (not (is_open client.stage)) NotOpen _ step h0 in
-      let (b, h1') = refuse_if-ok (not (is_transaction (length client.groups) changes)) BadTransaction _ step h1 in
-      let (j, h2) = refuse_if-ok (not (have_joined client.groups changes)) NotJoined _ step h1' in
-      let (c, h3) = refuse_if-ok (nat_lt (2 ^ 62) last) LsnSpent _ step h2 in
-      let (d, h4) = refuse_if-ok (nat_lt (max (durable_point client) start + plan.lal) last) LimitReached _ step h3 in
-      let cut : has_cut client.stage ≡ true = cut_from_open client.stage (not-false _ a) in
+      let (open_now, transaction, is) = issued-ok plan v client changes step h in
+      let cut : has_cut client.stage ≡ true = cut_from_open client.stage open_now in
       let k : IsCutClient plan world v client = now.cut cut in
-      let good : (nat_le 1 (length changes) ≡ true) × ((nat_le (length changes) 32 && every (is_change (length client.groups)) changes) ≡ true) = and_parts _ _ (not-false _ b) in
+      let good : (nat_le 1 (length changes) ≡ true) × ((nat_le (length changes) 32 && every (is_change (length client.groups)) changes) ≡ true) = and_parts _ _ transaction in
       let each : every (is_change (length client.groups)) changes ≡ true = (and_parts (nat_le (length changes) 32) _ good.1).1 in
       let b' : IsBorn plan world v client = now.born (born_from_cut client.stage cut) in
       let there : (change : Change) → IsIn change changes → change.group < plan.groups =
       λ change i. (let w : length client.groups ≤ plan.groups = b'.within in let l : change.group < length client.groups = ltb-true change.group (length client.groups) (and_parts (nat_lt change.group (length client.groups)) _ (every-all (is_change (length client.groups)) changes each change i)).0 in omega arith) in
       let o : IsOwnLog client.found (issued_log v start changes client.log) = issued_own changes there client.found client.log (record { own = k.own; is = k.log; grown = k.grown; owned = k.owned }) in
       let after : Client = record client { log = issued_log v start changes client.log } in
-      subst (λ s. IsGoodMove plan world v s) (Ok-is _ step h4) (record {
+      subst (λ s. IsGoodMove plan world v s) is (record {
         grows = record { cut = λ h. h; lineage = λ h. refl; found = λ h. refl; logs = λ h r i. issued_keeps start changes client.log r i };
         client = record {
           born = λ h. (let n : IsBorn plan world v client = now.born h in record { positive = n.positive; known = n.known; within = n.within; viewed = n.viewed; places = n.places });

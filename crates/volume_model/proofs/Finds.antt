@@ -1,24 +1,23 @@
 -- What a client that has cut keeps, and what one that hasn't lacks
-use Rattle.std.proofs.Common.{◌≡◌, ℕ, ◌+◌, ◌^◌, max, true, false, not, ◌&&◌, ◌==◌, nat_lt, nat_le, List, [], Ok, length, refl, sym, ap, ◌∙◌, subst, inl, inr}
-use Rattle.std.proofs.lemmas.Bool.{cases_Bool, both_ways, true≢false, not-false}
+use Rattle.std.proofs.Common.{◌≡◌, ℕ, true, false, not, ◌&&◌, ◌==◌, nat_lt, nat_le, List, [], Ok, refl, sym, ap, ◌∙◌, subst, inl, inr}
+use Rattle.std.proofs.lemmas.Bool.{cases_Bool, both_ways, true≢false}
 use Rattle.volume_model.specs.Lists.{put}
-use Rattle.volume_model.specs.Redo.{cut_of, last_lsn}
-use Rattle.volume_model.specs.Lineage.{last_start, last_epoch, newest, found_in}
+use Rattle.volume_model.specs.Redo.{cut_of}
+use Rattle.volume_model.specs.Lineage.{last_epoch, newest, found_in}
 use Rattle.volume_model.specs.Plan.{Plan}
 use Rattle.volume_model.specs.Message.{Label, Place}
 use Rattle.volume_model.specs.Node.{From}
 use Rattle.volume_model.specs.Client.{Client, Stage, ClientStep, ClientGroup, is_born, has_cut, is_open, place_of, first_writer, unborn}
-use Rattle.volume_model.specs.ClientPoints.{durable_point}
-use Rattle.volume_model.specs.ClientWriter.{Change, is_transaction, issued, have_joined}
+use Rattle.volume_model.specs.ClientWriter.{Change, issued}
 use Rattle.volume_model.specs.ClientRecovery.{report_taken, has_read, cut_client, opened, reported}
 use Rattle.volume_model.specs.ClientMessages.{viewed, ack_taken}
 use Rattle.volume_model.specs.Client.Stage.{Unborn, Reading, Installing, Writing}
 use Rattle.volume_model.specs.World.{World, Event, after, run, opening}
 use Rattle.volume_model.specs.Finds.{StaysFound, FindsLast}
 use Rattle.volume_model.proofs.Basics.{put-all}
-use Rattle.volume_model.proofs.ClientRelations.{AreSteps, Ok-is, event_on, run_on}
+use Rattle.volume_model.proofs.ClientRelations.{AreSteps, Ok-is, event_on, issued-ok, run_on}
 use Rattle.volume_model.proofs.NodeSteps.{refuse_if-ok, extension-ok}
-use Rattle.volume_model.specs.declared.fault.Fault.TheVariants.{AlreadyDone, BadTransaction, LimitReached, LsnSpent, NoActor, NotOpen, NotReady, NotJoined}
+use Rattle.volume_model.specs.declared.fault.Fault.TheVariants.{AlreadyDone, NoActor, NotReady}
 
 -- before its cut a client has found nothing and has no lineage, and before it is open its log is what it found
 pub record IsTidy (client : Client) : Type 0 where
@@ -54,16 +53,8 @@ module _ (plan : Plan) (v : ℕ) (client : Client) where
 
   issue_keeps : (changes : List Change) (step : ClientStep) → issued plan v client changes ≡ Ok step → IsKeeping step
   issue_keeps changes step h =
-      let start : ℕ = last_start client.lineage in
-      let last : ℕ = max (last_lsn client.log) start + length changes in
-      let (z, h0) = refuse_if-ok (not (is_born client.stage)) NoActor _ step h in
-      let (a, h1) = refuse_if-ok (not (is_open client.stage)) NotOpen _ step h0 in
-      let (b, h1') = refuse_if-ok (not (is_transaction (length client.groups) changes)) BadTransaction _ step h1 in
-      let (j, h2) = refuse_if-ok (not (have_joined client.groups changes)) NotJoined _ step h1' in
-      let (c, h3) = refuse_if-ok (nat_lt (2 ^ 62) last) LsnSpent _ step h2 in
-      let (d, h4) = refuse_if-ok (nat_lt (max (durable_point client) start + plan.lal) last) LimitReached _ step h3 in
-      let open_now : is_open client.stage ≡ true = not-false _ a in
-      subst IsKeeping (Ok-is _ step h4) (record {
+      let (open_now, transaction, is) = issued-ok plan v client changes step h in
+      subst IsKeeping is (record {
         stays = λ h. record { cut_on = h; lineage_on = refl; found_on = refl };
         tidy = λ t. record { no_lineage = t.no_lineage; none_found = t.none_found; log_found = λ closed. absurd (both_ways _ closed open_now) };
       })

@@ -1,5 +1,5 @@
 -- What a writer has acknowledged it has acknowledged for good
-use Rattle.std.proofs.Common.{◌≡◌, ℕ, ◌+◌, ◌^◌, ◌<◌, ◌≤◌, max, Bool, true, false, not, ◌&&◌, ◌==◌, nat_lt, nat_le, eqb, List, [], ◌∷◌, ◌++◌, append_assoc, Ok, length, refl, sym, ap, ◌∙◌, subst, inl, inr, arith}
+use Rattle.std.proofs.Common.{◌≡◌, ℕ, ◌+◌, ◌<◌, ◌≤◌, Bool, true, false, not, ◌&&◌, ◌==◌, nat_lt, nat_le, eqb, List, [], ◌∷◌, ◌++◌, append_assoc, Ok, length, refl, sym, ap, ◌∙◌, subst, inl, inr, arith}
 use Rattle.std.proofs.lemmas.Bool.{cases_Bool, and_parts, and_from, both_ways, eqb-true, eq-eqb, leb-true, le-leb, not-true, cases_lt}
 use Rattle.volume_model.specs.Lists.{IsIn, any}
 use Rattle.volume_model.specs.Redo.{Redo, last_lsn, up_to}
@@ -9,7 +9,7 @@ use Rattle.volume_model.specs.Message.{Label, Place, place_in}
 use Rattle.volume_model.specs.Node.{From}
 use Rattle.volume_model.specs.Client.{Client, Stage, ClientStep, is_born, has_cut, is_open, place_of, counts_of, group_point_of, ClientGroup, no_group, group_of}
 use Rattle.volume_model.specs.ClientPoints.{complete_of, consistency_point_below, is_consistency_point, complete_point, durable_point, groups_now, with_count, raised, raised_group}
-use Rattle.volume_model.specs.ClientWriter.{Change, issued_log, record_of, is_last, is_transaction, issued, have_joined}
+use Rattle.volume_model.specs.ClientWriter.{Change, issued_log, record_of, is_last, issued}
 use Rattle.volume_model.specs.ClientRecovery.{report_taken, cut_client, opened}
 use Rattle.volume_model.specs.ClientMessages.{viewed, ack_taken, with_places, later_group, is_later}
 use Rattle.volume_model.specs.Client.Stage.{Unborn, Reading, Installing, Writing}
@@ -19,12 +19,12 @@ use Rattle.volume_model.proofs.Basics.{any_passes, any_from, IsIn-append_right}
 use Rattle.volume_model.proofs.Logs.{IsChain, up_to-newer}
 use Rattle.volume_model.proofs.Renewed.{IsKeptWorld}
 use Rattle.volume_model.proofs.Sound.{facts}
-use Rattle.volume_model.proofs.ClientRelations.{Ok-is, run_on}
+use Rattle.volume_model.proofs.ClientRelations.{issued-ok, run_on}
 use Rattle.volume_model.proofs.NodeSteps.{refuse_if-ok}
 use Rattle.volume_model.proofs.Run.{opening_kept, run_kept}
 use Rattle.volume_model.proofs.Groups.{set-all, group_of-with_places, later_group-none, group_of-beyond, group_of-raised}
 use Rattle.std.specs.Prelude.{slice_set}
-use Rattle.volume_model.specs.declared.fault.Fault.TheVariants.{AlreadyDone, BadTransaction, LimitReached, LsnSpent, NoActor, NotOpen, NotJoined}
+use Rattle.volume_model.specs.declared.fault.Fault.TheVariants.{AlreadyDone, NoActor}
 
 -- what an open client has it keeps
 pub record Lasts (old new : Client) : Type 0 where
@@ -65,15 +65,8 @@ module _ (plan : Plan) (v : ℕ) (client : Client) where
 
   issue_lasts : (changes : List Change) (step : ClientStep) → issued plan v client changes ≡ Ok step → IsLater step
   issue_lasts changes step h =
-      let start : ℕ = last_start client.lineage in
-      let last : ℕ = max (last_lsn client.log) start + length changes in
-      let (z, h0) = refuse_if-ok (not (is_born client.stage)) NoActor _ step h in
-      let (a, h1) = refuse_if-ok (not (is_open client.stage)) NotOpen _ step h0 in
-      let (b, h1') = refuse_if-ok (not (is_transaction (length client.groups) changes)) BadTransaction _ step h1 in
-      let (j, h2) = refuse_if-ok (not (have_joined client.groups changes)) NotJoined _ step h1' in
-      let (c, h3) = refuse_if-ok (nat_lt (2 ^ 62) last) LsnSpent _ step h2 in
-      let (d, h4) = refuse_if-ok (nat_lt (max (durable_point client) start + plan.lal) last) LimitReached _ step h3 in
-      subst IsLater (Ok-is _ step h4) (record { open_on = λ h. h; points = λ h group. omega arith; log = λ h. issued_later v start changes client.log })
+      let (open_now, transaction, is) = issued-ok plan v client changes step h in
+      subst IsLater is (record { open_on = λ h. h; points = λ h group. omega arith; log = λ h. issued_later v (last_start client.lineage) changes client.log })
 
   cut_lasts : (step : ClientStep) → cut_client plan v client ≡ Ok step → IsLater step
   cut_lasts step h =

@@ -8,7 +8,7 @@ use Rattle.volume_model.specs.Refusal.{refuse_if}
 use Rattle.volume_model.specs.Redo.{Redo, cut_of, log_found, record_at}
 use Rattle.volume_model.specs.Plan.{Plan}
 use Rattle.volume_model.specs.Message.{Label, Message}
-use Rattle.volume_model.specs.Message.Message.{View, StepTo, Fence, Report, Install, Write, Gossip, Ack, CopyAsk, CopyReport, PageAsk, Page}
+use Rattle.volume_model.specs.Message.Message.{View, StepTo, PageAsk}
 use Rattle.volume_model.specs.Node.{Node, NodeStep, page_checks, page_answer, reaction, Hydrated, finished, or_not_enough, gathered, whole_from, hydrated, offered, gossip_of}
 use Rattle.volume_model.specs.Client.{Client, ClientStep, is_born}
 use Rattle.volume_model.specs.ClientWriter.{Change, issued, resent, write_of, page_asked}
@@ -51,10 +51,6 @@ page_own plan group member node label block point = search (refuses_if {A = Node
 
 pub reaction_own : (plan : Plan) (group member : ℕ) (node : Node) (m : Message) → Refuses IsOwn (reaction plan group member node m)
 reaction_own plan group member node (PageAsk to label block point) = let page = page_own plan group member node label block point in search (refuses_if {A = NodeStep} IsOwn, page) depth 12
-reaction_own plan group member node (View volume places) = tt
-reaction_own plan group member node (Report to label sender contents) = tt
-reaction_own plan group member node (Ack to label sender reached) = tt
-reaction_own plan group member node (Page to label sender block point bytes) = tt
 reaction_own plan group member node m = search (refuses_if {A = NodeStep} IsOwn) depth 12
 
 enough_own : (o : Option Hydrated) → Refuses IsOwn (or_not_enough o)
@@ -137,19 +133,9 @@ page_asked_own_born volume client group block born = search (refuses_if {A = Cli
 
 pub taken_own : (plan : Plan) (volume : ℕ) (client : Client) (m : Message) → Refuses IsOwnOfClient (taken plan volume client m)
 taken_own plan volume client (StepTo group place) = tt
-taken_own plan volume client (Fence group label) = tt
-taken_own plan volume client (Install group label piece contents) = tt
-taken_own plan volume client (Write group label r) = tt
-taken_own plan volume client (Gossip group label r) = tt
-taken_own plan volume client (CopyAsk group epoch) = tt
-taken_own plan volume client (CopyReport group epoch sender series piece contents) = tt
-taken_own plan volume client (PageAsk group label block point) = tt
 taken_own plan volume client m = search (refuses_if {A = ClientStep} IsOwnOfClient) depth 12
 
 -- of a client that is born
 pub taken_own_born : (plan : Plan) (volume : ℕ) (client : Client) (m : Message) → is_born client.stage ≡ true → Refuses IsOwn (taken plan volume client m)
 taken_own_born plan volume client (View of places) born = search (refuses_if {A = ClientStep} IsOwn) depth 12
-taken_own_born plan volume client (Report group label sender contents) born = search (refuses_if {A = ClientStep} IsOwn, refuses_not {A = ClientStep} IsOwn, born) depth 12
-taken_own_born plan volume client (Ack group label sender reached) born = search (refuses_if {A = ClientStep} IsOwn, refuses_not {A = ClientStep} IsOwn, born) depth 12
-taken_own_born plan volume client (Page group label sender block point bytes) born = search (refuses_if {A = ClientStep} IsOwn, refuses_not {A = ClientStep} IsOwn, born) depth 12
-taken_own_born plan volume client m born = tt
+taken_own_born plan volume client m born = search (refuses_if {A = ClientStep} IsOwn, refuses_not {A = ClientStep} IsOwn, born) depth 12
