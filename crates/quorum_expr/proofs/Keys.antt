@@ -137,9 +137,6 @@ pub record Counts (all : Members) (ts : List Token) (seen : List (Bor (List ℕ)
   pub many : members_len found ≡ count
   pub has : (k : List ℕ) → among k seen ≡ is_some (get_member k found)
 
-pub counts_none : (all : Members) (ms : json.Members) (ts : List Token) (seen : List (Bor (List ℕ))) → InMembers ts ms → of_members ms no_members ≡ Some all → Counts all ts (take 0 seen) 0
-counts_none all ms ts seen h is = record { rest = ms; found = no_members; inside = h; ends = is; up = tt; many = refl; has = λ k. refl }
-
 pub record Next (all : Members) (new : List Token) (key : List ℕ) (seen : List (Bor (List ℕ))) (count : ℕ) (found : Members) : Type 0 where
   pub rest : json.Members
   pub d : Data

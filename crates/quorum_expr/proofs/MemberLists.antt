@@ -180,10 +180,6 @@ pub pushed_nodes : {A : Type 0} (es : List (ℕ × Expr A)) (e : ℕ × Expr A) 
 pushed_nodes [] e = omega arith
 pushed_nodes (x ∷ es) e = omega (arith, pushed_nodes es e)
 
-pub members_nodes : (ms : List ℕ) → row_nodes (each_once (map member ms)) ≡ length ms
-members_nodes [] = refl
-members_nodes (m ∷ ms) = omega (arith, members_nodes ms)
-
 -- ---- a list of members that grows by one
 
 pub formulas_pushed : {A : Type 0} (es : List (ℕ × Expr A)) (e : ℕ × Expr A) → formulas_of (es ++ e ∷ []) ≡ formulas_of es ++ formula_of e.1 ∷ []

@@ -1,13 +1,12 @@
 -- What a node spells at its own level, and rows of children that weigh one each.
-use Rattle.std.proofs.Common.{◌≡◌, ℕ, zero, suc, ◌<◌, ◌≤◌, List, [], ◌∷◌, min, Bool, true, false, Some, None, Result, Ok, Err, refl, sym, ap, ◌∙◌, arith, length, ◌++◌, length-append, append_assoc, append-nil}
+use Rattle.std.proofs.Common.{◌≡◌, ℕ, zero, suc, ◌<◌, ◌≤◌, [], ◌∷◌, min, Bool, true, false, Some, None, Ok, Err, refl, sym, ap, ◌∙◌, arith, length, length-append}
 use Rattle.std.specs.Prelude.{nat_le, is_some, if◌then◌else◌, Option, ◌⊎◌}
 use Rattle.std.proofs.Common.{inl, inr}
 use Rattle.std.proofs.lemmas.Bool.Decides.{nat_tests}
-use Rattle.serde_json.specs.Data.{Data, null, boolean, number, string, array, object, Items, no_items, item}
+use Rattle.serde_json.specs.Data.{Data, null, boolean, number, string, array, object}
 use Rattle.serde_json.specs.Events.{members_len}
-use Rattle.serde_json.specs.Find.{as_number, as_array}
+use Rattle.serde_json.specs.Find.{as_number}
 use Rattle.quorum_expr.specs.Nodes.{keys_up_to}
-use Rattle.volume_model.specs.declared.fault.Fault.{Fault}
 use Rattle.volume_model.specs.declared.fault.Fault.TheVariants.{Malformed}
 use Rattle.volume_model.specs.Answer.{◌>>=◌}
 use Rattle.volume_model.specs.Lists.{each_below}
@@ -15,9 +14,8 @@ use Rattle.volume_model.specs.Sets.{listed}
 use Rattle.std.specs.Ordering.{nat_cmp}
 use Rattle.std.specs.FinSet.{FinSet, contains}
 use Rattle.quorum_expr.specs.declared.form.Lists.{Lists}
-use Rattle.quorum_expr.specs.Reading.{Weights, single, whole_of, good_keys, good_row, choice_of, form_of, wholes_of, whole_list_of}
+use Rattle.quorum_expr.specs.Reading.{Weights, single, whole_of, good_keys, good_row, choice_of, form_of}
 use Rattle.quorum_expr.proofs.Rows.{row-long}
-use Rattle.quorum_expr.proofs.Wholes.{behind}
 
 -- ---- a number
 
@@ -46,11 +44,6 @@ good_few false n h = grind (arith, nat_tests, h)
 
 pub keyed_form : (lists : Lists) (d : Data) (n : ℕ) → Some n ≡ keys_up_to 4 d → form_of lists d ≡ (if good_keys lists.is_weighted n then choice_of lists n d else Err Malformed)
 unfolding form_of
-keyed_form lists null n h = absurd (cc)
-keyed_form lists (boolean b) n h = absurd (cc)
-keyed_form lists (number x) n h = absurd (cc)
-keyed_form lists (string s) n h = absurd (cc)
-keyed_form lists (array ds) n h = absurd (cc)
 keyed_form lists (object ms) n h =
     let same : n ≡ min (members_len ms) 4 = some_same n (min (members_len ms) 4) h in
     elim (good_keys lists.is_weighted n) as (λ b. good_keys lists.is_weighted n ≡ b → (if good_keys lists.is_weighted (members_len ms) then choice_of lists (members_len ms) (object ms) else Err Malformed) ≡ (if b then choice_of lists n (object ms) else Err Malformed)) [
@@ -59,15 +52,13 @@ keyed_form lists (object ms) n h =
           ap (λ b. if b then choice_of lists (members_len ms) (object ms) else Err Malformed) (sym (keys_capped lists.is_weighted (members_len ms)) ∙ good) ∙ ap (λ k. choice_of lists k (object ms)) (sym (same ∙ good_few lists.is_weighted (members_len ms) good))
       | false ↦ λ e. ap (λ b. if b then choice_of lists (members_len ms) (object ms) else Err Malformed) (sym (keys_capped lists.is_weighted (members_len ms)) ∙ ap (good_keys lists.is_weighted) (sym same) ∙ e)
     ] refl
+keyed_form lists d n h = absurd (cc)
 
 pub no_form : (lists : Lists) (d : Data) → is_some (as_number d) ≡ false → None ≡ keys_up_to 4 d → form_of lists d ≡ Err Malformed
 unfolding form_of
-no_form lists null h i = refl
-no_form lists (boolean b) h i = refl
 no_form lists (number x) h i = absurd (cc)
-no_form lists (string s) h i = refl
-no_form lists (array ds) h i = refl
 no_form lists (object ms) h i = absurd (cc)
+no_form lists d h i = refl
 
 -- ---- rows
 
@@ -89,35 +80,3 @@ few_below (suc n) test =
 
 pub few_listed : (s : FinSet nat_cmp) → min (length (listed s)) 65 ≡ length (listed s)
 few_listed s = let few : length (listed s) ≤ 64 = few_below 64 (contains s) in omega (arith, few)
-
--- ---- whole numbers one after another
-
-pushed : (xs : List ℕ) (m : ℕ) (rest : Result (List ℕ) Fault) → behind xs (rest >>= λ ns. Ok (m ∷ ns)) ≡ behind (xs ++ m ∷ []) rest
-pushed xs m (Ok ns) = ap Ok (sym (append_assoc xs (m ∷ []) ns))
-pushed xs m (Err fault) = refl
-
-pub read_on : (front : List ℕ) (n : ℕ) (d : Data) (ds old : Items) (all : Result (List ℕ) Fault) → old ≡ item d ds → whole_of d ≡ Ok n → behind front (wholes_of old) ≡ all → behind (front ++ n ∷ []) (wholes_of ds) ≡ all
-read_on front n d ds old all is whole so_far =
-    sym (pushed front n (wholes_of ds)) ∙ sym (ap (λ r. behind front (r >>= λ m. wholes_of ds >>= λ ns. Ok (m ∷ ns))) whole) ∙ sym (ap (λ x. behind front (wholes_of x)) is) ∙ so_far
-
-pub read_fails : (front : List ℕ) (d : Data) (ds old : Items) (all : Result (List ℕ) Fault) → old ≡ item d ds → whole_of d ≡ Err Malformed → behind front (wholes_of old) ≡ all → all ≡ Err Malformed
-read_fails front d ds old all is bad so_far = sym so_far ∙ ap (λ x. behind front (wholes_of x)) is ∙ ap (λ r. behind front (r >>= λ m. wholes_of ds >>= λ ns. Ok (m ∷ ns))) bad
-
-pub read_all : (front : List ℕ) (old : Items) (all : Result (List ℕ) Fault) → old ≡ no_items → behind front (wholes_of old) ≡ all → all ≡ Ok front
-read_all front old all is so_far = sym so_far ∙ ap (λ x. behind front (wholes_of x)) is ∙ ap Ok (append-nil front)
-
-pub listed_wholes : (d : Data) (ds : Items) → Some ds ≡ as_array d → whole_list_of d ≡ wholes_of ds
-listed_wholes null ds h = absurd (cc)
-listed_wholes (boolean b) ds h = absurd (cc)
-listed_wholes (number x) ds h = absurd (cc)
-listed_wholes (string s) ds h = absurd (cc)
-listed_wholes (array es) ds h = let same : ds ≡ es = cc in ap wholes_of (sym same)
-listed_wholes (object ms) ds h = absurd (cc)
-
-pub no_wholes : (d : Data) → None ≡ as_array d → whole_list_of d ≡ Err Malformed
-no_wholes null h = refl
-no_wholes (boolean b) h = refl
-no_wholes (number x) h = refl
-no_wholes (string s) h = refl
-no_wholes (array es) h = absurd (cc)
-no_wholes (object ms) h = refl

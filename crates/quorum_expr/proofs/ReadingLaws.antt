@@ -17,7 +17,7 @@ use Rattle.quorum_expr.specs.declared.form.Lists.{Lists}
 use Rattle.quorum_expr.specs.Valid.{or_then, good_choice, shape_fault, row_fault, nodes, expression_fault}
 use Rattle.quorum_expr.proofs.ValidLaws.{neither}
 use Rattle.quorum_expr.proofs.Rows.{row-read}
-use Rattle.quorum_expr.specs.Reading.{ChildList, each, named, Weights, weighing, good_row, Form, single, choice, set_of, form_of, child_count, each_of, members_at, children_at, formula_from, formula_at, expression_in}
+use Rattle.quorum_expr.specs.Reading.{ChildList, each, named, Weights, weighing, good_row, Form, single, choice, set_of, form_of, child_count, each_of, members_at, children_at, formula_from, formula_at}
 
 -- ---- the parts of a reading without a fault
 
@@ -125,11 +125,3 @@ formula_within lists (suc left) d f h =
 pub valid_read : (lists : Lists) (d : Data) (f : Formula) → formula_at lists 6 d ≡ Ok f → nat_le (nodes f) 4096 ≡ true → expression_fault f ≡ None
 valid_read lists d f h few =
     neither (shape_fault f 6) (if nat_le (nodes f) 4096 then None else Some OverLimit) (formula_within lists 6 d f h) (ap (λ (b : Bool). if b then None else Some OverLimit) few)
-
--- an expression that is read is valid
-pub valid-expression_in : (lists : Lists) (d : Data) (f : Formula) → expression_in lists d ≡ Ok f → expression_fault f ≡ None
-unfolding expression_in
-valid-expression_in lists d f h =
-    let whole = bind_ok (formula_at lists 6 d) (λ g. if nat_le (nodes g) 4096 then Ok g else Err OverLimit) f h in
-    let few = if_ok (nat_le (nodes whole.0) 4096) (Ok whole.0) OverLimit f whole.2 in
-    ap expression_fault (sym (same_ok whole.0 f few.1)) ∙ valid_read lists d whole.0 whole.1 few.0

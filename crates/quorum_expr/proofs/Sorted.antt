@@ -4,7 +4,7 @@ use Rattle.std.specs.Prelude.{⊤}
 use Rattle.json.specs.Token.{Token}
 use Rattle.json.specs.Json as json
 use Rattle.json.specs.Json.{Json}
-use Rattle.serde_json.specs.Data.{Data, null, boolean, number, string, array, object, Members, no_members, put}
+use Rattle.serde_json.specs.Data.{Data, object, Members, no_members, put}
 use Rattle.serde_json.specs.Read.{of_json, of_members}
 use Rattle.quorum_expr.specs.Placed.{data_at, or_null}
 use Rattle.quorum_expr.proofs.Keys.{IsAscending, ascending_put}
@@ -13,12 +13,8 @@ use Rattle.quorum_expr.proofs.Places.{placed, data-placed}
 
 -- an object's members are in order
 abbrev pub IsInOrder : Data → Type 0
-IsInOrder null = ⊤
-IsInOrder (boolean b) = ⊤
-IsInOrder (number n) = ⊤
-IsInOrder (string s) = ⊤
-IsInOrder (array ds) = ⊤
 IsInOrder (object ms) = IsAscending ms
+IsInOrder d = ⊤
 
 all_up : (ms : json.Members) (found all : Members) → of_members ms found ≡ Some all → IsAscending found → IsAscending all
 all_up json.no_members found all h up = let same : found ≡ all = cc in subst IsAscending same up

@@ -1,16 +1,12 @@
 use Rattle.std.proofs.Common.{◌≡◌, ℕ, List, Bool, true, false, cond, Option, option_map, Some, None, refl, sym, ap, ◌∙◌, subst, arith}
 use Rattle.std.specs.Str.{bytes_eq}
-use Rattle.json.specs.Json.{Json, null, boolean, number, string, array, object, no_members}
+use Rattle.json.specs.Json.{Json, object, no_members}
 use Rattle.json.specs.Find.{NextMember, Finds, later_or, get_member, get, as_object}
 use Rattle.quorum_expr.proofs.on_tape.find.Goals as goal
 
 get_nothing : (name : List ℕ) (j : Json) → as_object j ≡ None → Finds None (get name j)
-get_nothing name null h = refl
-get_nothing name (boolean b) h = refl
-get_nothing name (number s) h = refl
-get_nothing name (string s) h = refl
-get_nothing name (array js) h = refl
 get_nothing name (object ms) h = absurd (cc)
+get_nothing name j h = refl
 
 or_none : (o : Option Json) → o ≡ later_or o None
 or_none None = refl
