@@ -32,9 +32,6 @@ pub depth_under : {A : Type 0} (then : List (Refutation A)) (i levels : ℕ) (x 
 depth_under {A} then i levels x h is under =
     max_under (depth_of (rule_of x)) _ levels under ∙ ap (λ (rs : List Rule). nat_le (branch_depth (branches_of rs)) levels) (sym (branches_step then i x h is))
 
-one_taken : (room all nodes rest left : ℕ) → left - nodes - rest ≡ left - (nodes + rest)
-one_taken room all nodes rest left = omega arith
-
 pub nodes_step : {A : Type 0} (then : List (Refutation A)) (i left : ℕ) (x : Refutation A) → i < length then → x ≡ get_or then i x → left - nodes_of (rule_of x) - branch_nodes (branches_of (map rule_of (drop (i + 1) then))) ≡ left - branch_nodes (branches_of (map rule_of (drop i then)))
 nodes_step {A} then i left x h is =
     let counted : branch_nodes (branches_of (map rule_of (drop i then))) ≡ nodes_of (rule_of x) + branch_nodes (branches_of (map rule_of (drop (i + 1) then))) = ap (λ (rs : List Rule). branch_nodes (branches_of rs)) (branches_step then i x h is) in
@@ -154,11 +151,7 @@ no_level r levels none = deep (depth_of r) levels (positive r) none
 
     positive : (r : Rule) → 0 < depth_of r
     positive (dead side i) = omega arith
-    positive (clash i j) = omega arith
-    positive (open_all side i rule) = omega arith
-    positive (pick side i children branches) = omega arith
-    positive (pair_up i j pairs branches) = omega arith
-    positive (split x left right) = omega arith
+    positive rule = omega arith
 
 pub and_true : (kept short given rest : Bool) → kept ≡ (given && rest) → short ≡ given → short ≡ true → rest ≡ kept
 and_true kept short given rest e is h = sym (e ∙ ap (λ b. b && rest) (sym is ∙ h))
