@@ -5,14 +5,14 @@ use Rattle.std.proofs.lemmas.List.{length-append}
 use Rattle.std.proofs.lemmas.Bool.Decides.{nat_tests}
 use Rattle.std.specs.Ordering.{nat_cmp}
 use Rattle.std.specs.Cmp.{nat_cmp_total}
-use Rattle.std.specs.FinSet.{FinSet, empty, insert, remove, contains, difference, contains-empty, contains-difference}
+use Rattle.std.specs.FinSet.{FinSet, empty, insert, contains, difference, contains-empty, contains-difference}
 use Rattle.volume_model.specs.Formula.{Formula, Members, sat, HasCounts}
 use Rattle.volume_model.specs.Lists.{IsIn, each_below}
 use Rattle.volume_model.specs.Sets.{listed}
 use Rattle.volume_model.proofs.Sets.{contains-put}
 use Rattle.volume_model.proofs.FormulaLaws.{sat-some}
 use Rattle.quorum_checker.specs.Cases.{AreSmall}
-use Rattle.quorum_checker.specs.Tolerance.{all_of, count_of, taken, takes, left_of, left_by, evaluations, IsLoss, IsLeastAfter, IsLeastLoss, is_stopping}
+use Rattle.quorum_checker.specs.Tolerance.{all_of, count_of, taken, takes, left_of, left_by, IsLoss, IsLeastAfter, IsLeastLoss}
 use Rattle.quorum_checker.proofs.Split.{parts}
 use Rattle.quorum_checker.proofs.Apart.{in_listed, listed_small}
 
@@ -74,18 +74,6 @@ pub all_count : (s : FinSet nat_cmp) → length (all_of s) ≡ count_of s
 unfolding all_of count_of
 all_count s = refl
 
--- ---- how often the formula is asked for
-
-pub some_evaluations : (n : ℕ) → 1 ≤ evaluations n
-some_evaluations zero = omega arith
-some_evaluations (suc n) = omega arith
-
-pub evaluations_of : (ms : List ℕ) → 1 ≤ length ms → evaluations (length ms) ≡ 1 + evaluations (length (take (length ms - 1) (drop 1 ms))) + evaluations (length (take (length ms - 1) (drop 1 ms)))
-evaluations_of ms h = ap (λ xs. evaluations (length xs)) (parts ms h)
-
-pub length_of : (ms : List ℕ) → 1 ≤ length ms → length ms ≡ suc (length (take (length ms - 1) (drop 1 ms)))
-length_of ms h = ap length (parts ms h)
-
 -- ---- what a loss leaves
 
 same_sat : (f : Formula) (s t : Members) → ((x : ℕ) → s x ≡ t x) → sat f s ≡ sat f t
@@ -101,10 +89,6 @@ shuffle true false false t = refl
 skipped : (a e t : Bool) → (a && not t) ≡ (a && not ((e && false) || t))
 skipped a true t = refl
 skipped a false t = refl
-
-kept : (a : Bool) → a ≡ (a && not false)
-kept true = refl
-kept false = refl
 
 pub taken_one : (f : Formula) (members gone : FinSet nat_cmp) (x : ℕ) (xs : List ℕ) (loss : Members) → loss x ≡ true → sat f (left_of loss xs (difference members (insert gone x))) ≡ true → sat f (left_of loss (x ∷ xs) (difference members gone)) ≡ true
 taken_one f members gone x xs loss is h =
@@ -136,18 +120,6 @@ joined_of f members gone more ms n m best first size some is next one other =
 pub if_some : {A : Type 0} {P Q : A → Type 0} (o : Option A) → ((x : A) → P x → Q x) → IfSome o P → IfSome o Q
 if_some None h p = tt
 if_some (Some x) h p = h x p
-
--- nothing is smaller than what is gone
-pub nothing_smaller : (f : Formula) (left : FinSet nat_cmp) (rest : List ℕ) (n best size : ℕ) → size ≤ n → size ≤ best → IsLeastAfter f left rest n best size
-nothing_smaller f left rest n best size h i = record { better = i; least = λ loss less. absurd (omega (arith, less, h)) }
-
--- no member is left to be lost
-pub nothing_left : (f : Formula) (left : FinSet nat_cmp) (rest : List ℕ) (n best : ℕ) → rest ≡ [] → sat f (contains left) ≡ true → IsLeastAfter f left rest n best best
-nothing_left f left rest n best none held =
-    subst (λ xs. IsLeastAfter f left xs n best best) (sym none) (record {
-      better = omega arith;
-      least = λ loss less. sym (same_sat f (contains left) (left_of loss [] left) (λ y. kept (contains left y))) ∙ held;
-    })
 
 -- ---- the whole walk
 
@@ -237,11 +209,3 @@ none_below x b = grind (arith, nat_tests)
 
 pub put_start : (s : FinSet nat_cmp) (p : ℕ → Bool) → s ≡ nobody → (x : ℕ) → contains s x ≡ (nat_lt x 0 && p x)
 put_start s p is x = ap (λ t. contains t x) is ∙ contains-empty nat_cmp x ∙ none_below x (p x)
-
-all_below : (x : ℕ) (b c : Bool) → (b ≡ true → x < 64) → (nat_lt x 64 && (b && c)) ≡ (b && c)
-all_below x true c low = let h : x < 64 = low refl in grind (arith, nat_tests, h)
-all_below x false c low = grind (arith, nat_tests)
-
-pub put_all : (f : Formula) (members s : FinSet nat_cmp) (m : ℕ) → m ≡ 64 → ((x : ℕ) → contains members x ≡ true → x < 64) → ((x : ℕ) → contains s x ≡ (nat_lt x m && is_stopping f members x)) → (x : ℕ) → contains s x ≡ is_stopping f members x
-put_all f members s m end below so x =
-    so x ∙ ap (λ n. nat_lt x n && is_stopping f members x) end ∙ all_below x (contains members x) (not (sat f (contains (remove members x)))) (below x)

@@ -4,7 +4,6 @@ use Rattle.std.specs.Prelude.{Bool, true, false, not, ◌&&◌, nat_lt, Vec, Opt
 use Rattle.std.specs.List.{list_any}
 use mathlib.Core.Bool.{true≢false}
 use Rattle.std.proofs.lemmas.Bool.Decides.{nat_tests}
-use Rattle.std.proofs.lemmas.List.{length-map}
 use Rattle.quorum_expr.specs.declared.expression.Expr.{Expr}
 use Rattle.quorum_expr.specs.declared.expression.Expr.TheVariants.{KOf}
 use Rattle.volume_model.specs.Formula.{Formula, member, at_least, total_weight, formulas, each_weighs, HasCounts}
@@ -17,7 +16,7 @@ use Rattle.quorum_expr.proofs.ValidLaws.{HasCounts-from}
 use Rattle.volume_model.specs.declared.fault.Fault.{Fault}
 use Rattle.volume_model.specs.declared.fault.Fault.TheVariants.{NotAll, BadPair, TooFewPicked, CountTooSmall, BranchCount}
 use Rattle.quorum_checker.specs.declared.item.Threshold.{Threshold}
-use Rattle.quorum_checker.specs.Items.{shown_as, bare, IsMember, IsThreshold}
+use Rattle.quorum_checker.specs.Items.{shown_as, bare, IsThreshold}
 use Rattle.quorum_checker.proofs.Sums.{bare-total, bare-weighs, bare-picked, bare-paired, formulas-weighed}
 use Rattle.quorum_checker.specs.Refutes.{picked_weight, paired_weight}
 use Rattle.quorum_checker.specs.FirstFault.{good_places, children_of, open_fault, pick_fault, pair_fault}
@@ -33,9 +32,6 @@ pub few_children : {A : Type 0} (e : Expr A) (k : ℕ) (of : Vec (ℕ × Expr A)
 few_children e k of is valid =
     let counts = subst HasCounts (formula_of-is e k of is) (HasCounts-from (formula_of e) valid) in
     subst (λ n. n ≤ 64) (length-weighed formula_of of.items) counts.2
-
-pub open_fault-member : (f : Formula) → IsMember f → open_fault f ≡ Some NotAll
-open_fault-member f h = ap open_fault h.1
 
 pub open_fault-is : {A : Type 0} (is_dual : Bool) (f : Formula) (t : Threshold A) → IsThreshold is_dual f t → open_fault f ≡ (if t.asked == t.total && each_weighs (bare t.of.now) then None else Some NotAll)
 open_fault-is is_dual f t h =
@@ -64,9 +60,6 @@ plain_pick m all k picked cs n =
     then (if nat_lt all (k + picked) then (if n == length cs then None else Some BranchCount) else Some TooFewPicked)
     else Some BadPair)
 
-pub pick_fault-member : (f : Formula) (cs : List ℕ) (n : ℕ) → IsMember f → pick_fault f cs n ≡ Some TooFewPicked
-pick_fault-member f cs n h = ap (λ g. pick_fault g cs n) h.1
-
 pub pick_fault-is : {A : Type 0} (is_dual : Bool) (f : Formula) (t : Threshold A) (cs : List ℕ) (n : ℕ) → IsThreshold is_dual f t → pick_fault f cs n ≡ plain_pick (length t.of.now) t.total t.asked (picked_weight (bare t.of.now) cs) cs n
 pick_fault-is is_dual f t cs n h =
     ap (λ g. pick_fault g cs n) h.0
@@ -83,12 +76,6 @@ pub both_true : (a b : Bool) → (a && b) ≡ true → (a ≡ true) × (b ≡ tr
 both_true true true h = (refl, refl)
 both_true true false h = absurd (true≢false (sym h))
 both_true false b h = absurd (true≢false (sym h))
-
-pub pair_fault-member : (f g : Formula) (ps : List (ℕ × ℕ)) (n : ℕ) → IsMember f → pair_fault f g ps n ≡ Some BadPair
-pair_fault-member f g ps n h = ap (λ e. pair_fault e g ps n) h.1
-
-pub pair_fault-other : {A : Type 0} (is_dual : Bool) (f g : Formula) (t : Threshold A) (ps : List (ℕ × ℕ)) (n : ℕ) → IsThreshold is_dual f t → IsMember g → pair_fault f g ps n ≡ Some BadPair
-pair_fault-other is_dual f g t ps n h other = λ i. pair_fault (h.0 i) (other.1 i) ps n
 
 pub pair_fault-is : {A : Type 0} (d e : Bool) (f g : Formula) (t u : Threshold A) (ps : List (ℕ × ℕ)) (n : ℕ) → IsThreshold d f t → IsThreshold e g u
     → pair_fault f g ps n ≡ plain_pair (length t.of.now) t.total t.asked (length u.of.now) u.total u.asked (paired_weight (bare t.of.now) (bare u.of.now) ps) ps n

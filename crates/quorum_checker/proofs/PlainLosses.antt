@@ -66,10 +66,6 @@ taken_within : (loss : Members) (n : ℕ) (p q : ℕ → Bool) → ((x : ℕ) �
 taken_within loss zero p q h = omega arith
 taken_within loss (suc n) p q h = omega (arith, taken_more loss n p, taken_more loss n q, taken_within loss n p q h, some_or_none (p n) (q n) (bit (loss n)) (h n))
 
-taken_none : (loss : Members) (n : ℕ) (p : ℕ → Bool) → ((x : ℕ) → p x ≡ false) → taken loss (each_below n p (λ x. x)) ≡ 0
-taken_none loss zero p none = refl
-taken_none loss (suc n) p none = omega (arith, taken_more loss n p, taken_none loss n p none, ap (λ b. if b then bit (loss n) else 0) (none n))
-
 -- ---- plain children
 
 -- one child more

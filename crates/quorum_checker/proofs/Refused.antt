@@ -19,11 +19,6 @@ use Rattle.quorum_checker.specs.Outcome.{Outcome, Answers}
 at_root : (e : FaultAt) (fault : Fault) (d : ℕ) → e ≡ here fault → length e.path < 1 + d
 at_root e fault d is = let none : length e.path ≡ 0 = ap (λ x. length x.path) is in omega (arith, none)
 
--- running out of memory is no fault of the rule
-pub wants : (r : Outcome) (found : Option FaultAt) (d : ℕ) (e : FaultAt) → e ≡ here NoMemory → IsErrAnd r (λ x. x ≡ e) → Answers r found (1 + d)
-wants (Ok u) found d e out h = absurd h
-wants (Err x) found d e out h = (λ no. absurd (no (ap (λ y. y.fault) (h ∙ out))), at_root x NoMemory d (h ∙ out))
-
 -- an item that isn't there
 pub missing : (r : Outcome) (o : Option Formula) (rest : Formula → Option FaultAt) (d : ℕ) (e : FaultAt) → o ≡ None → e ≡ here NoSuchItem → IsErrAnd r (λ x. x ≡ e) → Answers r (at_item o rest) (1 + d)
 missing (Ok u) o rest d e none is h = absurd h

@@ -35,9 +35,6 @@ shown_as-Member {A} false e m is = ap formula_of is ∙ formula_of-Member A m
 pub shown_children : {A : Type 0} (is_dual : Bool) (e : Expr A) (k : ℕ) (of : Vec (ℕ × Expr A) A) → e ≡ KOf k of → children_of (shown_as is_dual e) ≡ map (λ (c : ℕ × Expr A). shown_as is_dual c.1) of.items
 shown_children is_dual e k of is = ap children_of (shown_as-KOf is_dual e k of is) ∙ formulas-weighed (shown_as is_dual) of.items
 
-pub no_children : {A : Type 0} (is_dual : Bool) (e : Expr A) (m : ℕ) → e ≡ Member m → children_of (shown_as is_dual e) ≡ []
-no_children is_dual e m is = ap children_of (shown_as-Member is_dual e m is)
-
 pub threshold-is : {A : Type 0} (is_dual : Bool) (e : Expr A) (k n all : ℕ) (of : Vec (ℕ × Expr A) A) (xs : List (ℕ × Expr A)) → e ≡ KOf k of → xs ≡ of.items → all ≡ total_weight (bare xs) → n ≡ asked is_dual k all
     → (shown_as is_dual e ≡ at_least n (weighed (shown_as is_dual) xs)) × (all ≡ total_weight (bare xs))
 threshold-is is_dual e k n all of xs is list sum asks =
