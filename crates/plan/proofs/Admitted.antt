@@ -1,10 +1,10 @@
 -- Which configurations have claims, one after the other.
 use Rattle.std.proofs.Common.{◌≡◌, ◌≢◌, ℕ, ◌+◌, ◌<◌, List, refl, sym, subst, true≢false}
-use Rattle.std.specs.Prelude.{true, false, Option, Some, None, Result, Ok, Err, IsOk}
+use Rattle.std.specs.Prelude.{true, false, Result, Ok, Err, IsOk}
 use Rattle.volume_model.specs.declared.fault.Fault.TheVariants.{NoMemory}
 use Rattle.plan.specs.declared.fault.PlanFault.{PlanFault}
 use Rattle.plan.specs.FaultKinds.{kind_of}
-use Rattle.plan.specs.PlanClaims.{PlacedClaim, unless, claims_below}
+use Rattle.plan.specs.PlanClaims.{PlacedClaim, claims_below}
 use Rattle.plan.proofs.Listed.{claims-more, claims-fault}
 
 off : false ≡ true → ⊥
@@ -14,10 +14,6 @@ off h = absurd (true≢false (sym h))
 ok-of : {A : Type 0} (r : Result A PlanFault) → IsOk r → (x : A) × (r ≡ Ok x)
 ok-of (Ok x) h = (x, refl)
 ok-of (Err e) h = absurd (off h)
-
--- what nothing keeps from being claims
-pub has-claims : {A : Type 0} (fault : Option PlanFault) (x : A) → fault ≡ None → IsOk (unless fault x)
-has-claims fault x none = subst (λ f. IsOk (unless f x)) (sym none) refl
 
 -- claims of one more
 pub has-more : (i : ℕ) (f : ℕ → Result (List PlacedClaim) PlanFault) → IsOk (claims_below i f) → IsOk (f i) → IsOk (claims_below (i + 1) f)

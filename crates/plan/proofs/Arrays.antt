@@ -3,7 +3,7 @@ use Rattle.std.proofs.Common.{◌≡◌, ℕ, ◌<◌, ◌≤◌, min, Bool, tru
 use Rattle.std.specs.Prelude.{nat_le, if◌then◌else◌}
 use Rattle.std.specs.FinSet.{empty}
 use Rattle.std.proofs.lemmas.Bool.Decides.{nat_tests}
-use Rattle.serde_json.specs.Data.{Data, null, boolean, number, string, array, object}
+use Rattle.serde_json.specs.Data.{Data, array}
 use Rattle.serde_json.specs.Events.{items_len}
 use Rattle.quorum_expr.specs.Nodes.{items_in}
 use Rattle.volume_model.specs.declared.fault.Fault.TheVariants.{Malformed}
@@ -11,21 +11,13 @@ use Rattle.plan.specs.PlanText.{members_from, members_of, some_members_of}
 
 pub none_listed : (d : Data) (n : ℕ) → n ≡ min (items_len (items_in d)) 1 → n < 1 → some_members_of d ≡ Err Malformed
 unfolding some_members_of
-none_listed null n h few = refl
-none_listed (boolean b) n h few = refl
-none_listed (number x) n h few = refl
-none_listed (string s) n h few = refl
 none_listed (array ds) n h few = let none : items_len ds ≡ 0 = omega (arith, h, few) in ap (λ k. if nat_le 1 k then members_from 0 empty ds else Err Malformed) none
-none_listed (object ms) n h few = refl
+none_listed d n h few = refl
 
 pub some_listed : (d : Data) (n : ℕ) → n ≡ min (items_len (items_in d)) 1 → 1 ≤ n → some_members_of d ≡ members_of d
 unfolding some_members_of members_of
-some_listed null n h more = refl
-some_listed (boolean b) n h more = refl
-some_listed (number x) n h more = refl
-some_listed (string s) n h more = refl
 some_listed (array ds) n h more =
     let some : 1 ≤ items_len ds = omega (arith, h, more) in
     let yes : nat_le 1 (items_len ds) ≡ true = grind (arith, nat_tests, some) in
     ap (λ (b : Bool). if b then members_from 0 empty ds else Err Malformed) yes
-some_listed (object ms) n h more = refl
+some_listed d n h more = refl

@@ -1,33 +1,17 @@
 -- Values of a tape that are put as they are.
-use Rattle.std.proofs.Common.{◌≡◌, ℕ, List, [], ◌∷◌, ◌++◌, Some, ap, sym, subst, ◌∙◌}
-use Rattle.std.specs.Prelude.{option_and_then}
+use Rattle.std.proofs.Common.{◌≡◌, List, [], ◌∷◌, ◌++◌, Some, ap, sym, subst, ◌∙◌}
 use Rattle.json.specs.Token.{begin_array, end_array}
 use Rattle.json.specs.Written.{Written}
-use Rattle.serde_json.specs.Data.{unsigned, negative, float, Data, null, boolean, number, string, array, object, Items, no_items, item}
-use Rattle.serde_json.specs.Find.{as_array, as_number, as_u64}
+use Rattle.serde_json.specs.Data.{Data, array, Items, no_items, item}
+use Rattle.serde_json.specs.Find.{as_array}
 use Rattle.quorum_expr.specs.Nodes.{items_in}
-use Rattle.refutation.specs.Writing.{number_data}
 use Rattle.plan.specs.Puts.{Puts, PutsToken, Lists}
 use Rattle.plan.proofs.Joined.{joined, joined-one}
 use Rattle.plan.proofs.Putting.{listing, one_listed, listed}
 
-pub whole-data : (d : Data) (n : ℕ) → Some n ≡ option_and_then as_u64 (as_number d) → d ≡ number_data n
-whole-data null n h = absurd (cc)
-whole-data (boolean b) n h = absurd (cc)
-whole-data (number (unsigned m)) n h = let same : n ≡ m = cc in ap number_data (sym same)
-whole-data (number (negative z)) n h = absurd (cc)
-whole-data (number (float x)) n h = absurd (cc)
-whole-data (string s) n h = absurd (cc)
-whole-data (array ds) n h = absurd (cc)
-whole-data (object ms) n h = absurd (cc)
-
 array-data : (d : Data) (ds : Items) → Some ds ≡ as_array d → d ≡ array ds
-array-data null ds h = absurd (cc)
-array-data (boolean b) ds h = absurd (cc)
-array-data (number n) ds h = absurd (cc)
-array-data (string s) ds h = absurd (cc)
 array-data (array es) ds h = let same : ds ≡ es = cc in ap array (sym same)
-array-data (object ms) ds h = absurd (cc)
+array-data d ds h = absurd (cc)
 
 -- An array was begun, and has all items of d except the rest.
 pub record Copies (d : Data) (start now : Written) (rest : Items) : Type 0 where
@@ -49,9 +33,5 @@ pub ended : (d : Data) (start now new : Written) (rest : Items) → Copies d sta
 ended d start now new rest c none t = subst (λ x. Puts x start new) (sym (c.all ∙ ap (λ r. array (joined c.ds r)) none)) (listed c.ds start now new c.lists t)
 
 pub items-array : (d : Data) (ds : Items) → Some ds ≡ as_array d → items_in d ≡ ds
-items-array null ds h = absurd (cc)
-items-array (boolean b) ds h = absurd (cc)
-items-array (number n) ds h = absurd (cc)
-items-array (string s) ds h = absurd (cc)
 items-array (array es) ds h = let same : ds ≡ es = cc in sym same
-items-array (object ms) ds h = absurd (cc)
+items-array d ds h = absurd (cc)

@@ -28,7 +28,7 @@ use Rattle.plan.specs.declared.fault.PlanFault.{PlanFault}
 use Rattle.plan.specs.declared.fault.PlanFault.TheVariants.{BadParent}
 use Rattle.plan.specs.PlanData.{ConfigurationData, PlanData, configuration_at, group_at, by_parent, epoch_at, or_zero, shown, model_of, names_only, each_names_only}
 use Rattle.plan.specs.Plan.{configuration_data, group_data, plan_data}
-use Rattle.plan.specs.PlanFaults.{or_then, first_below, is_good_parent, parent_fault, fresh_at, reused_member, reuse_fault, certificate_fault, claim_fault, meets_claim, step_claim, meets_fault, step_fault, shape_fault, configuration_fault, group_fault, plan_fault}
+use Rattle.plan.specs.PlanFaults.{or_then, first_below, is_good_parent, parent_fault, fresh_at, reuse_fault, certificate_fault, claim_fault, meets_claim, step_claim, meets_fault, step_fault, shape_fault, configuration_fault, group_fault, plan_fault}
 use Rattle.plan.specs.CheckedModel.{HasWriteSets}
 use Rattle.plan.proofs.WriteSets.{sat_all}
 use Rattle.plan.proofs.Lookups.{any-listed}
@@ -61,10 +61,6 @@ no-fault plan g c h there below =
 pub passes : (b : Bool) (fault : PlanFault) → (if b then None else Some fault) ≡ None → b ≡ true
 passes true fault h = refl
 passes false fault h = absurd (cc)
-
-pub no-reuse : (g c : ℕ) (found : Option ℕ) → reused_member g c found ≡ None → found ≡ None
-no-reuse g c None h = refl
-no-reuse g c (Some x) h = absurd (cc)
 
 pub no-certificate_fault : (g c : ℕ) (step : Bool) (found : Option FaultAt) → certificate_fault g c step found ≡ None → found ≡ None
 no-certificate_fault g c step None h = refl

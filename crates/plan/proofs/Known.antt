@@ -1,7 +1,7 @@
 -- Thresholds by the values at their keys.
 use Rattle.std.proofs.Common.{◌≡◌, ℕ, [], ◌∷◌, min, Option, Some, refl, sym, ap, arith}
 use Rattle.std.specs.Prelude.{codes}
-use Rattle.serde_json.specs.Data.{Data, null, boolean, number, string, array, object, Members, no_members, member}
+use Rattle.serde_json.specs.Data.{Data, object, Members, no_members, member}
 use Rattle.serde_json.specs.Events.{members_len}
 use Rattle.serde_json.specs.Find.{get}
 use Rattle.quorum_expr.specs.Nodes.{keys_up_to}
@@ -18,23 +18,15 @@ some_same : (m n : ℕ) → ◌≡◌ {A = Option ℕ} (Some m) (Some n) → m �
 some_same m n h = cc
 
 pub known-two : (d k of : Data) → IsInOrder d → Some 2 ≡ keys_up_to 4 d → Some k ≡ get (codes "k") d → Some of ≡ get (codes "of") d → d ≡ object (two_keys k of)
-known-two null k of up n h i = absurd (cc)
-known-two (boolean b) k of up n h i = absurd (cc)
-known-two (number x) k of up n h i = absurd (cc)
-known-two (string s) k of up n h i = absurd (cc)
-known-two (array ds) k of up n h i = absurd (cc)
 known-two (object ms) k of up n h i =
     let few : 2 ≡ min (members_len ms) 4 = some_same 2 (min (members_len ms) 4) n in
     let many : members_len ms ≡ 2 = omega (arith, few) in
     ap object (exact ((codes "k", k) ∷ (codes "of", of) ∷ []) ms (refl, (tt, tt)) up (sym h, (sym i, tt)) many)
+known-two d k of up n h i = absurd (cc)
 
 pub known-three : (d k of ws : Data) → IsInOrder d → Some 3 ≡ keys_up_to 4 d → Some k ≡ get (codes "k") d → Some of ≡ get (codes "of") d → Some ws ≡ get (codes "weights") d → d ≡ object (three_keys k of ws)
-known-three null k of ws up n h i j = absurd (cc)
-known-three (boolean b) k of ws up n h i j = absurd (cc)
-known-three (number x) k of ws up n h i j = absurd (cc)
-known-three (string s) k of ws up n h i j = absurd (cc)
-known-three (array ds) k of ws up n h i j = absurd (cc)
 known-three (object ms) k of ws up n h i j =
     let few : 3 ≡ min (members_len ms) 4 = some_same 3 (min (members_len ms) 4) n in
     let many : members_len ms ≡ 3 = omega (arith, few) in
     ap object (exact ((codes "k", k) ∷ (codes "of", of) ∷ (codes "weights", ws) ∷ []) ms (refl, (refl, (tt, tt))) up (sym h, (sym i, (sym j, tt))) many)
+known-three d k of ws up n h i j = absurd (cc)

@@ -16,7 +16,6 @@ pub mod Reread
 pub mod RereadPlan
 pub mod GoodParents
 pub mod Rewrites
-pub mod GroupsMore
 pub mod Certifies
 pub mod Admitted
 pub mod KeptValues

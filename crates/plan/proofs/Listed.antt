@@ -35,11 +35,6 @@ pub wants : {X Y : Type 0} (view : X → Y) (r : Result X PlanFault) (defined : 
 wants view (Ok x) defined h = absurd h
 wants view (Err f) defined h = λ other. absurd (other h)
 
-pub root-claims : (g c : ℕ) (group : List ConfigurationData) (x : ConfigurationData) (meets : State) → shape_fault g group c ≡ None → configuration_at group c ≡ x → x.parent ≡ None → meets_claim x ≡ meets
-    → configuration_claims g group c ≡ Ok (record { group = g; configuration = c; step = false; claim = meets } ∷ [])
-root-claims g c group x meets shape here parent claim =
-    (λ i. unless (shape i) (claims-of g group c (here i) (here i).parent)) ∙ (λ i. Ok (claims-of g group c x (parent i))) ∙ (λ i. Ok (record { group = g; configuration = c; step = false; claim = claim i } ∷ []))
-
 pub child-claims : (g c : ℕ) (group : List ConfigurationData) (x y : ConfigurationData) (p : ℕ) (meets step : State) → shape_fault g group c ≡ None → configuration_at group c ≡ x → configuration_at group p ≡ y → x.parent ≡ Some p → meets_claim x ≡ meets
     → claim_state x.read (dual_of y.read) (difference x.members y.members) ≡ step
     → configuration_claims g group c ≡ Ok (record { group = g; configuration = c; step = false; claim = meets } ∷ record { group = g; configuration = c; step = true; claim = step } ∷ [])

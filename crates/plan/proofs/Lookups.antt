@@ -1,6 +1,6 @@
 -- Configurations and members that are looked up.
-use Rattle.std.proofs.Common.{◌≡◌, ℕ, zero, suc, ◌+◌, ◌<◌, ◌≤◌, List, [], ◌∷◌, ◌++◌, length, get_or, map, add-one, arith, refl, ap, ◌∙◌, sym, inl, inr}
-use Rattle.std.specs.Prelude.{Bool, true, false, ◌&&◌, ◌||◌, ◌==◌, nat_lt, if◌then◌else◌, Some, slice_get, slice_index_or}
+use Rattle.std.proofs.Common.{◌≡◌, ℕ, zero, suc, ◌+◌, ◌<◌, List, [], ◌∷◌, ◌++◌, length, get_or, map, add-one, arith, refl, ap, ◌∙◌, sym, inl, inr}
+use Rattle.std.specs.Prelude.{Bool, true, false, ◌&&◌, ◌||◌, ◌==◌, nat_lt, if◌then◌else◌, slice_index_or}
 use Rattle.std.proofs.lemmas.Bool.{cases_lt}
 use Rattle.std.proofs.lemmas.Bool.Decides.{nat_tests}
 use Rattle.std.specs.Ordering.{nat_cmp}
@@ -10,16 +10,6 @@ use Rattle.volume_model.specs.Sets.{listed}
 use Rattle.plan.specs.declared.configurations.Configuration.{Configuration}
 use Rattle.plan.specs.PlanData.{no_configuration, configuration_at}
 use Rattle.plan.specs.Plan.{configuration_data}
-
-pub get-map : {A B : Type 0} (f : A → B) (xs : List A) (i : ℕ) (x : A) (d : B) → slice_get xs i ≡ Some x → slice_index_or (map f xs) i d ≡ f x
-get-map f [] i x d h = cc
-get-map f (y ∷ ys) zero x d h = let same : y ≡ x = cc in ap f same
-get-map f (y ∷ ys) (suc i) x d h = get-map f ys i x d h
-
-pub get-past : {A B : Type 0} (f : A → B) (xs : List A) (i : ℕ) (d : B) → length xs ≤ i → slice_index_or (map f xs) i d ≡ d
-get-past f [] i d h = refl
-get-past f (y ∷ ys) zero d h = absurd (omega arith)
-get-past f (y ∷ ys) (suc i) d h = get-past f ys i d (omega arith)
 
 or_right : (a b : Bool) → b ≡ true → (a || b) ≡ true
 or_right true b h = refl

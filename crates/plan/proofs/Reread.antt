@@ -3,7 +3,7 @@ use Rattle.std.proofs.Common.{◌≡◌, ℕ, ◌<◌, ◌≤◌, ◌∙◌, max
 use Rattle.std.specs.Prelude.{Bool, true, false, if◌then◌else◌}
 use Rattle.std.specs.Ordering.{nat_cmp, match_ordering}
 use Rattle.std.specs.Cmp.Lexicographic.{slice_cmp}
-use Rattle.serde_json.specs.Data.{Data, null, boolean, number, string, array, object, Items, Members, no_members, member, depth, items_depth, members_depth}
+use Rattle.serde_json.specs.Data.{Data, array, object, Items, Members, no_members, member, depth, items_depth, members_depth}
 use Rattle.serde_json.specs.Find.{get, get_member}
 use Rattle.volume_model.specs.declared.fault.Fault.{Fault}
 use Rattle.volume_model.specs.Formula.{Formula}
@@ -62,25 +62,17 @@ member-nests k no_members v h = absurd (cc)
 member-nests k (member l e ms) v h = member-at (slice_cmp nat_cmp k l) (get_member k ms) e v (members_depth ms) h (member-nests k ms v)
 
 get-nests : (k : List ℕ) (d v : Data) → get k d ≡ Some v → depth v < depth d
-get-nests k null v h = absurd (cc)
-get-nests k (boolean b) v h = absurd (cc)
-get-nests k (number n) v h = absurd (cc)
-get-nests k (string s) v h = absurd (cc)
-get-nests k (array ds) v h = absurd (cc)
 get-nests k (object ms) v h = omega (arith, member-nests k ms v h)
+get-nests k d v h = absurd (cc)
 
 pub key-nests : (k : List ℕ) (d v : Data) → at_key k d ≡ Ok v → depth v < depth d
 key-nests k d v h = get-nests k d v (found_ok (get k d) v h)
 
 pub array-nests : (d : Data) (ds : Items) → array_of d ≡ Ok ds → items_depth ds < depth d
-array-nests null ds h = absurd (cc)
-array-nests (boolean b) ds h = absurd (cc)
-array-nests (number n) ds h = absurd (cc)
-array-nests (string s) ds h = absurd (cc)
 array-nests (array es) ds h =
     let is : es ≡ ds = cc in
     omega (arith, ap items_depth is)
-array-nests (object ms) ds h = absurd (cc)
+array-nests d ds h = absurd (cc)
 
 -- the values that a configuration keeps
 record Kept (n : ℕ) (f : Fields) : Type 0 where

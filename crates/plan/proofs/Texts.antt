@@ -1,6 +1,6 @@
 -- Texts that were put token by token, and certificates that are read back.
-use Rattle.std.proofs.Common.{◌≡◌, ℕ, zero, suc, ◌≤◌, List, [], ◌∷◌, ◌++◌, refl, ap, sym, subst, ◌∙◌, arith, append-nil, Option, Some, Ok}
-use Rattle.std.specs.Prelude.{All, drop, option_and_then, option_map}
+use Rattle.std.proofs.Common.{◌≡◌, ℕ, zero, suc, ◌≤◌, List, [], ◌∷◌, ◌++◌, ap, sym, subst, ◌∙◌, arith, append-nil, Option, Some}
+use Rattle.std.specs.Prelude.{All, option_and_then, option_map}
 use Rattle.std.specs.declared.alloc.Global.{Global}
 use Rattle.std.specs.Str.{IsUtf8}
 use Rattle.std.proofs.lemmas.List.Elements.{All-head, All-tail}
@@ -17,14 +17,9 @@ use Rattle.serde_json.specs.Written.{WritesValue}
 use Rattle.serde_json.proofs.Texts.{tokens_from_order, print-outline}
 use Rattle.refutation.specs.declared.certificate.Certificate.{Certificate}
 use Rattle.refutation.specs.Certificate.{certificate_rule}
-use Rattle.plan.specs.PlanData.{PlanData}
-use Rattle.plan.specs.PlanText.{◌>=>◌, in_text, certificate_or_null, plan_in, json_of}
 use Rattle.plan.specs.Rewriting.{value_or_null}
-use Rattle.plan.specs.WithCertificates.{certificate_at}
-use Rattle.plan.specs.Written.{spelt, IsCompact}
-use Rattle.plan.proofs.Text.{is_json}
 use Rattle.plan.specs.Certificates.{certificate_values, IsReadBack}
-use Rattle.plan.specs.PutPlans.{rules_in, IsTextOf}
+use Rattle.plan.specs.PutPlans.{IsTextOf}
 
 -- ---- texts
 
@@ -47,30 +42,7 @@ text_of d w bytes put none is reads utf8 =
 
 -- ---- certificates
 
--- the certificate at a place is read back, and none where there is none
-pub read_at : (cs : List (Option (Certificate Global))) (i : ℕ) → All (λ c. IsReadBack (option_map certificate_rule c)) cs → certificate_or_null (value_or_null (certificate_values cs) i) ≡ Ok (certificate_at (rules_in cs) i)
-read_at [] i h = refl
-read_at (c ∷ cs) zero h = (All-head (λ c. IsReadBack (option_map certificate_rule c)) c cs h).read
-read_at (c ∷ cs) (suc i) h = read_at cs i (All-tail (λ c. IsReadBack (option_map certificate_rule c)) c cs h)
-
 pub nested : (cs : List (Option (Certificate Global))) (i : ℕ) → All (λ c. IsReadBack (option_map certificate_rule c)) cs → depth (value_or_null (certificate_values cs) i) ≤ 81
 nested [] i h = omega arith
 nested (c ∷ cs) zero h = (All-head (λ c. IsReadBack (option_map certificate_rule c)) c cs h).nests
 nested (c ∷ cs) (suc i) h = nested cs i (All-tail (λ c. IsReadBack (option_map certificate_rule c)) c cs h)
-
--- those that others leave
-pub back_after : (n : ℕ) (cs : List (Option (Certificate Global))) → All (λ c. IsReadBack (option_map certificate_rule c)) cs → All (λ c. IsReadBack (option_map certificate_rule c)) (drop n cs)
-back_after zero cs h = h
-back_after (suc n) [] h = h
-back_after (suc n) (c ∷ cs) h = back_after n cs (All-tail (λ c. IsReadBack (option_map certificate_rule c)) c cs h)
-
--- ---- the whole
-
--- the text of a value that spells a plan
-pub text_spelt : (d : Data) (bytes : List ℕ) (plan : PlanData) → IsTextOf d bytes → depth d ≤ 86 → plan_in d ≡ Ok plan → spelt bytes ≡ Ok plan
-text_spelt d bytes plan t shallow is =
-    let read_back : json_of bytes ≡ Ok d = is_json bytes d t.utf8 (t.back (omega arith)) in
-    ap (λ r. in_text r >=> plan_in) read_back ∙ is
-
-pub text_compact : (d : Data) (bytes : List ℕ) → IsTextOf d bytes → depth d ≤ 86 → IsCompact bytes
-text_compact d bytes t shallow = (d, is_json bytes d t.utf8 (t.back (omega arith)), t.compact)
