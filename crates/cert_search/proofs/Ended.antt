@@ -5,7 +5,7 @@ use Rattle.cert_search.specs.declared.hand.Hand.{Hand}
 use Rattle.cert_search.specs.declared.working.Found.{Found}
 use Rattle.cert_search.specs.declared.working.Worked.{Worked}
 use Rattle.plan.specs.PlanClaims.{PlacedClaim}
-use Rattle.cert_search.specs.Hands.{own_deque, deque_at, IsOfDeal, AreDealt, ShareDeques, SameDeal, HasEnded, IsThrough}
+use Rattle.cert_search.specs.Hands.{own_deque, deque_at, IsOfDeal, AreDealt, ShareDeques, SameDeal, HasEnded}
 use Rattle.cert_search.specs.NamedViews.{name_at}
 use Rattle.cert_search.specs.Settled.{AreOfDeal, AllHad, HadOnce, EachHad}
 use Rattle.cert_search.specs.Places.{AreWorked, IsWork}
@@ -17,10 +17,6 @@ same_twice h g f one two = record { deal = λ claims workers is. two.deal claims
 
 pub same_none : (h : Hand) → SameDeal h h
 same_none h = record { deal = λ claims workers is. is; deques = refl; names = refl }
-
--- a hand that finds no claim more has ended
-pub ends_now : (h g f : Hand) → SameDeal h g → SameDeal g f → IsThrough g f → HasEnded h f
-ends_now h g f one two through = record { deal = same_twice h g f one two; at_end = λ claims workers d is lt. through.at_end claims workers d (one.deal claims workers is) lt }
 
 -- hands that were dealt are of one deal
 pub dealt_together : (claims workers : ℕ) (hands : List Hand) → length hands ≡ workers → AreDealt claims workers hands → ((i : ℕ) (h : Hand) → slice_get hands i ≡ Some h → IsOfDeal claims workers h) → ShareDeques workers hands → AreOfDeal claims hands

@@ -1,46 +1,17 @@
 -- The shortest certificates are kept.
-use Rattle.std.proofs.Common.{◌≡◌, ℕ, zero, suc, ◌+◌, ◌-◌, ◌<◌, ◌≤◌, List, [], ◌∷◌, ◌++◌, map, length, drop, get_or, refl, ap, sym, ◌∙◌, inl, inr, subst, add-one, drop-cons, arith}
+use Rattle.std.proofs.Common.{◌≡◌, ℕ, ◌+◌, ◌-◌, ◌<◌, ◌≤◌, List, [], ◌∷◌, ◌++◌, map, length, drop, get_or, refl, ap, sym, ◌∙◌, inl, inr, subst, add-one, drop-cons, arith}
 use Rattle.std.specs.Prelude.{Bool, true, false, None, Option, Some, if◌then◌else◌, nat_le, slice_get, slice_set}
 use Rattle.std.proofs.lemmas.Bool.{cases_eq}
-use Rattle.std.proofs.lemmas.Bool.Decides.{nat_tests}
 use Rattle.std.proofs.lemmas.List.{append_assoc, append-nil, drop_all, length-set}
 use Rattle.std.proofs.lemmas.Option.{get_or_from_slice_get, slice_get_within}
 use Rattle.std.specs.declared.alloc.Global.{Global}
 use Rattle.refutation.specs.declared.certificate.Certificate.{Certificate}
 use Rattle.refutation.specs.Rule.{Rule}
 use Rattle.cert_search.specs.Answers.{rule_in}
-use Rattle.cert_search.specs.Kept.{AreKept, kept_at, length_before, length_up_to}
+use Rattle.cert_search.specs.Kept.{AreKept, kept_at, length_up_to}
 use Rattle.cert_search.specs.Lengths.{length_in}
 use Rattle.cert_search.proofs.Places.{elsewhere, here}
 use Rattle.cert_search.proofs.Rows.{map_at, map_from, map_len, set_other, some_is}
-
-room_left : (b t left rest : ℕ) → b ≤ left → rest ≡ left - b → nat_le t rest ≡ nat_le (b + t) left
-room_left b t left rest h e = rw e (grind (arith, nat_tests))
-
-no_room : (b t left : ℕ) → left < b → false ≡ nat_le (b + t) left
-no_room b t left h = grind (arith, nat_tests)
-
--- one length more
-front : (other at i : ℕ) (ls : List ℕ) (x : ℕ) → i < length ls → x ≡ get_or ls i x → length_up_to other at i (drop i ls) ≡ length_before x i other at + length_up_to other at (i + 1) (drop (i + 1) ls)
-front other at i ls x within is =
-    let split : drop i ls ≡ x ∷ drop (i + 1) ls = drop-cons ls i x within ∙ rw (← is, add-one) refl in
-    ap (length_up_to other at i) split
-
-pub one_fits : (other at i left rest : ℕ) (ls : List ℕ) (x : ℕ) (whole : Bool) → i < length ls → x ≡ get_or ls i x → length_before x i other at ≤ left → rest ≡ left - length_before x i other at
-    → nat_le (length_up_to other at i (drop i ls)) left ≡ whole → nat_le (length_up_to other at (i + 1) (drop (i + 1) ls)) rest ≡ whole
-one_fits other at i left rest ls x whole within is fits e so_far =
-    room_left (length_before x i other at) (length_up_to other at (i + 1) (drop (i + 1) ls)) left rest fits e ∙ (ap (λ n. nat_le n left) (sym (front other at i ls x within is)) ∙ so_far)
-
-pub one_is_too_long : (other at i left : ℕ) (ls : List ℕ) (x : ℕ) (whole : Bool) → i < length ls → x ≡ get_or ls i x → left < length_before x i other at
-    → nat_le (length_up_to other at i (drop i ls)) left ≡ whole → false ≡ whole
-one_is_too_long other at i left ls x whole within is long so_far =
-    no_room (length_before x i other at) (length_up_to other at (i + 1) (drop (i + 1) ls)) left long ∙ (ap (λ n. nat_le n left) (sym (front other at i ls x within is)) ∙ so_far)
-
-from_none : (left : ℕ) → true ≡ nat_le 0 left
-from_none left = grind (arith, nat_tests)
-
-pub all_fit : (other at i left : ℕ) (ls : List ℕ) (whole : Bool) → length ls ≤ i → nat_le (length_up_to other at i (drop i ls)) left ≡ whole → true ≡ whole
-all_fit other at i left ls whole past so_far = from_none left ∙ (ap (λ (xs : List ℕ). nat_le (length_up_to other at i xs) left) (sym (drop_all i ls past)) ∙ so_far)
 
 -- the lengths of certificates, of which one stands in front of those that are left
 pub lengths_more : (cs : List (Option (Certificate Global))) (i : ℕ) (c : Option (Certificate Global)) (ls more all : List ℕ) (long : ℕ) → i < length cs → c ≡ get_or cs i c → more ≡ ls ++ long ∷ [] → long ≡ length_in (rule_in c)
@@ -59,9 +30,6 @@ pub record KeptTo (room : ℕ) (lengths : List ℕ) (at : ℕ) (olds news : List
   pub as_many : length news ≡ length olds
   pub before : (i : ℕ) (old left : Option (Certificate Global)) → i < at → slice_get olds i ≡ Some old → slice_get news i ≡ Some left → rule_in left ≡ kept_at room lengths i (rule_in old)
   pub rest : (i : ℕ) → at ≤ i → slice_get news i ≡ slice_get olds i
-
-pub none_yet : (room : ℕ) (lengths : List ℕ) (olds : List (Option (Certificate Global))) → KeptTo room lengths 0 olds olds
-none_yet room lengths olds = record { as_many = refl; before = λ i old left lt at_old at_new. absurd (omega (arith, lt)); rest = λ i le. refl }
 
 length_at : (lengths : List ℕ) (olds : List (Option (Certificate Global))) (at : ℕ) (old : Option (Certificate Global)) → lengths ≡ map length_in (map rule_in olds) → slice_get olds at ≡ Some old → get_or lengths at 0 ≡ length_in (rule_in old)
 length_at lengths olds at old are there =

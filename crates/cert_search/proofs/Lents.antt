@@ -24,9 +24,6 @@ module _ (workers which : ℕ) (below : which < workers) where
     pub lent : (j n : ℕ) → 1 ≤ j → j < k → slice_get (outs first) (spot j) ≡ Some n → slice_get (outs owns) (spot j) ≡ Some (suc n)
     pub kept : (d : ℕ) → ((j : ℕ) → 1 ≤ j → j < k → spot j ≢ d) → slice_get (outs owns) d ≡ slice_get (outs first) d
 
-  pub lent_none : (k : ℕ) (owns : List Own) → k ≤ 1 → IsLentTo k owns owns
-  lent_none k owns le = record { lent = λ j n ge lt e. absurd (omega arith); kept = λ d none. refl }
-
   module _ (k e : ℕ) (first owns : List Own) (o p : Own) (ge : 1 ≤ k) (lt : k < workers) (turn : e ≡ spot k) (inside : e < length owns) (is : o ≡ get_or owns e o) (more : own_out p ≡ suc (own_out o)) where
     pub lent_step : IsLentTo k first owns → IsLentTo (k + 1) first (set owns e p)
     lent_step t =
@@ -66,9 +63,6 @@ module _ (workers which : ℕ) (below : which < workers) where
 pub record IsLentRows (workers n : ℕ) (owns : List Own) : Type 0 where
   pub past : (d : ℕ) → d < n → slice_get (outs owns) d ≡ Some (n - 1)
   pub next : (d : ℕ) → n ≤ d → d < workers → slice_get (outs owns) d ≡ Some n
-
-pub rows_none : (workers : ℕ) (owns : List Own) → AreOut workers 0 owns → IsLentRows workers 0 owns
-rows_none workers owns none = record { past = λ d lt. absurd (omega arith); next = λ d le lt. none d lt }
 
 pub rows_more : (workers n : ℕ) (owns news : List Own) → n < workers → IsLentRows workers n owns → LendsOthers workers n owns news → IsLentRows workers (n + 1) news
 rows_more workers n owns news below t lends = record {

@@ -1,5 +1,5 @@
 -- All hands of a deal are taken back.
-use Rattle.std.proofs.Common.{◌≡◌, ◌≢◌, ◌⊎◌, inl, inr, ⊎_elim, ℕ, zero, suc, ◌+◌, ◌<◌, ◌≤◌, ◌%◌, zero-add, suc-add, true, List, [], ◌∷◌, ◌++◌, map, length, set, get_or, Some, refl, sym, ap, ◌∙◌, subst, append_assoc, mod-lt, eq-eqb, ne_eqb, Bool, arith}
+use Rattle.std.proofs.Common.{◌≡◌, ◌≢◌, ◌⊎◌, inl, inr, ⊎_elim, ℕ, zero, suc, ◌+◌, ◌<◌, ◌≤◌, ◌%◌, zero-add, suc-add, true, List, [], ◌∷◌, ◌++◌, map, length, set, get_or, Some, refl, sym, ap, ◌∙◌, subst, mod-lt, eq-eqb, ne_eqb, Bool, arith}
 use Rattle.std.specs.Prelude.{slice_get, if◌then◌else◌}
 use mathlib.Core.Option.{some, some-ne-none}
 use mathlib.Core.Logic.{dite}
@@ -8,11 +8,10 @@ use lib.ListN.{get_elem?}
 use Rattle.cert_search.specs.declared.deque.DequeView.{DequeView}
 use Rattle.cert_search.specs.declared.hand.Hand.{Hand}
 use Rattle.cert_search.specs.declared.own.Own.{Own}
-use Rattle.cert_search.specs.declared.steal_handle.StealHandle.{StealHandle}
 use Rattle.cert_search.specs.declared.deque.Holder.TheVariants.{Owner}
 use Rattle.cert_search.specs.Deque.{both_views, out_of, claims_of, Settles}
 use Rattle.cert_search.proofs.Claims.{owner_out}
-use Rattle.cert_search.specs.NamedViews.{Name, NamedView, SameDeque, own_named, handle_named, look, name_at, IsRound}
+use Rattle.cert_search.specs.NamedViews.{Name, NamedView, SameDeque, own_named, look, name_at, IsRound}
 use Rattle.cert_search.specs.Dealing.{names_in, own_name}
 use Rattle.cert_search.specs.Hands.{named_views_of, names_of, deque_at, had_from, IsOfDeal}
 use Rattle.cert_search.specs.Settled.{AreOfDeal, Stands, HadOnce, EachHad, own_views, hand_own, others_of, all_others, taken_back, AreTied, EachTaken, EachSettles}
@@ -21,10 +20,6 @@ use Rattle.cert_search.proofs.Rows.{map_set, map_len, map_get, map_at, map_from,
 use Rattle.cert_search.proofs.Shares.{claims_in, claims_has}
 use Rattle.cert_search.proofs.Rounds.{look_first, looked, view_of, round_at, view_at, view_apart}
 use Rattle.cert_search.proofs.Gots.{flat, flat_at, flat_from, place, place_apart, gots, gots_each, gots_none, gots_one, tally, tally_append, tally_none, tally_one, taken_out, taken_owner, taken_end, taken_end_at, taken_here, taken_else, taken_got, taken_dealt}
-
--- a hand goes in front
-pub others_more : (rs : List StealHandle) (more : List StealHandle) (hs : List Hand) (h : Hand) (all : List NamedView) → more ≡ h.others.items → map handle_named rs ++ all_others (h ∷ hs) ≡ all → (map handle_named rs ++ map handle_named more) ++ all_others hs ≡ all
-others_more rs more hs h all is e = append_assoc (map handle_named rs) (map handle_named more) (all_others hs) ∙ ap (λ (l : List StealHandle). map handle_named rs ++ (map handle_named l ++ all_others hs)) is ∙ e
 
 -- one view is taken back
 module _ (first owns : List Own) (o p : Own) (s : NamedView) (rest all : List NamedView) (lt : s.0 < length owns) (is : o ≡ get_or owns s.0 o) (same : SameDeque (own_named o) (own_named p)) (both : (own_named p).1 ≡ both_views (own_named o).1 s.1) where
