@@ -92,5 +92,7 @@ pub fn chain_of(alloc: Global, records: &RecordSet, lsn: u64) -> Result<RecordSe
         return records.front(len);
     }
     let packets = chain_packets(alloc, records, lsn)?;
-    RecordSet::from_slice(alloc, &packets)
+    let mut log = RecordSet::from_slice(alloc, &packets)?;
+    log.share()?;
+    Ok(log)
 }

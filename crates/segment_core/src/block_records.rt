@@ -1,6 +1,6 @@
 //! The records of one block: a list while they come in order, else a set.
 
-ghost use Rattle.std.specs.Prelude.{◌≡◌, List, map, IfOk, IsTrue};
+ghost use Rattle.std.specs.Prelude.{◌≡◌, List, IfOk, IsTrue};
 ghost use Rattle.volume_model.specs.Redo.{Redo};
 ghost use Rattle.redo_record.specs.Order.{ComesAfter, IsInOrder};
 ghost use Rattle.redo_record.specs.RecordSet.{records_of};
@@ -20,18 +20,6 @@ pub fn is_after(packet: &SharedRecord, last: Option<&SharedRecord>) -> bool
         Some(last) => last.is_before(packet),
         None => true,
     }
-}
-
-/// Makes a set of sorted records, of which none is shared yet. Fails only with `NoMemory`.
-fn set_of(alloc: Global, packets: &[SharedRecord]) -> Result<RecordSet, AllocError>
-    requires { IsInOrder (map shared_redo packets.now) }
-    ensures { IfOk result (λ set. records_of set ≡ map shared_redo packets.now) }
-{
-    let mut set = RecordSet::new(alloc);
-    for packet in packets {
-        set.push(packet.clone()?)?;
-    }
-    Ok(set)
 }
 
 /// The place of a record to be added. It takes as much memory as an `Option<RunPlace>`.
@@ -129,7 +117,7 @@ impl BlockRecords {
                     list.reserve(1)?;
                     return Ok(RecordPlace::Last);
                 }
-                let mut set = set_of(alloc, packets)?;
+                let mut set = RecordSet::from_slice(alloc, packets)?;
                 let place = room_in(&mut set, packet)?;
                 *self = BlockRecords::AsSet(Box::new(alloc, set)?);
                 Ok(place)

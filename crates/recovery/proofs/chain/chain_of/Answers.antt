@@ -38,8 +38,12 @@ picked set read packets same is = ap (λ (rs : List Redo). added rs []) (is ∙ 
 
 pub returns-clause-chain : goal.returns-clause-chain
 returns-clause-chain c =
-    IfOk-weaker c.from_slice.result _ _ (λ set h. picked set c.deref.result.now c.in_ok-packets.packets.items c.deref.ensures.value h ∙ c.in_ok-packets.ensures.chain) c.from_slice.ensures
+    ap (λ (rs : List Redo). added rs []) c.share.ensures
+    ∙ picked c.in_ok-log.log c.deref.result.now c.in_ok-packets.packets.items c.deref.ensures.value c.in_ok-log.ensures
+    ∙ c.in_ok-packets.ensures.chain
 
 pub returns-clause-growing : goal.returns-clause-growing
 returns-clause-growing c =
-    IfOk-weaker c.from_slice.result _ _ (λ set h. ap is_growing (picked set c.deref.result.now c.in_ok-packets.packets.items c.deref.ensures.value h) ∙ c.in_ok-packets.ensures.growing) c.from_slice.ensures
+    ap (λ (rs : List Redo). is_growing (added rs [])) c.share.ensures
+    ∙ ap is_growing (picked c.in_ok-log.log c.deref.result.now c.in_ok-packets.packets.items c.deref.ensures.value c.in_ok-log.ensures)
+    ∙ c.in_ok-packets.ensures.growing
