@@ -16,7 +16,6 @@ use Rattle.volume_model.proofs.PieceLaws.{pieces_unite}
 use Rattle.volume_model.specs.Pieces.{KeptPiece, Copy, is_complete, united, brought, brought_by, contents_in, copied_by}
 use Rattle.volume_model.specs.Redo.{Redo, with_records}
 use Rattle.volume_model.proofs.Sets.{contains-put}
-use Rattle.lineage.specs.Lineage.{lineage_of}
 use Rattle.redo_record.specs.declared.record_set.RecordSet.{RecordSet}
 use Rattle.redo_record.specs.RecordSet.{records_of}
 use Rattle.redo_record.specs.Union.{all_records}
@@ -57,15 +56,6 @@ pub behind-kept : {E : Type 0} (kept : List Kept) (last : Kept) (r : Result Reco
     → IfOk r (λ set. records_of set ≡ united (map (λ (piece : KeptPiece). piece.contents) (all_kept kept ++ kept_of last ∷ [])))
 behind-kept kept last (Ok set) h = h ∙ ap (λ (ps : List KeptPiece). united (map (λ (piece : KeptPiece). piece.contents) ps)) (map-append kept_of kept (last ∷ []))
 behind-kept kept last (Err e) h = tt
-
--- the newest lineage, one piece further to the front
-pub newest-more : (kept : List Kept) (i : ℕ) (piece : Kept) (last behind now : model.Lineage) → i < length kept → piece ≡ get_or kept i piece → now ≡ newer (lineage_of piece.contents.lineage) behind
-    → behind ≡ newest_with last (contents_kept (drop (i + 1) kept)) → now ≡ newest_with last (contents_kept (drop i kept))
-newest-more kept i piece last behind now within is newer_is h =
-    newer_is
-    ∙ ap (newer (lineage_of piece.contents.lineage)) h
-    ∙ ap (λ (k : Kept). newer (lineage_of k.contents.lineage) (newest_with last (contents_kept (drop (i + 1) kept)))) is
-    ∙ sym (ap (λ (ks : List Kept). newest_with last (contents_kept ks)) (drop_more kept i piece within))
 
 newest_with-append : (last : model.Lineage) (xs ys : List model.Contents) → newest_with last (xs ++ ys) ≡ newest_with (newest_with last ys) xs
 newest_with-append last [] ys = refl

@@ -1,6 +1,6 @@
 -- Pieces that aren't refused.
-use Rattle.std.proofs.Common.{◌≡◌, ℕ, ◌<◌, ◌≤◌, Bool, true, false, not, ◌||◌, nat_lt, nat_le, List, Option, Result, Ok, refl, ap, ◌∙◌, arith}
-use Rattle.std.proofs.lemmas.Bool.{and_parts, ltb-true, le-leb, true≢false}
+use Rattle.std.proofs.Common.{◌≡◌, ℕ, ◌<◌, Bool, true, false, not, ◌||◌, nat_lt, nat_le, List, Option, Result, Ok, refl, ap, ◌∙◌, arith}
+use Rattle.std.proofs.lemmas.Bool.{and_parts, ltb-true, true≢false}
 use Rattle.std.proofs.lemmas.Bool.Decides.{nat_tests}
 use Rattle.volume_model.specs.Lineage.{Contents}
 use Rattle.volume_model.specs.Pieces.{Piece, Pieces, Copy, is_piece, is_of_other, is_bad_piece}
@@ -23,9 +23,6 @@ fair-number kept series piece c h =
 
 low : (n : ℕ) → n < 64 → nat_le 64 n ≡ false
 low n h = grind (arith, nat_tests)
-
-high : (n : ℕ) → 64 ≤ n → nat_le 64 n ≡ true
-high n h = le-leb 64 n h
 
 -- what a piece amounts to, by both tests
 abbrev tested : CopyReport → List Copy → Bool → Bool → Result (List Copy) Fault

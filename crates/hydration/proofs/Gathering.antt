@@ -1,8 +1,8 @@
 -- The place of a copy, and copies with a piece more.
-use Rattle.std.proofs.Common.{◌≡◌, ℕ, zero, suc, ◌+◌, ◌<◌, ◌≤◌, ◌⊎◌, true, false, ◌==◌, List, [], ◌∷◌, ◌++◌, length, get_or, set, drop, Option, Some, None, refl, sym, ap, subst, ◌∙◌, inl, inr, arith}
+use Rattle.std.proofs.Common.{◌≡◌, ℕ, zero, suc, ◌+◌, ◌<◌, ◌⊎◌, true, false, ◌==◌, List, [], ◌∷◌, ◌++◌, length, get_or, set, Option, Some, None, refl, sym, ap, subst, ◌∙◌, inl, inr, arith}
 use Rattle.std.specs.Prelude.{option_map}
 use Rattle.std.proofs.lemmas.Bool.{cases_Bool, eqb-true}
-use Rattle.std.proofs.lemmas.List.{drop_more, drop_all, length-map}
+use Rattle.std.proofs.lemmas.List.{length-map}
 use Rattle.volume_model.specs.Lineage.{Contents}
 use Rattle.volume_model.specs.Pieces as model
 use Rattle.volume_model.specs.Pieces.{Piece, Copy, first_piece, pieces_from, with_series, with_copy}
@@ -132,16 +132,9 @@ kept_copy-at [] p d h = absurd (omega arith)
 kept_copy-at (copy ∷ rest) zero d h = refl
 kept_copy-at (copy ∷ rest) (suc p) d h = kept_copy-at rest p d (omega arith)
 
--- the copies from one of them on
-opened : (copies : List KeptCopy) (i : ℕ) (copy : KeptCopy) → i < length copies → copy ≡ get_or copies i copy → all_kept_copies (drop i copies) ≡ kept_copy_of copy ∷ all_kept_copies (drop (i + 1) copies)
-opened copies i copy within is = ap all_kept_copies (drop_more copies i copy within) ∙ ap (λ (x : KeptCopy). kept_copy_of x ∷ all_kept_copies (drop (i + 1) copies)) (sym is)
-
 further : (i : ℕ) (o : Option ℕ) → option_map (λ k. i + k) (option_map suc o) ≡ option_map (λ k. (i + 1) + k) o
 further i None = refl
 further i (Some k) = (let e : i + suc k ≡ (i + 1) + k = omega arith in ap Some e)
-
-pub place-end : (copies : List KeptCopy) (i sender : ℕ) → length copies ≤ i → place_of (all_kept_copies copies) sender ≡ option_map (λ k. i + k) (place_of (all_kept_copies (drop i copies)) sender) → place_of (all_kept_copies copies) sender ≡ None
-place-end copies i sender ended h = h ∙ ap (λ cs. option_map (λ k. i + k) (place_of (all_kept_copies cs) sender)) (drop_all i copies ended)
 
 abbrev make : ℕ → model.Pieces → Copy
 make sender pieces = record { sender = sender; pieces = pieces }
