@@ -1,7 +1,8 @@
 -- Groups whose points are raised, and where they stand.
 use Rattle.std.proofs.Common.{◌≡◌, ℕ, zero, suc, ◌+◌, ◌-◌, ◌<◌, ◌≤◌, Bool, true, false, List, [], ◌∷◌, ◌++◌, length, drop, take, get_or, ◌⊎◌, inl, inr, refl, sym, ap, ap₂, ◌∙◌, arith, subst, drop-cons, add-one, append_assoc, append-nil}
-use Rattle.std.specs.Prelude.{max, map, slice_set, replicate, Result, Ok, Err, OnOk, OnErr}
-use Rattle.std.proofs.lemmas.List.{length-map, length-set, length_push, replicate_more, drop_all, map-append, map-set, take-append-drop, take_more_set, drop-set-lt}
+use Rattle.std.specs.Prelude.{max, map, slice_set, replicate, Result, Ok, Err, OnOk, OnErr, Vec}
+use Rattle.std.specs.Vec.{with_items}
+use Rattle.std.proofs.lemmas.List.{length-map, length-set, length_push, replicate_more, drop_all, map-append, map-set, take-append-drop, take_more_set, drop-set-lt, with_items_is}
 use Rattle.wire.specs.declared.label.Place.{Place}
 use Rattle.wire.specs.Message as wire
 use Rattle.volume_model.specs.Lists.{every_below}
@@ -106,11 +107,14 @@ taken-up initial now next s within is none before =
 -- ---- whole read sets and write sets
 
 -- one group that fails, so that not all pass
-pub group-fails : (group_states : List GroupState) (i : ℕ) (s : GroupState) (test : ℕ → ClientGroup → Bool) → i < length group_states → s ≡ get_or group_states i s → test i (group_at s) ≡ false
-    → every_below (length (groups_of group_states)) (λ g. test g (group_of (groups_of group_states) g)) ≡ false
-group-fails group_states i s test h is e =
+pub group-fails : (test : Plan → ℕ → ClientGroup → Bool) (plan checked : Plan) (group_states items : List GroupState) (i : ℕ) (s : GroupState) (passes : Bool) → items ≡ group_states → checked ≡ plan → i < length items → s ≡ get_or items i s
+    → passes ≡ test checked i (group_at s) → passes ≡ false → false ≡ every_below (length (groups_of group_states)) (λ g. test plan g (group_of (groups_of group_states) g))
+group-fails test plan checked group_states items i s passes all same h is e fails =
+    let within : i < length group_states = subst (λ (xs : List GroupState). i < length xs) all h in
+    let at : s ≡ get_or group_states i s = subst (λ (xs : List GroupState). s ≡ get_or xs i s) all is in
     let many : length (groups_of group_states) ≡ length group_states = length-map group_states group_at in
-    below-fails (length (groups_of group_states)) (λ g. test g (group_of (groups_of group_states) g)) i (omega arith) (ap (test i) (group-is group_states i s h is) ∙ e)
+    let here : test plan i (group_at s) ≡ false = ap (λ (p : Plan). test p i (group_at s)) (sym same) ∙ sym e ∙ fails in
+    sym (below-fails (length (groups_of group_states)) (λ g. test plan g (group_of (groups_of group_states) g)) i (omega arith) (ap (test plan i) (group-is group_states i s within at) ∙ here))
 
 -- ---- groups that are moved
 
@@ -139,13 +143,16 @@ with_places-taken move [] (p ∷ places) n h =
     ap (λ m. with_places move (replicate m no_group) (p ∷ places)) e ∙ ap (λ gs. move no_group p ∷ gs) (with_places-taken move [] places (length places) (omega arith))
 with_places-taken move (g ∷ groups) (p ∷ places) n h = ap (λ gs. move g p ∷ gs) (with_places-taken move groups places n (omega arith))
 
--- groups that were taken up, and then moved
-pub moved-on : (move : ClientGroup → model.Place → ClientGroup) (old extended moved : List GroupState) (places : List Place) → groups_of extended ≡ groups_of old ++ replicate (length places - length old) no_group
-    → groups_of moved ≡ with_places move (groups_of extended) (map wire.place_of places) → groups_of moved ≡ with_places move (groups_of old) (map wire.place_of places)
-moved-on move old extended moved places more is =
+-- groups that were taken up, and then moved in place
+pub moved-items : {Z : Type 0} (move : ClientGroup → model.Place → ClientGroup) (old : List GroupState) (extended : Vec GroupState Z) (slice moved : List GroupState) (places : List Place) → groups_of extended.items ≡ groups_of old ++ replicate (length places - length old) no_group
+    → slice ≡ extended.items → groups_of moved ≡ with_places move (groups_of slice) (map wire.place_of places) → length moved ≡ length slice
+    → groups_of (with_items extended moved).items ≡ with_places move (groups_of old) (map wire.place_of places)
+moved-items move old extended slice moved places more value is same =
     let many : length (map wire.place_of places) ≡ length places = length-map places wire.place_of in
     let kept : length (groups_of old) ≡ length old = length-map old group_at in
-    is ∙ ap (λ gs. with_places move gs (map wire.place_of places)) more ∙ with_places-taken move (groups_of old) (map wire.place_of places) (length places - length old) (omega arith)
+    ap groups_of (with_items_is extended moved (same ∙ ap length value ∙ sym extended.ok.0)) ∙ is
+    ∙ ap (λ (xs : List GroupState). with_places move (groups_of xs) (map wire.place_of places)) value
+    ∙ ap (λ gs. with_places move gs (map wire.place_of places)) more ∙ with_places-taken move (groups_of old) (map wire.place_of places) (length places - length old) (omega arith)
 
 -- each place is one of a configuration
 place-good : (plan : Plan) (places : List model.Place) → are_places plan places ≡ true → (k : ℕ) → k < length places → (place_in places k).configuration < plan.configurations k

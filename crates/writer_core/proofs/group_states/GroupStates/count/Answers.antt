@@ -1,31 +1,16 @@
-use Rattle.std.proofs.Common.{◌<◌, length}
 use Rattle.writer_core.specs.Groups.{group_states_plan}
 use Rattle.writer_core.specs.GroupStates.{counted_group}
 use Rattle.writer_core.proofs.Placing.{changed-ok, changed-err, changed-placed, changed-within}
 use Rattle.writer_core.proofs.group_states.GroupStates.count.Goals as goal
 
 pub invariant_of-self : goal.invariant_of-self
-invariant_of-self c =
-    let self = c.args.self.now in
-    let list = self.list.items in
-    let plan = group_states_plan self in
-    let i = c.from.result in
-    let within : i < length list = c.in-Some.ensures.item.3.0 in
-    record {
-      within = changed-within plan.groups list i c.count.new.self self.within;
-      placed = changed-placed plan list i c.in-Some.group_state.now c.count.new.self within c.in-Some.ensures.value c.count.ensures.place self.placed;
-    }
+invariant_of-self c = record {
+  within = changed-within (group_states_plan c.args.self.now).groups c.args.self.now.list.items c.from.result c.count.new.self c.args.self.now.within;
+  placed = changed-placed (group_states_plan c.args.self.now) c.args.self.now.list.items c.from.result c.in-Some.group_state.now c.count.new.self c.in-Some.ensures.item.3.0 c.in-Some.ensures.value c.count.ensures.place c.args.self.now.placed;
+}
 
 pub returns-in-Some-clause-counted : goal.returns-in-Some-clause-counted
-returns-in-Some-clause-counted c =
-    let list = c.args.self.now.list.items in
-    let i = c.from.result in
-    let within : i < length list = c.in-Some.ensures.item.3.0 in
-    changed-ok c.count.result (λ g. counted_group g c.args.ack.now.from c.args.ack.now.scl) list i c.args.ack.now.group c.in-Some.group_state.now c.count.new.self within c.in-Some.ensures.value c.from.ensures c.count.ensures.counted
+returns-in-Some-clause-counted c = changed-ok c.count.result (λ g. counted_group g c.args.ack.now.from c.args.ack.now.scl) c.args.self.now.list.items c.from.result c.args.ack.now.group c.in-Some.group_state.now c.count.new.self c.in-Some.ensures.item.3.0 c.in-Some.ensures.value c.from.ensures c.count.ensures.counted
 
 pub returns-in-Some-clause-same : goal.returns-in-Some-clause-same
-returns-in-Some-clause-same c =
-    let list = c.args.self.now.list.items in
-    let i = c.from.result in
-    let within : i < length list = c.in-Some.ensures.item.3.0 in
-    changed-err c.count.result list i c.in-Some.group_state.now c.count.new.self within c.in-Some.ensures.value c.count.ensures.same
+returns-in-Some-clause-same c = changed-err c.count.result c.args.self.now.list.items c.from.result c.in-Some.group_state.now c.count.new.self c.in-Some.ensures.item.3.0 c.in-Some.ensures.value c.count.ensures.same

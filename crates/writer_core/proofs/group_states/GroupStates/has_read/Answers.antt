@@ -1,12 +1,9 @@
-use Rattle.std.proofs.Common.{◌≡◌, ℕ, Bool, false, get_or, List, sym, ap, subst, length, ◌∙◌, ◌<◌}
+use Rattle.std.proofs.Common.{ℕ, Bool, ap}
 use Rattle.volume_model.specs.Formula.{sat}
-use Rattle.volume_model.specs.Node.{senders}
 use Rattle.volume_model.specs.Plan.{Plan}
+use Rattle.volume_model.specs.Node.{senders}
 use Rattle.volume_model.specs.Client.{ClientGroup, place_configuration}
-use Rattle.plan.specs.declared.checked.CheckedPlan.{CheckedPlan}
 use Rattle.plan.specs.CheckedModel.{checked_model}
-use Rattle.writer_core.specs.declared.group_state.GroupState.{GroupState}
-use Rattle.writer_core.specs.GroupStates.{group_at}
 use Rattle.writer_core.specs.Groups.{group_states_plan}
 use Rattle.writer_core.proofs.Placing.{group-fails}
 use Rattle.writer_core.proofs.group_states.GroupStates.has_read.Goals as goal
@@ -18,11 +15,4 @@ test plan number group = sat (place_configuration plan number group.place).read 
 pub returns-then-not-has_read : goal.returns-then-not-has_read
 returns-then-not-has_read c =
     let self = c.args.self.now in
-    let plan = group_states_plan self in
-    let s = c.group_state-item.result in
-    let items = c.deref-group_state-items.ensures.value in
-    let i = c.loop-group.group in
-    let within : i < length self.list.items = subst (λ (xs : List GroupState). i < length xs) items c.loop-group-test.true in
-    let is : s ≡ get_or self.list.items i s = subst (λ (xs : List GroupState). s ≡ get_or xs i s) items c.group_state-item.is in
-    let fails : test plan i (group_at s) ≡ false = ap (λ (p : CheckedPlan). test (checked_model p) i (group_at s)) (sym c.deref.ensures) ∙ sym c.has_read.ensures ∙ c.if-not-has_read.true in
-    sym (group-fails self.list.items i s (test plan) within is fails)
+    group-fails test (group_states_plan self) _ self.list.items _ c.loop-group.group c.group_state-item.result _ c.deref-group_state-items.ensures.value (ap checked_model c.deref.ensures) c.loop-group-test.true c.group_state-item.is c.has_read.ensures c.if-not-has_read.true
