@@ -29,31 +29,35 @@ either (Err x) P new changed old e f p q = subst P (sym f) q
 
 -- ---- a later View
 
-pub view-reading : (plan : Plan) (volume of : ℕ) (groups now : List ClientGroup) (items : List Place) (found : Option Found) (made : List model.Message) → of ≡ volume → are_places plan (map wire.place_of items) ≡ true → found ≡ None
-    → now ≡ with_places reread_group groups (map wire.place_of items) → made ≡ fences (length items) volume (place_in (map wire.place_of items)) (later_in (place_of groups) (place_in (map wire.place_of items)))
+pub view-reading : (plan : Plan) (volume of : ℕ) (groups now : List ClientGroup) (slice items : List Place) (found : Option Found) (made : List model.Message) → slice ≡ items → of ≡ volume → are_places plan (map wire.place_of items) ≡ true → found ≡ None
+    → now ≡ with_places reread_group groups (map wire.place_of slice) → made ≡ fences (length slice) volume (place_in (map wire.place_of slice)) (later_in (place_of groups) (place_in (map wire.place_of slice)))
     → taken plan volume (client_with groups found) (model.Message.View of (map wire.place_of items)) ≡ Ok (record { made = made; client = client_with now found })
-view-reading plan volume of groups now items found made same good none new is =
-    let places : List model.Place = map wire.place_of items in
+view-reading plan volume of groups now slice items found made all same good none new is =
+    let places : List model.Place = map wire.place_of slice in
+    let good_slice : are_places plan places ≡ true = ap (λ (xs : List Place). are_places plan (map wire.place_of xs)) all ∙ good in
     let chosen : ℕ → Bool = later_in (place_of groups) (place_in places) in
     let said : made ≡ fences (length places) volume (place_of (with_places reread_group groups places)) chosen =
-    is ∙ ap (λ n. fences n volume (place_in places) chosen) (sym (length-map items wire.place_of)) ∙ fences-with_places (length places) volume groups places chosen (λ k t. t) in
+    is ∙ ap (λ n. fences n volume (place_in places) chosen) (sym (length-map slice wire.place_of)) ∙ fences-with_places (length places) volume groups places chosen (λ k t. t) in
     let base : taken plan volume (client_with groups None) (model.Message.View of places) ≡ Ok (record { made = made; client = client_with now None }) =
-    rw (eq-eqb of volume same, good) (ap₂ (λ ms gs. Ok (record { made = ms; client = client_with gs None })) (sym said) (sym new)) in
-    subst (λ f. taken plan volume (client_with groups f) (model.Message.View of places) ≡ Ok (record { made = made; client = client_with now f })) (sym none) base
+    rw (eq-eqb of volume same, good_slice) (ap₂ (λ ms gs. Ok (record { made = ms; client = client_with gs None })) (sym said) (sym new)) in
+    ap (λ (xs : List Place). taken plan volume (client_with groups found) (model.Message.View of (map wire.place_of xs))) (sym all)
+    ∙ subst (λ f. taken plan volume (client_with groups f) (model.Message.View of places) ≡ Ok (record { made = made; client = client_with now f })) (sym none) base
 
-pub view-installing : (plan : Plan) (volume of : ℕ) (groups now : List ClientGroup) (items : List Place) (before : Option Found) (found : Found) (made : List model.Message) → of ≡ volume → are_places plan (map wire.place_of items) ≡ true → before ≡ Some found
-    → now ≡ with_places later_group groups (map wire.place_of items) → made ≡ installs (length items) volume (place_in (map wire.place_of items)) (lineage_of found.lineage) (log_of_set found.log) (later_in (place_of groups) (place_in (map wire.place_of items)))
+pub view-installing : (plan : Plan) (volume of : ℕ) (groups now : List ClientGroup) (slice items : List Place) (before : Option Found) (found : Found) (made : List model.Message) → slice ≡ items → of ≡ volume → are_places plan (map wire.place_of items) ≡ true → before ≡ Some found
+    → now ≡ with_places later_group groups (map wire.place_of slice) → made ≡ installs (length slice) volume (place_in (map wire.place_of slice)) (lineage_of found.lineage) (log_of_set found.log) (later_in (place_of groups) (place_in (map wire.place_of slice)))
     → taken plan volume (client_with groups before) (model.Message.View of (map wire.place_of items)) ≡ Ok (record { made = made; client = client_with now before })
-view-installing plan volume of groups now items before found made same good there new is =
-    let places : List model.Place = map wire.place_of items in
+view-installing plan volume of groups now slice items before found made all same good there new is =
+    let places : List model.Place = map wire.place_of slice in
+    let good_slice : are_places plan places ≡ true = ap (λ (xs : List Place). are_places plan (map wire.place_of xs)) all ∙ good in
     let chosen : ℕ → Bool = later_in (place_of groups) (place_in places) in
     let lineage : Lineage = lineage_of found.lineage in
     let log : List Redo = log_of_set found.log in
     let said : made ≡ installs (length places) volume (place_of (with_places later_group groups places)) lineage log chosen =
-    is ∙ ap (λ n. installs n volume (place_in places) lineage log chosen) (sym (length-map items wire.place_of)) ∙ installs-with_places (length places) volume groups places lineage log chosen (λ k t. t) in
+    is ∙ ap (λ n. installs n volume (place_in places) lineage log chosen) (sym (length-map slice wire.place_of)) ∙ installs-with_places (length places) volume groups places lineage log chosen (λ k t. t) in
     let base : taken plan volume (client_with groups (Some found)) (model.Message.View of places) ≡ Ok (record { made = made; client = client_with now (Some found) }) =
-    rw (eq-eqb of volume same, good) (ap₂ (λ ms gs. Ok (record { made = ms; client = client_with gs (Some found) })) (sym said) (sym new)) in
-    subst (λ f. taken plan volume (client_with groups f) (model.Message.View of places) ≡ Ok (record { made = made; client = client_with now f })) (sym there) base
+    rw (eq-eqb of volume same, good_slice) (ap₂ (λ ms gs. Ok (record { made = ms; client = client_with gs (Some found) })) (sym said) (sym new)) in
+    ap (λ (xs : List Place). taken plan volume (client_with groups before) (model.Message.View of (map wire.place_of xs))) (sym all)
+    ∙ subst (λ f. taken plan volume (client_with groups f) (model.Message.View of places) ≡ Ok (record { made = made; client = client_with now f })) (sym there) base
 
 -- ---- the first View
 
