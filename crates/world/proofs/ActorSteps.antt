@@ -25,40 +25,26 @@ steps_of_event plan w after asked event late answer result is same does steps =
 -- the authority's
 pub authority_step : (plan : Plan) (w : World) (action : AuthorityAction) → step plan w (authority_event action) ≡ of_authority w (authority_acted plan w.authority action)
 authority_step plan w authority.Assign = refl
-authority_step plan w (authority.Advance group configuration) = refl
-authority_step plan w (authority.Refresh volume) = refl
-authority_step plan w authority.Grow = refl
+authority_step plan w action = refl
 
 pub authority_late : (action : AuthorityAction) → event_after_growth (authority_event action) ≡ never_after_growth
 authority_late authority.Assign = refl
-authority_late (authority.Advance group configuration) = refl
-authority_late (authority.Refresh volume) = refl
-authority_late authority.Grow = refl
+authority_late action = refl
 
 -- a client's
 pub client_step : (plan : Plan) (w : World) (volume : ℕ) (action : ClientAction) → step plan w (client_event volume action) ≡ of_client w volume (client_does w.messages action plan volume (w.clients volume))
 client_step plan w volume (client.Issue changes) = refl
-client_step plan w volume (client.Take message) = refl
-client_step plan w volume client.Cut = refl
-client_step plan w volume client.Open = refl
-client_step plan w volume (client.Resend lsn) = refl
-client_step plan w volume (client.Read group block) = refl
+client_step plan w volume action = refl
 
 pub client_late : (volume : ℕ) (action : ClientAction) → event_after_growth (client_event volume action) ≡ client_after_growth action
 client_late volume (client.Issue changes) = refl
-client_late volume (client.Take message) = refl
-client_late volume client.Cut = refl
-client_late volume client.Open = refl
-client_late volume (client.Resend lsn) = refl
-client_late volume (client.Read group block) = refl
+client_late volume action = refl
 
 -- a node's
 pub node_step : (plan : Plan) (w : World) (g m : ℕ) (action : NodeAction) → step plan w (node_event g m action) ≡ of_node w g m (if_there plan (groups_joined w.authority) g m (acted action plan g m (w.nodes g m)))
 node_step plan w g m node.Hydrate = refl
-node_step plan w g m node.Restart = refl
-node_step plan w g m (node.Offer lsn) = refl
+node_step plan w g m action = refl
 
 pub node_late : (g m : ℕ) (action : NodeAction) → event_after_growth (node_event g m action) ≡ action_after_growth action
 node_late g m node.Hydrate = refl
-node_late g m node.Restart = refl
-node_late g m (node.Offer lsn) = refl
+node_late g m action = refl

@@ -1,26 +1,24 @@
 -- In every run a node that has a place and isn't whole has asked for copies, and each member of a group's root is whole.
-use Rattle.std.proofs.Common.{◌≡◌, ℕ, ◌≤◌, Bool, true, false, not, ◌&&◌, ◌==◌, nat_lt, nat_le, ◌⊎◌, if◌then◌else◌, List, [], ◌∷◌, Option, Some, None, Result, Ok, Err, refl, sym, ap, ◌∙◌, subst, inl, inr, arith}
-use Rattle.std.proofs.lemmas.Bool.{both_ways, not-false, true≢false}
+use Rattle.std.proofs.Common.{◌≡◌, ℕ, ◌≤◌, Bool, true, false, not, ◌&&◌, nat_lt, ◌⊎◌, List, [], ◌∷◌, Result, Ok, Err, refl, sym, ap, ◌∙◌, subst, inl, inr, arith}
+use Rattle.std.proofs.lemmas.Bool.{both_ways, true≢false}
 use Rattle.volume_model.specs.Lists.{IsIn, added, numbered}
-use Rattle.volume_model.specs.Pieces.{is_bad_piece, pieces_from}
-use Rattle.volume_model.specs.Plan.{Plan, IsCertified, has_member, is_configuration, is_named}
-use Rattle.volume_model.specs.Message.{Label, Message}
-use Rattle.volume_model.specs.Message.Message.{StepTo, Fence, Install, Write, Gossip, CopyAsk, CopyReport, PageAsk}
+use Rattle.volume_model.specs.Plan.{Plan, IsCertified, has_member, is_named}
+use Rattle.volume_model.specs.Message.Message.{CopyAsk}
 use Rattle.volume_model.specs.Refusal.{refuse_if}
-use Rattle.volume_model.specs.Node.{Node, NodeStep, NodeAnswer, born_node, in_group, label_checks, reaction, restarted}
+use Rattle.volume_model.specs.Node.{Node, NodeStep, NodeAnswer, born_node}
 use Rattle.volume_model.specs.Client.{ClientAnswer}
-use Rattle.volume_model.specs.World.{AuthorityStep, World, Event, after, after_step, deliver, groups_joined, if_there, of_authority, of_client, of_node, opening, run}
+use Rattle.volume_model.specs.World.{AuthorityStep, World, Event, after, after_step, groups_joined, if_there, of_authority, of_client, of_node, opening, run}
 use Rattle.volume_model.specs.World.Event.{Issue, Take, Cut, Open, Resend, Read, Deliver, Hydrate, Restart, Offer}
 use Rattle.volume_model.proofs.Basics.{put_at-all}
 use Rattle.volume_model.proofs.Invariant.{IsMade}
-use Rattle.volume_model.proofs.NodeSteps.{hydrated-ok, refuse_if-ok}
+use Rattle.volume_model.proofs.NodeSteps.{hydrated-ok}
 use Rattle.volume_model.proofs.Renewed.{IsKeptWorld}
 use Rattle.volume_model.proofs.Run.{event_kept, opening_kept}
 use Rattle.volume_model.specs.declared.fault.Fault.{Fault}
-use Rattle.volume_model.specs.declared.fault.Fault.TheVariants.{NoActor, AheadMember, AlreadyWhole, BadPiece, NotAddressed, NotInPlan, NotWhole, StaleMember}
-use Rattle.world.proofs.Lost.{Ok-node, nodes_on}
+use Rattle.volume_model.specs.declared.fault.Fault.TheVariants.{NoActor}
+use Rattle.world.proofs.Lost.{nodes_on}
+use Rattle.world.proofs.Reactions.{Leaves, deliver_leaves, offer_leaves, restart_leaves}
 use Rattle.world.proofs.Readable.{IsIn-kept, IsIn-new}
-use Rattle.world.proofs.Waiting.{deliver_whole, offer_whole}
 
 -- each node that has a place and isn't whole has asked for copies at its membership epoch
 abbrev pub HasAsked : World → Type 0
@@ -32,51 +30,10 @@ HasWholeRoots plan world = (g x : ℕ) → has_member (plan.configuration g 0) x
 
 -- ---- one step of a node that isn't whole
 
-module _ (plan : Plan) (group x : ℕ) (node : Node) (un : node.whole ≡ false) where
-  -- the step leaves the node's place, or asks for copies at the new one
-  abbrev pub Asks : NodeStep → Type 0
-  Asks step = (step.node.place ≡ node.place) ⊎ IsIn (CopyAsk group step.node.place.epoch) step.made
-
-  -- only a whole node passes the tests of a label
-  unpassed : (l : Label) (rest : NodeAnswer) (step : NodeStep) → label_checks node l rest ≡ Ok step → Asks step
-  unpassed l rest step h =
-      let (a, h1) = refuse_if-ok (nat_lt l.member node.place.epoch) StaleMember _ step h in
-      let (b, h2) = refuse_if-ok (nat_lt node.place.epoch l.member) AheadMember _ step h1 in
-      let (c, h3) = refuse_if-ok (not node.whole) NotWhole _ step h2 in
-      absurd (both_ways node.whole un (not-false node.whole c))
-
-  -- whatever message comes
-  reaction_asks : (m : Message) (step : NodeStep) → reaction plan group x node m ≡ Ok step → Asks step
-  reaction_asks (Fence to l) step h = unpassed l _ step (refuse_if-ok (not (to == group)) NotAddressed _ step h).1
-  reaction_asks (Install to l piece c) step h = unpassed l _ step (refuse_if-ok (not (to == group && in_group group c)) NotAddressed _ step h).1
-  reaction_asks (Write to l r) step h = unpassed l _ step (refuse_if-ok (not (to == group && r.group == group)) NotAddressed _ step h).1
-  reaction_asks (Gossip to l r) step h = unpassed l _ step (refuse_if-ok (not (to == group && r.group == group)) NotAddressed _ step h).1
-  reaction_asks (StepTo to place) step h =
-      let (a, h1) = refuse_if-ok (not (to == group)) NotAddressed _ step h in
-      let (b, h2) = refuse_if-ok (nat_le place.epoch node.place.epoch) StaleMember _ step h1 in
-      let (c, h3) = refuse_if-ok (not (is_configuration plan group place.configuration place.epoch)) NotInPlan _ step h2 in
-      let asking : IsIn (CopyAsk group place.epoch) (if node.whole then [] else CopyAsk group place.epoch ∷ []) = rw un (inl refl) in
-      subst Asks (Ok-node _ step h3) (inr asking)
-  reaction_asks (CopyAsk to epoch) step h =
-      let (a, h1) = refuse_if-ok (not (to == group)) NotAddressed _ step h in
-      let (b, h2) = refuse_if-ok (nat_lt epoch node.place.epoch) StaleMember _ step h1 in
-      let (c, h3) = refuse_if-ok (nat_lt node.place.epoch epoch) AheadMember _ step h2 in
-      let (d, h4) = refuse_if-ok (not node.whole) NotWhole _ step h3 in
-      absurd (both_ways node.whole un (not-false node.whole d))
-  reaction_asks (CopyReport to epoch sender s piece c) step h =
-      let (a, h1) = refuse_if-ok (not (to == group && in_group group c && nat_lt sender 64)) NotAddressed _ step h in
-      let (w, h2) = refuse_if-ok node.whole AlreadyWhole _ step h1 in
-      let (b, h3) = refuse_if-ok (nat_lt epoch node.place.epoch) StaleMember _ step h2 in
-      let (d, h4) = refuse_if-ok (nat_lt node.place.epoch epoch) AheadMember _ step h3 in
-      let (f, h5) = refuse_if-ok (is_bad_piece (pieces_from node.copies sender) s piece c) BadPiece _ step h4 in
-      subst Asks (Ok-node _ step h5) (inl refl)
-  reaction_asks (PageAsk to l block point) step h = unpassed l _ step (refuse_if-ok (not (to == group)) NotAddressed _ step h).1
-  reaction_asks m step h = cc
-
-  -- a message that was looked up
-  pub deliver_asks : (found : Option Message) (step : NodeStep) → deliver plan group x node found ≡ Ok step → Asks step
-  deliver_asks None step h = cc
-  deliver_asks (Some m) step h = reaction_asks m step h
+-- the step leaves the node's place, or asks for copies at the new one
+leaves_asked : (plan : Plan) (group x : ℕ) (node : Node) (step : NodeStep) → Leaves plan group x node step → step.node.whole ≡ false
+    → (node.whole ≡ false) × ((step.node.place ≡ node.place) ⊎ IsIn (CopyAsk group step.node.place.epoch) step.made)
+leaves_asked plan group x node step leaves un = (sym leaves.whole ∙ un, elim leaves.place [ inl same ↦ inl same | inr asks ↦ inr (asks un) ])
 
 -- ---- one event
 
@@ -121,18 +78,14 @@ module _ (plan : Plan) (certified : IsCertified plan) (world : World) (known : I
   asked_on old (Open v) = by_client v _ old
   asked_on old (Resend v lsn) = by_client v _ old
   asked_on old (Read v group block) = by_client v _ old
-  asked_on old (Deliver group x number) = by_node group x _ (λ step h un. (
-      let before : (world.nodes group x).whole ≡ false = sym (deliver_whole plan group x (world.nodes group x) (numbered world.messages number) step h) ∙ un in
-      (before, deliver_asks plan group x (world.nodes group x) before (numbered world.messages number) step h))) old
+  asked_on old (Deliver group x number) = by_node group x _ (λ step h. leaves_asked plan group x (world.nodes group x) step (deliver_leaves plan group x (world.nodes group x) (numbered world.messages number) step h)) old
   asked_on old (Hydrate group x) = by_node group x _ (λ step h un. (
       let (w, own, reads, is) = hydrated-ok plan group x (world.nodes group x) step h in
       absurd (both_ways step.node.whole un (ap (λ (s : NodeStep). s.node.whole) is)))) old
-  asked_on old (Restart group x) = by_node group x _ (λ step h un. (
-      let is : record { made = []; node = restarted (world.nodes group x) } ≡ step = Ok-node _ step h in
-      (ap (λ (s : NodeStep). s.node.whole) is ∙ un, inl (ap (λ (s : NodeStep). s.node.place) (sym is))))) old
+  asked_on old (Restart group x) = by_node group x _ (λ step h. leaves_asked plan group x (world.nodes group x) step (restart_leaves plan group x (world.nodes group x) step h).0) old
   asked_on old (Offer group x lsn) = by_node group x _ (λ step h un. (
-      let before : (world.nodes group x).whole ≡ false = sym (offer_whole plan group x (world.nodes group x) lsn step h) ∙ un in
-      absurd (both_ways (world.nodes group x).whole before (not-false _ (refuse_if-ok (not (world.nodes group x).whole) NotWhole _ step h).0)))) old
+      let (whole, leaves, same) = offer_leaves plan group x (world.nodes group x) lsn step h in
+      absurd (both_ways step.node.whole un (leaves.whole ∙ whole)))) old
   asked_on old m = by_authority _ old
 
   -- each event keeps that the members of the root are whole

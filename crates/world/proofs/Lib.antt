@@ -11,6 +11,7 @@ pub mod Few
 pub mod NodeSlot
 pub mod ActorSteps
 pub mod NodeStates
+pub mod Reactions
 pub mod Waiting
 pub mod Lost
 pub mod Volumes

@@ -9,15 +9,17 @@ use Rattle.volume_model.specs.Plan.{Plan, IsCertified, IsStep, epoch_of, has_mem
 use Rattle.volume_model.specs.Message.{Place, Message, place_in}
 use Rattle.volume_model.specs.Message.Message.{View, Report, CopyReport}
 use Rattle.volume_model.specs.Refusal.{refuse_if}
-use Rattle.volume_model.specs.Node.{Node, NodeStep, NodeAnswer, hydrated, senders}
+use Rattle.volume_model.specs.Node.{Node, NodeStep, NodeAnswer, hydrated, offered, restarted, senders}
 use Rattle.volume_model.specs.Client.{Client, ClientStep, ClientAnswer, has_cut, reports_of}
-use Rattle.volume_model.specs.World.{Authority, AuthorityStep, World, Event, advance_step, advanced, after, after_step, assigned, configuration_of, groups_joined, grown, if_there, of_authority, of_client, of_node, opening, places_now, refreshed, run}
+use Rattle.volume_model.specs.World.{Authority, AuthorityStep, World, Event, advance_step, advanced, after, after_step, assigned, configuration_of, deliver, groups_joined, grown, if_there, of_authority, of_client, of_node, opening, places_now, refreshed, run}
 use Rattle.volume_model.specs.World.Event.{Assign, Advance, Refresh, Grow, Issue, Take, Cut, Open, Resend, Read, Deliver, Hydrate, Restart, Offer}
+use Rattle.volume_model.specs.Actor.{Actor}
 use Rattle.volume_model.proofs.Above.{ancestor}
 use Rattle.volume_model.proofs.Added.{epoch_positive}
 use Rattle.volume_model.proofs.Basics.{IsIn-added, any_passes, put_at-all}
 use Rattle.volume_model.proofs.ClientSteps.{ClientSays, IsGoodMove, issued_good, take_good, cut_good, opened_good, resent_good, asked_good}
 use Rattle.volume_model.proofs.FormulaLaws.{sat_more}
+use Rattle.volume_model.proofs.Frames.{frame}
 use Rattle.volume_model.proofs.Groups.{index-zero_more, length-slice_set, set-all}
 use Rattle.volume_model.proofs.Invariant.{Held, IsInViews, IsMade, epoch_now, path}
 use Rattle.volume_model.proofs.Kept.{HasRead, IsCutClient, IsKept, IsView, NodeKept}
@@ -32,8 +34,7 @@ use Rattle.volume_model.specs.declared.fault.Fault.{Fault}
 use Rattle.volume_model.specs.declared.fault.Fault.TheVariants.{AllGrown, EpochsSpent, NoActor, NoGroup, NotInPlan, Superseded}
 use Rattle.world.specs.Lost.{EarlyStepsLose, HaveTakenStep, IsLost}
 use Rattle.world.specs.Waiting.{whole_in}
-pub use Rattle.world.proofs.Waiting.{Ok-node}
-use Rattle.world.proofs.Waiting.{deliver_whole, offer_whole, restart_whole}
+use Rattle.world.proofs.Reactions.{Ok-node, deliver_leaves, offer_leaves, restart_leaves}
 
 pub Ok-is : (a b : AuthorityStep) → ◌≡◌ {A = Result AuthorityStep Fault} (Ok a) (Ok b) → a ≡ b
 Ok-is a b h = cc
@@ -139,7 +140,7 @@ module _ (plan : Plan) (certified : IsCertified plan) (world : World) (known : I
 
   -- ---- what a step does to the nodes
 
-  pub node_on : (Keeps : ℕ → ℕ → Node → Type 0) → ((g y : ℕ) → Keeps g y (world.nodes g y)) → (joined group x : ℕ) (answer : NodeAnswer)
+  node_on : (Keeps : ℕ → ℕ → Node → Type 0) → ((g y : ℕ) → Keeps g y (world.nodes g y)) → (joined group x : ℕ) (answer : NodeAnswer)
       → (group < plan.groups → is_named plan group x ≡ true → (step : NodeStep) → answer ≡ Ok step → Keeps group x step.node)
       → (g y : ℕ) → Keeps g y ((after_step world (of_node world group x (if_there plan joined group x answer))).nodes g y)
   node_on Keeps old joined group x answer new = go (nat_lt group joined && is_named plan group x) refl answer new
@@ -152,13 +153,18 @@ module _ (plan : Plan) (certified : IsCertified plan) (world : World) (known : I
       go true e (Ok step) new =
           put_at-all Keeps world.nodes group x step.node (new (there_of joined group x e) (and_parts (nat_lt group joined) (is_named plan group x) e).1 step refl) old
 
-  pub client_on : (Keeps : ℕ → ℕ → Node → Type 0) → ((g y : ℕ) → Keeps g y (world.nodes g y)) → (v : ℕ) (answer : ClientAnswer) → (g y : ℕ) → Keeps g y ((after_step world (of_client world v answer)).nodes g y)
-  client_on Keeps old v (Err fault) = old
-  client_on Keeps old v (Ok step) = old
-
-  pub authority_on : (Keeps : ℕ → ℕ → Node → Type 0) → ((g y : ℕ) → Keeps g y (world.nodes g y)) → (answer : Result AuthorityStep Fault) → (g y : ℕ) → Keeps g y ((after_step world (of_authority world answer)).nodes g y)
-  authority_on Keeps old (Err fault) = old
-  authority_on Keeps old (Ok step) = old
+  -- what is so of each node is so after the event, if each step of a node leaves it so
+  pub nodes_by : (Keeps : ℕ → ℕ → Node → Type 0) → ((g y : ℕ) → Keeps g y (world.nodes g y))
+      → ((g x : ℕ) → g < plan.groups → (number : ℕ) (step : NodeStep) → deliver plan g x (world.nodes g x) (numbered world.messages number) ≡ Ok step → Keeps g x step.node)
+      → ((g x : ℕ) → g < plan.groups → is_named plan g x ≡ true → (step : NodeStep) → hydrated plan g x (world.nodes g x) ≡ Ok step → Keeps g x step.node)
+      → ((g x : ℕ) → g < plan.groups → (step : NodeStep) → ◌≡◌ {A = NodeAnswer} (Ok (record { made = []; node = restarted (world.nodes g x) })) (Ok step) → Keeps g x step.node)
+      → ((g x : ℕ) → g < plan.groups → (lsn : ℕ) (step : NodeStep) → offered g (world.nodes g x) lsn ≡ Ok step → Keeps g x step.node)
+      → (event : Event) → (g y : ℕ) → Keeps g y ((after plan world event).nodes g y)
+  nodes_by Keeps old delivers hydrates restarts offers (Deliver g x number) = node_on Keeps old _ g x _ (λ there named. delivers g x there number)
+  nodes_by Keeps old delivers hydrates restarts offers (Hydrate g x) = node_on Keeps old _ g x _ (hydrates g x)
+  nodes_by Keeps old delivers hydrates restarts offers (Restart g x) = node_on Keeps old _ g x _ (λ there named. restarts g x there)
+  nodes_by Keeps old delivers hydrates restarts offers (Offer g x lsn) = node_on Keeps old _ g x _ (λ there named. offers g x there lsn)
+  nodes_by Keeps old delivers hydrates restarts offers event = λ g y. subst (Keeps g y) (frame plan world event (Actor.Node g y) refl) (old g y)
 
   -- What is so of each node is so after the event, if a node that hydrates has it, and one that does something else and so is whole as before at no earlier
   -- membership epoch.
@@ -166,26 +172,12 @@ module _ (plan : Plan) (certified : IsCertified plan) (world : World) (known : I
       → ((g y : ℕ) (node : Node) → Keeps g y (world.nodes g y) → node.whole ≡ (world.nodes g y).whole → (world.nodes g y).place.epoch ≤ node.place.epoch → Keeps g y node)
       → ((g y : ℕ) → g < plan.groups → is_named plan g y ≡ true → (step : NodeStep) → hydrated plan g y (world.nodes g y) ≡ Ok step → Keeps g y step.node)
       → (event : Event) → (g y : ℕ) → Keeps g y ((after plan world event).nodes g y)
-  nodes_on Keeps old same fresh Assign = authority_on Keeps old (assigned plan world.authority)
-  nodes_on Keeps old same fresh (Advance group c) = authority_on Keeps old (advanced plan world.authority group c)
-  nodes_on Keeps old same fresh (Refresh volume) = authority_on Keeps old (refreshed plan world.authority volume)
-  nodes_on Keeps old same fresh Grow = authority_on Keeps old (grown plan world.authority)
-  nodes_on Keeps old same fresh (Issue v changes) = client_on Keeps old v _
-  nodes_on Keeps old same fresh (Take v number) = client_on Keeps old v _
-  nodes_on Keeps old same fresh (Cut v) = client_on Keeps old v _
-  nodes_on Keeps old same fresh (Open v) = client_on Keeps old v _
-  nodes_on Keeps old same fresh (Resend v lsn) = client_on Keeps old v _
-  nodes_on Keeps old same fresh (Read v group block) = client_on Keeps old v _
-  nodes_on Keeps old same fresh (Deliver group x number) = node_on Keeps old _ group x _ (λ there named step h.
-      same group x step.node (old group x) (deliver_whole plan group x (world.nodes group x) (numbered world.messages number) step h)
-      (delivered_good plan certified world ready (renewed_ready known.held world) group x there number step h).grows.epoch)
-  nodes_on Keeps old same fresh (Hydrate group x) = node_on Keeps old _ group x _ (λ there named step h. fresh group x there named step h)
-  nodes_on Keeps old same fresh (Restart group x) = node_on Keeps old _ group x _ (λ there named step h.
-      same group x step.node (old group x) (restart_whole plan group x (world.nodes group x) step h)
-      (subst (λ z. IsGood group x z) (Ok-node _ step h) (restarted_good plan certified world ready (renewed_ready known.held world) group x there)).grows.epoch)
-  nodes_on Keeps old same fresh (Offer group x lsn) = node_on Keeps old _ group x _ (λ there named step h.
-      same group x step.node (old group x) (offer_whole plan group x (world.nodes group x) lsn step h)
-      (offered_good plan certified world ready (renewed_ready known.held world) group x there lsn step h).grows.epoch)
+  nodes_on Keeps old same fresh =
+      nodes_by Keeps old
+      (λ g x there number step h. same g x step.node (old g x) (deliver_leaves plan g x (world.nodes g x) (numbered world.messages number) step h).whole (delivered_good plan certified world ready (renewed_ready known.held world) g x there number step h).grows.epoch)
+      fresh
+      (λ g x there step h. same g x step.node (old g x) (restart_leaves plan g x (world.nodes g x) step h).0.whole (subst (λ z. IsGood g x z) (Ok-node _ step h) (restarted_good plan certified world ready (renewed_ready known.held world) g x there)).grows.epoch)
+      (λ g x there lsn step h. same g x step.node (old g x) (offer_leaves plan g x (world.nodes g x) lsn step h).1.whole (offered_good plan certified world ready (renewed_ready known.held world) g x there lsn step h).grows.epoch)
 
 -- ---- in every run, who reports or sends a copy is whole
 
@@ -418,18 +410,6 @@ module _ (plan : Plan) (certified : IsCertified plan) (g : ℕ) (there : g < pla
     by_the_authority (Err fault) good = at_now
     by_the_authority (Ok step) good = good step refl
 
-    by_a_client : (v : ℕ) (answer : ClientAnswer) → IsAt (after_step later (of_client later v answer)).authority
-    by_a_client v (Err fault) = at_now
-    by_a_client v (Ok step) = at_now
-
-    by_a_node : (group x : ℕ) (answer : NodeAnswer) → IsAt (after_step later (of_node later group x (if_there plan (groups_joined later.authority) group x answer))).authority
-    by_a_node group x answer = go (nat_lt group (groups_joined later.authority) && is_named plan group x) answer
-      where
-        go : (is : Bool) (answer : NodeAnswer) → IsAt (after_step later (of_node later group x (refuse_if (not is) NoActor answer))).authority
-        go false answer = at_now
-        go true (Err fault) = at_now
-        go true (Ok step) = at_now
-
     -- a child of the group's configuration is past it
     IsPast-child : (c : ℕ) → 0 < c → c < plan.configurations g → parent_of plan g c ≡ configuration_of later.authority g → IsPast c
     IsPast-child c positive within child =
@@ -472,16 +452,7 @@ module _ (plan : Plan) (certified : IsCertified plan) (g : ℕ) (there : g < pla
         let joined : g < groups_joined later.authority = lost.joined in
         subst (λ (z : AuthorityStep). IsAt z.authority) (Ok-is _ s (refuse_if-ok (not (nat_lt (groups_joined later.authority) plan.groups)) AllGrown _ s h).1)
         (record { joined = omega arith; past = subst IsPast (sym (index-zero_more later.authority.configurations g)) lost.past }))
-    authority_after (Issue v changes) = by_a_client v _
-    authority_after (Take v number) = by_a_client v _
-    authority_after (Cut v) = by_a_client v _
-    authority_after (Open v) = by_a_client v _
-    authority_after (Resend v lsn) = by_a_client v _
-    authority_after (Read v group block) = by_a_client v _
-    authority_after (Deliver group x number) = by_a_node group x _
-    authority_after (Hydrate group x) = by_a_node group x _
-    authority_after (Restart group x) = by_a_node group x _
-    authority_after (Offer group x lsn) = by_a_node group x _
+    authority_after event = subst IsAt (frame plan later event Actor.TheAuthority refl) at_now
 
     lost_after : (event : Event) → StaysLost (after plan later event)
     lost_after event = record {

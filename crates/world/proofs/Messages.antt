@@ -6,17 +6,10 @@ use Rattle.std.proofs.Common.{option_map, get_or, ◌⊎◌, inl, inr}
 use Rattle.std.proofs.lemmas.List.{length-map}
 use Rattle.std.proofs.lemmas.Option.{slice_get_read}
 use Rattle.volume_model.specs.Message as model
+use Rattle.volume_model.proofs.ListFacts.{length-added}
 use Rattle.wire.specs.declared.message.Message.{Message}
 use Rattle.wire.specs.Message.{message_of, messages_of}
 use Rattle.volume_model.specs.Lists.{added, numbered}
-
-pub added-append : {A : Type 0} (xs ys kept : List A) → added (xs ++ ys) kept ≡ added ys (added xs kept)
-added-append [] ys kept = refl
-added-append (x ∷ xs) ys kept = added-append xs ys (x ∷ kept)
-
-pub length-added : {A : Type 0} (xs kept : List A) → length (added xs kept) ≡ length xs + length kept
-length-added [] kept = omega arith
-length-added (x ∷ xs) kept = length-added xs (x ∷ kept) ∙ omega arith
 
 -- a message that was kept before is found by its number still
 numbered-kept : {A : Type 0} (xs kept : List A) (n : ℕ) → n ≤ length kept → numbered (added xs kept) n ≡ numbered kept n

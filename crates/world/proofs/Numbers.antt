@@ -1,15 +1,14 @@
 -- The numbers of messages that are named by the events that made them.
-use Rattle.std.proofs.Common.{◌≡◌, ℕ, zero, suc, ◌+◌, ◌<◌, ◌≤◌, ◌&&◌, nat_le, if◌then◌else◌, List, [], ◌∷◌, ◌++◌, Result, Ok, Err, length, get_or, refl, sym, ap, ◌∙◌, arith}
+use Rattle.std.proofs.Common.{◌≡◌, ℕ, zero, suc, ◌+◌, ◌<◌, ◌≤◌, ◌&&◌, nat_le, if◌then◌else◌, List, [], ◌∷◌, ◌++◌, Some, Result, Ok, Err, length, get_or, refl, sym, ap, ◌∙◌, arith}
 use Rattle.std.proofs.Common.{Bool, true, false, ◌⊎◌, inl, inr}
 use Rattle.std.proofs.lemmas.Bool.Decides.{nat_tests}
 use Rattle.volume_model.specs.declared.fault.Fault.{Fault}
 use Rattle.volume_model.specs.Plan.{Plan}
-use Rattle.volume_model.specs.World.{World, Event, AuthorityStep, step, after, after_step, event_result, of_authority, of_client, of_node}
-use Rattle.volume_model.specs.World.Event.{Issue, Take, Cut, Open, Resend, Read, Deliver, Hydrate, Restart, Offer}
-use Rattle.volume_model.specs.Node.{NodeAnswer}
-use Rattle.volume_model.specs.Client.{ClientAnswer}
+use Rattle.volume_model.specs.Message.{Message}
+use Rattle.volume_model.specs.StepResults.{makes}
+use Rattle.volume_model.proofs.Growing.{Leaves, messages_grow}
+use Rattle.volume_model.specs.World.{World, Event, Step, step, after, after_step, event_result}
 use Rattle.world.specs.Events.{made_by, total_made, firsts_of, number_from}
-use Rattle.world.proofs.Messages.{length-added}
 
 pub number_at : (first : ℕ) (results : List (Result ℕ Fault)) (i place : ℕ) (d : Result ℕ Fault) → i < length results → number_from first results i place ≡ (if nat_le 1 place && nat_le place (made_by (get_or results i d)) then get_or (firsts_of first results) i 0 + place else 0)
 number_at first [] i place d h = absurd (omega arith)
@@ -36,30 +35,12 @@ total_made-push [] r = omega arith
 total_made-push (s ∷ later) r = omega (arith, total_made-push later r)
 
 -- the messages of a world grow by those of the step
-authority_grows : (w : World) (answer : Result AuthorityStep Fault) → length (after_step w (of_authority w answer)).messages ≡ length w.messages + made_by (event_result (of_authority w answer))
-authority_grows w (Ok s) = length-added s.made w.messages ∙ omega arith
-authority_grows w (Err fault) = omega arith
-
-client_grows : (w : World) (volume : ℕ) (answer : ClientAnswer) → length (after_step w (of_client w volume answer)).messages ≡ length w.messages + made_by (event_result (of_client w volume answer))
-client_grows w volume (Ok s) = length-added s.made w.messages ∙ omega arith
-client_grows w volume (Err fault) = omega arith
-
-node_grows : (w : World) (group member : ℕ) (answer : NodeAnswer) → length (after_step w (of_node w group member answer)).messages ≡ length w.messages + made_by (event_result (of_node w group member answer))
-node_grows w group member (Ok s) = length-added s.made w.messages ∙ omega arith
-node_grows w group member (Err fault) = omega arith
+step_grows : (w : World) (r : Result Step Fault) → ((ms : List Message) → makes r ≡ Some ms → Leaves w r ms) → length (after_step w r).messages ≡ length w.messages + made_by (event_result r)
+step_grows w (Ok s) leaves = (leaves s.made refl).1
+step_grows w (Err fault) leaves = omega arith
 
 pub grows : (plan : Plan) (w : World) (event : Event) → length (after plan w event).messages ≡ length w.messages + made_by (event_result (step plan w event))
-grows plan w (Issue volume changes) = client_grows w volume _
-grows plan w (Take volume number) = client_grows w volume _
-grows plan w (Cut volume) = client_grows w volume _
-grows plan w (Open volume) = client_grows w volume _
-grows plan w (Resend volume lsn) = client_grows w volume _
-grows plan w (Read volume group block) = client_grows w volume _
-grows plan w (Deliver group member number) = node_grows w group member _
-grows plan w (Hydrate group member) = node_grows w group member _
-grows plan w (Restart group member) = node_grows w group member _
-grows plan w (Offer group member lsn) = node_grows w group member _
-grows plan w m = authority_grows w _
+grows plan w event = step_grows w (step plan w event) (messages_grow plan w event)
 
 -- the number, from what the program read
 pub number_is : (results : List (Result ℕ Fault)) (firsts : List ℕ) (i place made : ℕ) (d : Result ℕ Fault) → firsts ≡ firsts_of 0 results → i < length results → made ≡ made_by (get_or results i d) → (place ≡ 0 → ⊥) → place ≤ made → get_or firsts i 0 + place ≡ number_from 0 results i place

@@ -1,34 +1,37 @@
 -- In every run no node has promised, and no Fence names, a volume epoch that wasn't assigned.
 use Rattle.std.proofs.Common.{◌≡◌, ℕ, suc, ◌<◌, ◌≤◌, Bool, true, false, not, ◌&&◌, ◌==◌, nat_lt, nat_le, max, List, [], ◌∷◌, Option, Some, None, Result, Ok, Err, length, refl, sym, ap, ◌∙◌, subst, inl, inr, arith}
-use Rattle.std.proofs.lemmas.Bool.{cases_Bool, eqb-true, not-false}
+use Rattle.std.proofs.lemmas.Bool.{eqb-true, not-false}
 use Rattle.volume_model.specs.Lists.{IsIn, each_below, numbered}
-use Rattle.volume_model.specs.Redo.{Redo, cut_of, holds_record, log_found, record_at}
-use Rattle.volume_model.specs.Lineage.{Contents, Lineage, extended, found_in, last_epoch, last_start, newest}
-use Rattle.volume_model.specs.Pieces.{Piece, in_pieces, most_pieces, is_bad_piece, is_complete, with_install, pieces_from}
-use Rattle.volume_model.specs.Plan.{Plan, IsCertified, has_member, is_configuration, is_named, parent_of}
+use Rattle.volume_model.specs.Redo.{Redo, cut_of, log_found, record_at}
+use Rattle.volume_model.specs.Lineage.{Lineage, extended, found_in, last_epoch, last_start, newest}
+use Rattle.volume_model.specs.Pieces.{in_pieces}
+use Rattle.volume_model.specs.Plan.{Plan, IsCertified, has_member, is_named, parent_of}
 use Rattle.volume_model.specs.Message.{Label, Place, Message, place_in}
-use Rattle.volume_model.specs.Message.Message.{View, StepTo, Fence, Report, Install, Write, Gossip, Ack, CopyAsk, CopyReport, PageAsk, Page}
+use Rattle.volume_model.specs.Message.Message.{View, StepTo, Fence, Report, Install, Ack, Page}
 use Rattle.volume_model.specs.Refusal.{refuse_if}
-use Rattle.volume_model.specs.Node.{Node, NodeStep, NodeAnswer, born_node, lineage_epoch, most_records, most_copies, take_record, installed, in_group, reaction, hydrated, restarted, gossip_of, offered}
+use Rattle.volume_model.specs.Node.{Node, NodeStep, NodeAnswer, born_node, reaction, hydrated}
 use Rattle.volume_model.specs.Client.{Client, ClientStep, ClientAnswer, Stage, is_born, label_of, place_of}
 use Rattle.volume_model.specs.Client.Stage.{Unborn, Reading, Installing, Writing}
 use Rattle.volume_model.specs.ClientWriter.{Change, issued, issued_writes, page_asked, record_of, is_last, resent, write_of}
 use Rattle.volume_model.specs.ClientRecovery.{cut_client, cut_step, fences, installs, opened, reported, to_install}
 use Rattle.volume_model.specs.ClientMessages.{is_for, later_group, later_in, later_unjoined, reread_group, taken, viewed, with_places}
-use Rattle.volume_model.specs.World.{AuthorityStep, World, Event, advance_step, advanced, after, after_step, assigned, configuration_of, deliver, groups_joined, grown, if_there, of_authority, of_client, of_node, opening, place_now, places_now, refreshed, run, take}
+use Rattle.volume_model.specs.World.{Authority, AuthorityStep, World, Event, advance_step, advanced, after, after_step, assigned, configuration_of, deliver, groups_joined, grown, if_there, of_authority, of_client, of_node, opening, place_now, places_now, refreshed, run, take}
 use Rattle.volume_model.specs.World.Event.{Assign, Advance, Refresh, Grow, Issue, Take, Cut, Open, Resend, Read, Deliver, Hydrate, Restart, Offer}
+use Rattle.volume_model.specs.Actor.Actor.{TheAuthority}
 use Rattle.volume_model.proofs.Basics.{IsIn-added, IsIn-joined, each_below-from, numbered-in}
+use Rattle.volume_model.proofs.ClientRelations.{issued-ok}
+use Rattle.volume_model.proofs.Frames.{frame}
 use Rattle.volume_model.proofs.Invariant.{HasCut, IsMade}
 use Rattle.volume_model.proofs.Kept.{IsInstall, IsView, IsWhole}
-use Rattle.volume_model.proofs.NodeSteps.{IsGoodStep, delivered_good, hydrated_good, hydrated-ok, offered_good, page_answer-ok, refuse_if-ok, restarted_good, extension-ok}
+use Rattle.volume_model.proofs.NodeSteps.{IsGoodStep, delivered_good, hydrated_good, hydrated-ok, offered_good, refuse_if-ok, restarted_good, extension-ok}
 use Rattle.volume_model.proofs.Pieces.{in_pieces-from}
 use Rattle.volume_model.proofs.Renewed.{IsKeptWorld, renewed, renewed_ready}
 use Rattle.volume_model.proofs.Run.{event_kept, opening_kept}
 use Rattle.volume_model.proofs.Sound.{born_from_cut}
 use Rattle.volume_model.specs.declared.fault.Fault.{Fault}
-use Rattle.volume_model.specs.declared.fault.Fault.TheVariants.{AllGrown, EpochsSpent, NoActor, NoGroup, AheadMember, AlreadyDone, AlreadyWhole, BadPiece, BadTransaction, Full, LimitReached, LsnSpent, NotAddressed, NotInPlan, NotInstalled, NotJoined, NotOpen, NotReady, NotWhole, SeriesSpent, StaleMember, Superseded}
-use Rattle.world.proofs.Waiting.{passed}
-use Rattle.world.proofs.Lost.{Ok-is, Ok-node, IsGood, authority_on, client_on, node_on, ready, there_of}
+use Rattle.volume_model.specs.declared.fault.Fault.TheVariants.{AllGrown, EpochsSpent, NoActor, NoGroup, AlreadyDone, NotAddressed, NotInPlan, NotOpen, NotReady, Superseded}
+use Rattle.world.proofs.Reactions.{Ok-node, Promises, offer_leaves, reaction_leaves, restart_leaves}
+use Rattle.world.proofs.Lost.{Ok-is, IsGood, nodes_by, ready, there_of}
 
 Ok-client : (a b : ClientStep) → ◌≡◌ {A = ClientAnswer} (Ok a) (Ok b) → a ≡ b
 Ok-client a b h = cc
@@ -72,13 +75,8 @@ module _ (plan : Plan) (v : ℕ) where
 
   issued_of : (client : Client) (changes : List Change) (step : ClientStep) → issued plan v client changes ≡ Ok step → StepFences step
   issued_of client changes step h =
-      let h1 = (refuse_if-ok _ NoActor _ step h).1 in
-      let h2 = (refuse_if-ok _ NotOpen _ step h1).1 in
-      let h3 = (refuse_if-ok _ BadTransaction _ step h2).1 in
-      let h4 = (refuse_if-ok _ NotJoined _ step h3).1 in
-      let h5 = (refuse_if-ok _ LsnSpent _ step h4).1 in
-      let h6 = (refuse_if-ok _ LimitReached _ step h5).1 in
-      subst StepFences (Ok-client _ step h6) (writes_of (place_of client.groups) (last_start client.lineage) changes client.log)
+      let (open_now, transaction, is) = issued-ok plan v client changes step h in
+      subst StepFences is (writes_of (place_of client.groups) (last_start client.lineage) changes client.log)
 
   one_of : (m : Message) → IsFenceOf v m → FencesOf v (m ∷ [])
   one_of m h k (inl e) = subst (IsFenceOf v) (sym e) h
@@ -119,43 +117,24 @@ module _ (plan : Plan) (v : ℕ) where
       let h3 = (refuse_if-ok _ NotReady _ step h2).1 in
       subst StepFences (Ok-client _ step h3) (λ m i. absurd i)
 
-  pub taken_of : (client : Client) (message : Message) (step : ClientStep) → taken plan v client message ≡ Ok step → StepFences step
-  taken_of client (View u places) step h =
-      let h1 = (refuse_if-ok _ NotAddressed _ step h).1 in
-      let h2 = (refuse_if-ok _ NotInPlan _ step h1).1 in
-      subst StepFences (Ok-client _ step h2) (viewed_of client places client.stage)
-  taken_of client (Report to l x q) step h =
-      let h1 = (refuse_if-ok _ NotAddressed _ step h).1 in
-      let h2 = (refuse_if-ok _ NoActor _ step h1).1 in
-      subst StepFences (Ok-client _ step h2) (λ m i. absurd i)
-  taken_of client (Ack to l x s) step h =
-      let h1 = (refuse_if-ok _ NotAddressed _ step h).1 in
-      let h2 = (refuse_if-ok _ NoActor _ step h1).1 in
-      subst StepFences (Ok-client _ step h2) (λ m i. absurd i)
-  taken_of client (Page to l x block point bytes) step h =
-      let h1 = (refuse_if-ok _ NotAddressed _ step h).1 in
-      let h2 = (refuse_if-ok _ NoActor _ step h1).1 in
-      subst StepFences (Ok-client _ step h2) (λ m i. absurd i)
-  taken_of client m step h = cc
+  -- who takes a message makes no Fence of another volume epoch, and has taken a View if it makes a message
+  abbrev Takes : Message → ClientStep → Type 0
+  Takes message step = StepFences step × ((m : Message) → IsIn m step.made → (places : List Place) × (message ≡ View v places))
 
-  -- who takes a message and makes a Fence has taken a View
-  pub fence_from_view : (client : Client) (message : Message) (step : ClientStep) → taken plan v client message ≡ Ok step → (m : Message) → IsIn m step.made → (places : List Place) × (message ≡ View v places)
-  fence_from_view client (View u places) step h m i =
+  silent : (message : Message) (made step : ClientStep) → made.made ≡ [] → ◌≡◌ {A = ClientAnswer} (Ok made) (Ok step) → Takes message step
+  silent message made step none h =
+      let nothing : (m : Message) → IsIn m made.made → ⊥ = λ m i. subst (λ (ms : List Message). IsIn m ms) none i in
+      subst (Takes message) (Ok-client made step h) (λ m i. absurd (nothing m i), λ m i. absurd (nothing m i))
+
+  taken_of : (client : Client) (message : Message) (step : ClientStep) → taken plan v client message ≡ Ok step → Takes message step
+  taken_of client (View u places) step h =
       let (a, h1) = refuse_if-ok (not (is_for v plan.groups (View u places))) NotAddressed _ step h in
-      (places, ap (λ w. View w places) (eqb-true u v (not-false _ a)))
-  fence_from_view client (Report to l x q) step h m i =
-      let h1 = (refuse_if-ok _ NotAddressed _ step h).1 in
-      let h2 = (refuse_if-ok _ NoActor _ step h1).1 in
-      absurd (subst (λ (s : ClientStep). IsIn m s.made) (sym (Ok-client _ step h2)) i)
-  fence_from_view client (Ack to l x s) step h m i =
-      let h1 = (refuse_if-ok _ NotAddressed _ step h).1 in
-      let h2 = (refuse_if-ok _ NoActor _ step h1).1 in
-      absurd (subst (λ (s : ClientStep). IsIn m s.made) (sym (Ok-client _ step h2)) i)
-  fence_from_view client (Page to l x block point bytes) step h m i =
-      let h1 = (refuse_if-ok _ NotAddressed _ step h).1 in
-      let h2 = (refuse_if-ok _ NoActor _ step h1).1 in
-      absurd (subst (λ (s : ClientStep). IsIn m s.made) (sym (Ok-client _ step h2)) i)
-  fence_from_view client e step h m i = cc
+      let h2 = (refuse_if-ok _ NotInPlan _ step h1).1 in
+      (subst StepFences (Ok-client _ step h2) (viewed_of client places client.stage), λ m i. (places, ap (λ w. View w places) (eqb-true u v (not-false _ a))))
+  taken_of client (Report to l x q) step h = silent (Report to l x q) _ step refl (refuse_if-ok _ NoActor _ step (refuse_if-ok _ NotAddressed _ step h).1).1
+  taken_of client (Ack to l x s) step h = silent (Ack to l x s) _ step refl (refuse_if-ok _ NoActor _ step (refuse_if-ok _ NotAddressed _ step h).1).1
+  taken_of client (Page to l x block point bytes) step h = silent (Page to l x block point bytes) _ step refl (refuse_if-ok _ NoActor _ step (refuse_if-ok _ NotAddressed _ step h).1).1
+  taken_of client m step h = cc
 
 -- ---- in every run
 
@@ -177,63 +156,27 @@ module _ (plan : Plan) (certified : IsCertified plan) (world : World) (known : I
     abbrev IsKnown : NodeStep → Type 0
     IsKnown step = step.node.volume ≤ last
 
-    record_known : (l : Label) (r : Redo) (step : NodeStep) → take_record group x node l r ≡ Ok step → IsKnown step
-    record_known l r step h =
-        let h1 = passed node l _ step h in
-        let (a, h2) = refuse_if-ok (not (lineage_epoch node == l.volume)) NotInstalled _ step h1 in
-        let (b, h3) = refuse_if-ok (not (holds_record r node.contents.records) && nat_le most_records (length node.contents.records)) Full _ step h2 in
-        subst IsKnown (Ok-node _ step h3) (volumes.nodes group x)
+    same_known : (step : NodeStep) → step.node.volume ≡ node.volume → IsKnown step
+    same_known step same = let old : node.volume ≤ last = volumes.nodes group x in omega (arith, same, old)
 
-    installed_volume : (l : Label) (piece : Piece) (c : Contents) → (installed group x node l piece c).node.volume ≡ l.volume
-    unfolding installed
-    installed_volume l piece c =
-        elim (cases_Bool (lineage_epoch node == l.volume)) [
-          | inl e ↦ rw e refl
-          | inr e ↦ elim (cases_Bool (is_complete (with_install node.install l.volume piece c))) [
-            | inl f ↦ rw (e, f) refl
-            | inr f ↦ rw (e, f) refl
-          ]
-        ]
-
-    reaction_known : (m : Message) → IsMade world m → (step : NodeStep) → reaction plan group x node m ≡ Ok step → IsKnown step
-    reaction_known (Fence to l) made step h =
-        let (a, h1) = refuse_if-ok (not (to == group)) NotAddressed _ step h in
-        subst IsKnown (Ok-node _ step (passed node l _ step h1)) (volumes.fences to l made)
-    reaction_known (Install to l piece c) made step h =
-        let (a, h1) = refuse_if-ok (not (to == group && in_group group c)) NotAddressed _ step h in
-        let h2 = passed node l _ step h1 in
-        let (b, h3) = refuse_if-ok (nat_lt most_pieces piece.of) Full _ step h2 in
-        let (d, h4) = refuse_if-ok (is_bad_piece node.install l.volume piece c) BadPiece _ step h3 in
+    -- the volume epoch that a message promises is known
+    promised_known : (m : Message) → IsMade world m → (volume : ℕ) → Promises m volume → volume ≤ last
+    promised_known (Fence to l) made volume is =
+        let promised : volume ≡ l.volume = is in
+        let below : l.volume ≤ last = volumes.fences to l made in
+        omega arith
+    promised_known (Install to l piece c) made volume is =
+        let promised : volume ≡ l.volume = is in
         let install : IsInstall world to l piece c = known.kept.messages (Install to l piece c) made in
         let below : l.volume ≤ last = cut_known l.volume install.cut in
-        let same : (installed group x node l piece c).node.volume ≡ l.volume = installed_volume l piece c in
-        subst IsKnown (Ok-node _ step h4) (omega arith)
-    reaction_known (Write to l r) made step h = record_known l r step (refuse_if-ok (not (to == group && r.group == group)) NotAddressed _ step h).1
-    reaction_known (Gossip to l r) made step h = record_known l r step (refuse_if-ok (not (to == group && r.group == group)) NotAddressed _ step h).1
-    reaction_known (StepTo to place) made step h =
-        let (a, h1) = refuse_if-ok (not (to == group)) NotAddressed _ step h in
-        let (b, h2) = refuse_if-ok (nat_le place.epoch node.place.epoch) StaleMember _ step h1 in
-        let (c, h3) = refuse_if-ok (not (is_configuration plan group place.configuration place.epoch)) NotInPlan _ step h2 in
-        subst IsKnown (Ok-node _ step h3) (volumes.nodes group x)
-    reaction_known (CopyAsk to epoch) made step h =
-        let (a, h1) = refuse_if-ok (not (to == group)) NotAddressed _ step h in
-        let (b, h2) = refuse_if-ok (nat_lt epoch node.place.epoch) StaleMember _ step h1 in
-        let (c, h3) = refuse_if-ok (nat_lt node.place.epoch epoch) AheadMember _ step h2 in
-        let (d, h4) = refuse_if-ok (not node.whole) NotWhole _ step h3 in
-        let (f, h5) = refuse_if-ok (nat_le most_copies node.copied) SeriesSpent _ step h4 in
-        subst IsKnown (Ok-node _ step h5) (volumes.nodes group x)
-    reaction_known (CopyReport to epoch sender s piece c) made step h =
-        let (a, h1) = refuse_if-ok (not (to == group && in_group group c && nat_lt sender 64)) NotAddressed _ step h in
-        let (w, h2) = refuse_if-ok node.whole AlreadyWhole _ step h1 in
-        let (b, h3) = refuse_if-ok (nat_lt epoch node.place.epoch) StaleMember _ step h2 in
-        let (d, h4) = refuse_if-ok (nat_lt node.place.epoch epoch) AheadMember _ step h3 in
-        let (f, h5) = refuse_if-ok (is_bad_piece (pieces_from node.copies sender) s piece c) BadPiece _ step h4 in
-        subst IsKnown (Ok-node _ step h5) (volumes.nodes group x)
-    reaction_known (PageAsk to l block point) made step h =
-        let (a, h1) = refuse_if-ok (not (to == group)) NotAddressed _ step h in
-        let (v, d, is) = page_answer-ok plan group x node l block point step (passed node l _ step h1) in
-        subst IsKnown (sym is) (volumes.nodes group x)
-    reaction_known m made step h = cc
+        omega arith
+    promised_known m made volume none = absurd none
+
+    reaction_known : (m : Message) → IsMade world m → (step : NodeStep) → reaction plan group x node m ≡ Ok step → IsKnown step
+    reaction_known m made step h = elim (reaction_leaves plan group x node m step h).1 [
+      | inl same ↦ same_known step same
+      | inr promised ↦ promised_known m made step.node.volume promised
+    ]
 
     deliver_known : (number : ℕ) (step : NodeStep) → deliver plan group x node (numbered world.messages number) ≡ Ok step → IsKnown step
     deliver_known number step h = go (numbered world.messages number) refl h
@@ -253,38 +196,17 @@ module _ (plan : Plan) (certified : IsCertified plan) (world : World) (known : I
         let old : node.volume ≤ last = volumes.nodes group x in
         omega arith
 
-    restart_known : (step : NodeStep) → ◌≡◌ {A = NodeAnswer} (Ok (record { made = []; node = restarted node })) (Ok step) → IsKnown step
-    restart_known step h = subst IsKnown (Ok-node _ step h) (volumes.nodes group x)
-
-    offer_known : (lsn : ℕ) (step : NodeStep) → offered group node lsn ≡ Ok step → IsKnown step
-    offer_known lsn step h =
-        let (a, h1) = refuse_if-ok (not node.whole) NotWhole _ step h in
-        let (b, h2) = refuse_if-ok (not (node.volume == lineage_epoch node)) NotInstalled _ step h1 in
-        go (record_at node.contents.records lsn) h2
-      where
-        go : (found : Option Redo) → gossip_of group node found ≡ Ok step → IsKnown step
-        go None h = cc
-        go (Some r) h = subst IsKnown (Ok-node _ step h) (volumes.nodes group x)
-
   abbrev Known : ℕ → ℕ → Node → Type 0
   Known g y node = node.volume ≤ last
 
   -- no node promises a volume epoch above the last one
   nodes_known : (event : Event) (g y : ℕ) → ((after plan world event).nodes g y).volume ≤ last
-  nodes_known Assign = authority_on plan certified world known Known volumes.nodes (assigned plan world.authority)
-  nodes_known (Advance group c) = authority_on plan certified world known Known volumes.nodes (advanced plan world.authority group c)
-  nodes_known (Refresh volume) = authority_on plan certified world known Known volumes.nodes (refreshed plan world.authority volume)
-  nodes_known Grow = authority_on plan certified world known Known volumes.nodes (grown plan world.authority)
-  nodes_known (Issue v changes) = client_on plan certified world known Known volumes.nodes v _
-  nodes_known (Take v number) = client_on plan certified world known Known volumes.nodes v _
-  nodes_known (Cut v) = client_on plan certified world known Known volumes.nodes v _
-  nodes_known (Open v) = client_on plan certified world known Known volumes.nodes v _
-  nodes_known (Resend v lsn) = client_on plan certified world known Known volumes.nodes v _
-  nodes_known (Read v group block) = client_on plan certified world known Known volumes.nodes v _
-  nodes_known (Deliver group x number) = node_on plan certified world known Known volumes.nodes _ group x _ (λ there named step h. deliver_known group x number step h)
-  nodes_known (Hydrate group x) = node_on plan certified world known Known volumes.nodes _ group x _ (λ there named step h. hydrate_known group x there step h)
-  nodes_known (Restart group x) = node_on plan certified world known Known volumes.nodes _ group x _ (λ there named step h. restart_known group x step h)
-  nodes_known (Offer group x lsn) = node_on plan certified world known Known volumes.nodes _ group x _ (λ there named step h. offer_known group x lsn step h)
+  nodes_known =
+      nodes_by plan certified world known Known volumes.nodes
+      (λ g x there number step h. deliver_known g x number step h)
+      (λ g x there named step h. hydrate_known g x there step h)
+      (λ g x there step h. same_known g x step (restart_leaves plan g x (world.nodes g x) step h).1)
+      (λ g x there lsn step h. same_known g x step (offer_leaves plan g x (world.nodes g x) lsn step h).2)
 
   -- nor does a Fence name one
   abbrev FencesKnown : World → Type 0
@@ -323,10 +245,11 @@ module _ (plan : Plan) (certified : IsCertified plan) (world : World) (known : I
     take_few : (found : Option Message) → ((m : Message) → found ≡ Some m → IsMade world m) → (step : ClientStep) → take plan v (world.clients v) found ≡ Ok step → (to : ℕ) (l : Label) → IsIn (Fence to l) step.made → l.volume ≤ last
     take_few None made step h to l i = cc
     take_few (Some m) made step h to l i =
-        let (places, is) = fence_from_view plan v (world.clients v) m step h (Fence to l) i in
+        let (fences, from) = taken_of plan v (world.clients v) m step h in
+        let (places, is) = from (Fence to l) i in
         let view : IsView plan world v places = known.kept.messages (View v places) (subst (IsMade world) is (made m refl)) in
         let below : v ≤ last = view.known in
-        few step below (taken_of plan v (world.clients v) m step h) to l i
+        few step below fences to l i
 
   one_none : (m : Message) → ((to : ℕ) (l : Label) → Fence to l ≡ m → ⊥) → (to : ℕ) (l : Label) → IsIn (Fence to l) (m ∷ []) → ⊥
   one_none m apart to l (inl e) = apart to l e
@@ -363,14 +286,6 @@ module _ (plan : Plan) (certified : IsCertified plan) (world : World) (known : I
   last_authority (Err fault) h = omega arith
   last_authority (Ok s) h = h s refl
 
-  last_client : (v : ℕ) (answer : ClientAnswer) → last ≤ (after_step world (of_client world v answer)).authority.last_volume
-  last_client v (Err fault) = omega arith
-  last_client v (Ok s) = omega arith
-
-  last_node : (group x : ℕ) (answer : NodeAnswer) → last ≤ (after_step world (of_node world group x answer)).authority.last_volume
-  last_node group x (Err fault) = omega arith
-  last_node group x (Ok s) = omega arith
-
   last_grows : (event : Event) → last ≤ (after plan world event).authority.last_volume
   last_grows Assign = last_authority (assigned plan world.authority) (λ s h.
       let is : suc last ≡ s.authority.last_volume = ap (λ (z : AuthorityStep). z.authority.last_volume) (Ok-is _ s (refuse_if-ok (nat_le 4294967295 world.authority.last_volume) EpochsSpent _ s h).1) in omega arith)
@@ -382,16 +297,7 @@ module _ (plan : Plan) (certified : IsCertified plan) (world : World) (known : I
       let is : last ≡ s.authority.last_volume = ap (λ (z : AuthorityStep). z.authority.last_volume) (Ok-is _ s (refuse_if-ok (not (volume == world.authority.last_volume)) Superseded _ s h).1) in omega arith)
   last_grows Grow = last_authority (grown plan world.authority) (λ s h.
       let is : last ≡ s.authority.last_volume = ap (λ (z : AuthorityStep). z.authority.last_volume) (Ok-is _ s (refuse_if-ok (not (nat_lt (groups_joined world.authority) plan.groups)) AllGrown _ s h).1) in omega arith)
-  last_grows (Issue v changes) = last_client v _
-  last_grows (Take v number) = last_client v _
-  last_grows (Cut v) = last_client v _
-  last_grows (Open v) = last_client v _
-  last_grows (Resend v lsn) = last_client v _
-  last_grows (Read v group block) = last_client v _
-  last_grows (Deliver group x number) = last_node group x _
-  last_grows (Hydrate group x) = last_node group x _
-  last_grows (Restart group x) = last_node group x _
-  last_grows (Offer group x lsn) = last_node group x _
+  last_grows event = let same : last ≡ (after plan world event).authority.last_volume = ap (λ (a : Authority). a.last_volume) (frame plan world event TheAuthority refl) in omega arith
 
   volumes_on : (event : Event) → VolumesKnown (after plan world event)
   volumes_on event =

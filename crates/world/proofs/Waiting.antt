@@ -1,124 +1,29 @@
 -- A group whose last advance waited can be read.
-use Rattle.std.proofs.Common.{◌≡◌, ℕ, zero, suc, ◌<◌, Bool, true, false, not, ◌&&◌, ◌==◌, nat_lt, nat_le, List, [], ◌∷◌, ◌++◌, Option, Some, None, Result, Ok, Err, length, replicate, refl, sym, ap, ◌∙◌, subst, inl, inr, arith}
+use Rattle.std.proofs.Common.{◌≡◌, ℕ, zero, suc, ◌<◌, Bool, true, false, not, ◌&&◌, ◌==◌, nat_lt, nat_le, List, [], ◌∷◌, ◌++◌, Result, Ok, Err, length, replicate, refl, sym, ap, ◌∙◌, subst, arith}
 use Rattle.std.specs.Prelude.{slice_index_or, slice_set, is_ok, if◌then◌else◌}
-use Rattle.std.proofs.lemmas.Bool.{cases_Bool, eqb-false, eqb-true, ltb-true, not-false}
+use Rattle.std.proofs.lemmas.Bool.{eqb-false, eqb-true, ltb-true, not-false}
 use Rattle.volume_model.specs.Lists.{numbered}
-use Rattle.volume_model.specs.Redo.{Redo, holds_record, record_at}
-use Rattle.volume_model.specs.Lineage.{Contents}
-use Rattle.volume_model.specs.Pieces.{Piece, most_pieces, is_bad_piece, is_complete, with_install, pieces_from}
 use Rattle.volume_model.specs.Formula.{sat}
-use Rattle.volume_model.specs.Plan.{Plan, has_member, is_configuration, is_named, parent_of}
-use Rattle.volume_model.specs.Message.{Label, Message}
-use Rattle.volume_model.specs.Message.Message.{StepTo, Fence, Install, Write, Gossip, CopyAsk, CopyReport, PageAsk}
+use Rattle.volume_model.specs.Plan.{Plan, has_member, is_named, parent_of}
 use Rattle.volume_model.specs.Refusal.{refuse_if}
-use Rattle.volume_model.specs.Node.{Node, NodeStep, NodeAnswer, lineage_epoch, label_checks, most_records, most_copies, take_record, installed, in_group, reaction, hydrated, restarted, gossip_of, offered}
+use Rattle.volume_model.specs.Node.{Node, NodeStep, NodeAnswer, hydrated}
 use Rattle.volume_model.specs.Client.{ClientAnswer}
-use Rattle.volume_model.specs.World.{AuthorityStep, World, Event, advance_step, advanced, after, after_step, assigned, configuration_of, deliver, groups_joined, grown, if_there, of_authority, of_client, of_node, opening, refreshed, run}
+use Rattle.volume_model.specs.World.{AuthorityStep, World, Event, advance_step, advanced, after, after_step, assigned, configuration_of, groups_joined, grown, if_there, of_authority, of_client, of_node, opening, refreshed, run}
 use Rattle.volume_model.specs.World.Event.{Assign, Advance, Refresh, Grow, Issue, Take, Cut, Open, Resend, Read, Deliver, Hydrate, Restart, Offer}
 use Rattle.volume_model.proofs.Basics.{put_at-all}
 use Rattle.volume_model.proofs.FormulaLaws.{sat_more}
-use Rattle.volume_model.proofs.NodeSteps.{refuse_if-ok, page_answer-ok, hydrated-ok}
+use Rattle.volume_model.proofs.NodeSteps.{refuse_if-ok, hydrated-ok}
 use Rattle.volume_model.specs.declared.fault.Fault.{Fault}
-use Rattle.volume_model.specs.declared.fault.Fault.TheVariants.{AllGrown, EpochsSpent, NoActor, NoGroup, AheadMember, AlreadyWhole, BadPiece, Full, NotAddressed, NotInPlan, NotInstalled, NotWhole, SeriesSpent, StaleMember, StaleVolume, Superseded}
+use Rattle.volume_model.specs.declared.fault.Fault.TheVariants.{AllGrown, EpochsSpent, NoActor, NoGroup, NotInPlan, Superseded}
+use Rattle.world.proofs.Reactions.{deliver_leaves, offer_leaves, restart_leaves}
 use Rattle.world.specs.Waiting.{CanBeRead, WaitingKeepsReaders, last_advance_waited, waited_after, whole_in}
-
-pub Ok-node : (a b : NodeStep) → ◌≡◌ {A = NodeAnswer} (Ok a) (Ok b) → a ≡ b
-Ok-node a b h = cc
-
--- a label that passes its tests leaves the rest
-pub passed : (node : Node) (l : Label) (rest : NodeAnswer) (step : NodeStep) → label_checks node l rest ≡ Ok step → rest ≡ Ok step
-passed node l rest step h =
-    let (a, h1) = refuse_if-ok (nat_lt l.member node.place.epoch) StaleMember _ step h in
-    let (b, h2) = refuse_if-ok (nat_lt node.place.epoch l.member) AheadMember _ step h1 in
-    let (c, h3) = refuse_if-ok (not node.whole) NotWhole _ step h2 in
-    let (d, h4) = refuse_if-ok (nat_lt l.volume node.volume) StaleVolume _ step h3 in
-    h4
 
 -- ---- a whole node stays whole
 
-module _ (plan : Plan) (group x : ℕ) (node : Node) where
-  abbrev StaysWhole : NodeStep → Type 0
-  StaysWhole step = node.whole ≡ true → step.node.whole ≡ true
-
-  abbrev pub IsWholeAsBefore : NodeStep → Type 0
-  IsWholeAsBefore step = step.node.whole ≡ node.whole
-
-  record_whole : (l : Label) (r : Redo) (step : NodeStep) → take_record group x node l r ≡ Ok step → IsWholeAsBefore step
-  record_whole l r step h =
-      let h1 = passed node l _ step h in
-      let (a, h2) = refuse_if-ok (not (lineage_epoch node == l.volume)) NotInstalled _ step h1 in
-      let (b, h3) = refuse_if-ok (not (holds_record r node.contents.records) && nat_le most_records (length node.contents.records)) Full _ step h2 in
-      subst IsWholeAsBefore (Ok-node _ step h3) refl
-
-  installed_whole : (l : Label) (piece : Piece) (c : Contents) → (installed group x node l piece c).node.whole ≡ node.whole
-  unfolding installed
-  installed_whole l piece c =
-      elim (cases_Bool (lineage_epoch node == l.volume)) [
-        | inl e ↦ rw e refl
-        | inr e ↦ elim (cases_Bool (is_complete (with_install node.install l.volume piece c))) [
-          | inl f ↦ rw (e, f) refl
-          | inr f ↦ rw (e, f) refl
-        ]
-      ]
-
-  reaction_whole : (m : Message) (step : NodeStep) → reaction plan group x node m ≡ Ok step → IsWholeAsBefore step
-  reaction_whole (Fence to l) step h =
-      let (a, h1) = refuse_if-ok (not (to == group)) NotAddressed _ step h in
-      subst IsWholeAsBefore (Ok-node _ step (passed node l _ step h1)) refl
-  reaction_whole (Install to l piece c) step h =
-      let (a, h1) = refuse_if-ok (not (to == group && in_group group c)) NotAddressed _ step h in
-      let h2 = passed node l _ step h1 in
-      let (b, h3) = refuse_if-ok (nat_lt most_pieces piece.of) Full _ step h2 in
-      let (d, h4) = refuse_if-ok (is_bad_piece node.install l.volume piece c) BadPiece _ step h3 in
-      subst IsWholeAsBefore (Ok-node _ step h4) (installed_whole l piece c)
-  reaction_whole (Write to l r) step h = record_whole l r step (refuse_if-ok (not (to == group && r.group == group)) NotAddressed _ step h).1
-  reaction_whole (Gossip to l r) step h = record_whole l r step (refuse_if-ok (not (to == group && r.group == group)) NotAddressed _ step h).1
-  reaction_whole (StepTo to place) step h =
-      let (a, h1) = refuse_if-ok (not (to == group)) NotAddressed _ step h in
-      let (b, h2) = refuse_if-ok (nat_le place.epoch node.place.epoch) StaleMember _ step h1 in
-      let (c, h3) = refuse_if-ok (not (is_configuration plan group place.configuration place.epoch)) NotInPlan _ step h2 in
-      subst IsWholeAsBefore (Ok-node _ step h3) refl
-  reaction_whole (CopyAsk to epoch) step h =
-      let (a, h1) = refuse_if-ok (not (to == group)) NotAddressed _ step h in
-      let (b, h2) = refuse_if-ok (nat_lt epoch node.place.epoch) StaleMember _ step h1 in
-      let (c, h3) = refuse_if-ok (nat_lt node.place.epoch epoch) AheadMember _ step h2 in
-      let (d, h4) = refuse_if-ok (not node.whole) NotWhole _ step h3 in
-      let (f, h5) = refuse_if-ok (nat_le most_copies node.copied) SeriesSpent _ step h4 in
-      subst IsWholeAsBefore (Ok-node _ step h5) refl
-  reaction_whole (CopyReport to epoch sender s piece c) step h =
-      let (a, h1) = refuse_if-ok (not (to == group && in_group group c && nat_lt sender 64)) NotAddressed _ step h in
-      let (w, h2) = refuse_if-ok node.whole AlreadyWhole _ step h1 in
-      let (b, h3) = refuse_if-ok (nat_lt epoch node.place.epoch) StaleMember _ step h2 in
-      let (d, h4) = refuse_if-ok (nat_lt node.place.epoch epoch) AheadMember _ step h3 in
-      let (f, h5) = refuse_if-ok (is_bad_piece (pieces_from node.copies sender) s piece c) BadPiece _ step h4 in
-      subst IsWholeAsBefore (Ok-node _ step h5) refl
-  reaction_whole (PageAsk to l block point) step h =
-      let (a, h1) = refuse_if-ok (not (to == group)) NotAddressed _ step h in
-      let (v, d, is) = page_answer-ok plan group x node l block point step (passed node l _ step h1) in
-      subst IsWholeAsBefore (sym is) refl
-  reaction_whole m step h = cc
-
-  pub deliver_whole : (found : Option Message) (step : NodeStep) → deliver plan group x node found ≡ Ok step → IsWholeAsBefore step
-  deliver_whole None step h = cc
-  deliver_whole (Some m) step h = reaction_whole m step h
-
-  hydrate_whole : (step : NodeStep) → hydrated plan group x node ≡ Ok step → StaysWhole step
-  hydrate_whole step h =
-      let (w, own, reads, is) = hydrated-ok plan group x node step h in
-      subst StaysWhole (sym is) (λ k. refl)
-
-  pub restart_whole : (step : NodeStep) → ◌≡◌ {A = NodeAnswer} (Ok (record { made = []; node = restarted node })) (Ok step) → IsWholeAsBefore step
-  restart_whole step h = subst IsWholeAsBefore (Ok-node _ step h) refl
-
-  pub offer_whole : (lsn : ℕ) (step : NodeStep) → offered group node lsn ≡ Ok step → IsWholeAsBefore step
-  offer_whole lsn step h =
-      let (a, h1) = refuse_if-ok (not node.whole) NotWhole _ step h in
-      let (b, h2) = refuse_if-ok (not (node.volume == lineage_epoch node)) NotInstalled _ step h1 in
-      go (record_at node.contents.records lsn) h2
-    where
-      go : (found : Option Redo) → gossip_of group node found ≡ Ok step → IsWholeAsBefore step
-      go None h = cc
-      go (Some r) h = subst IsWholeAsBefore (Ok-node _ step h) refl
+hydrate_whole : (plan : Plan) (group x : ℕ) (node : Node) (step : NodeStep) → hydrated plan group x node ≡ Ok step → node.whole ≡ true → step.node.whole ≡ true
+hydrate_whole plan group x node step h w =
+    let (un, own, reads, is) = hydrated-ok plan group x node step h in
+    ap (λ (s : NodeStep). s.node.whole) is
 
 -- ---- an authority's configurations
 
@@ -241,10 +146,10 @@ module _ (plan : Plan) (group : ℕ) (world : World) where
   event_keeps (Open v) before h waited = by_a_client v _ (h waited)
   event_keeps (Resend v lsn) before h waited = by_a_client v _ (h waited)
   event_keeps (Read v g block) before h waited = by_a_client v _ (h waited)
-  event_keeps (Deliver g x number) before h waited = by_a_node g x _ (λ step e w. deliver_whole plan g x (world.nodes g x) (numbered world.messages number) step e ∙ w) (h waited)
+  event_keeps (Deliver g x number) before h waited = by_a_node g x _ (λ step e w. (deliver_leaves plan g x (world.nodes g x) (numbered world.messages number) step e).whole ∙ w) (h waited)
   event_keeps (Hydrate g x) before h waited = by_a_node g x _ (hydrate_whole plan g x (world.nodes g x)) (h waited)
-  event_keeps (Restart g x) before h waited = by_a_node g x _ (λ step e w. restart_whole plan g x (world.nodes g x) step e ∙ w) (h waited)
-  event_keeps (Offer g x lsn) before h waited = by_a_node g x _ (λ step e w. offer_whole plan g x (world.nodes g x) lsn step e ∙ w) (h waited)
+  event_keeps (Restart g x) before h waited = by_a_node g x _ (λ step e w. (restart_leaves plan g x (world.nodes g x) step e).0.whole ∙ w) (h waited)
+  event_keeps (Offer g x lsn) before h waited = by_a_node g x _ (λ step e w. (offer_leaves plan g x (world.nodes g x) lsn step e).1.whole ∙ w) (h waited)
 
 -- ---- runs
 
