@@ -7,11 +7,6 @@ module _ {A B : Type 0} where
   all_map f P (x ∷ xs) all zero d lt = all zero x (omega arith)
   all_map f P (x ∷ xs) all (suc k) d lt = all_map f P xs (λ n y l. all (suc n) y (omega arith)) k d (omega arith)
 
-  pub all_unmap : (f : A → B) (P : B → Type 0) (xs : List A) → All P (map f xs) → All (λ x. P (f x)) xs
-  all_unmap f P [] all k d lt = absurd (omega arith)
-  all_unmap f P (x ∷ xs) all zero d lt = all zero (f x) (omega arith)
-  all_unmap f P (x ∷ xs) all (suc k) d lt = all_unmap f P xs (λ n y l. all (suc n) y (omega arith)) k d (omega arith)
-
 module _ {A : Type 0} where
   pub all_push : (P : A → Type 0) (xs : List A) (x : A) → All P xs → P x → All P (xs ++ x ∷ [])
   all_push P [] x all here zero d lt = here

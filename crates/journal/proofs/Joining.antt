@@ -1,15 +1,14 @@
 -- How many groups have joined after an event.
-use Rattle.std.proofs.Common.{◌≡◌, ℕ, ◌+◌, List, [], ◌∷◌, ◌++◌, length, length-append, Some, Result, Ok, Err, refl, sym, ap, ◌∙◌, arith}
-use Rattle.std.specs.Prelude.{slice_set}
+use Rattle.std.proofs.Common.{◌≡◌, ℕ, ◌+◌, List, [], ◌∷◌, length-append, Some, Result, Ok, Err, refl, sym, ap, ◌∙◌}
 use Rattle.volume_model.specs.declared.fault.Fault.{Fault}
 use Rattle.volume_model.specs.declared.fault.Fault.TheVariants.{AllGrown, EpochsSpent, NoGroup, NotInPlan, Superseded}
 use Rattle.volume_model.specs.Plan.{Plan}
 use Rattle.volume_model.specs.Message.{Message}
-use Rattle.volume_model.specs.Node.{NodeAnswer}
-use Rattle.volume_model.specs.Client.{ClientAnswer}
-use Rattle.volume_model.specs.World.{Authority, AuthorityStep, World, Event, assigned, advanced, refreshed, grown, groups_joined, of_authority, of_client, of_node, step, after, after_step}
-use Rattle.volume_model.specs.World.Event.{Assign, Advance, Refresh, Grow, Issue, Take, Cut, Open, Resend, Read, Deliver, Hydrate, Restart, Offer}
+use Rattle.volume_model.specs.World.{Authority, AuthorityStep, World, Event, assigned, advanced, refreshed, grown, groups_joined, of_authority, step, after, after_step}
+use Rattle.volume_model.specs.World.Event.{Assign, Advance, Refresh, Grow}
 use Rattle.volume_model.specs.StepResults.{makes}
+use Rattle.volume_model.specs.Actor.Actor.{TheAuthority}
+use Rattle.volume_model.proofs.Frames.{frame}
 use Rattle.volume_model.proofs.Groups.{length-slice_set}
 use Rattle.volume_model.proofs.NodeSteps.{refuse_if-ok}
 use Rattle.journal.specs.Joined.{joined_after}
@@ -18,15 +17,6 @@ use Rattle.journal.specs.Joined.{joined_after}
 by_authority : (w : World) (answer : Result AuthorityStep Fault) (ms : List Message) (n : ℕ) → makes (of_authority w answer) ≡ Some ms → ((s : AuthorityStep) → answer ≡ Ok s → groups_joined s.authority ≡ n) → groups_joined (after_step w (of_authority w answer)).authority ≡ n
 by_authority w (Err fault) ms n h good = absurd (cc)
 by_authority w (Ok s) ms n h good = good s refl
-
--- a client and a node leave as many as there were
-by_client : (w : World) (volume : ℕ) (answer : ClientAnswer) → groups_joined (after_step w (of_client w volume answer)).authority ≡ groups_joined w.authority
-by_client w volume (Err fault) = refl
-by_client w volume (Ok s) = refl
-
-by_node : (w : World) (group member : ℕ) (answer : NodeAnswer) → groups_joined (after_step w (of_node w group member answer)).authority ≡ groups_joined w.authority
-by_node w group member (Err fault) = refl
-by_node w group member (Ok s) = refl
 
 step-is : (a b : AuthorityStep) → ◌≡◌ {A = Result AuthorityStep Fault} (Ok a) (Ok b) → a ≡ b
 step-is a b h = cc
@@ -53,13 +43,4 @@ joined_step plan w Assign ms h = by_authority w (assigned plan w.authority) ms (
 joined_step plan w (Advance group c) ms h = by_authority w (advanced plan w.authority group c) ms (groups_joined w.authority) h (λ s. advanced-joined plan w.authority s group c)
 joined_step plan w (Refresh volume) ms h = by_authority w (refreshed plan w.authority volume) ms (groups_joined w.authority) h (λ s. refreshed-joined plan w.authority s volume)
 joined_step plan w Grow ms h = by_authority w (grown plan w.authority) ms (groups_joined w.authority + 1) h (grown-joined plan w.authority)
-joined_step plan w (Issue volume changes) ms h = by_client w volume _
-joined_step plan w (Take volume number) ms h = by_client w volume _
-joined_step plan w (Cut volume) ms h = by_client w volume _
-joined_step plan w (Open volume) ms h = by_client w volume _
-joined_step plan w (Resend volume lsn) ms h = by_client w volume _
-joined_step plan w (Read volume group block) ms h = by_client w volume _
-joined_step plan w (Deliver group member number) ms h = by_node w group member _
-joined_step plan w (Hydrate group member) ms h = by_node w group member _
-joined_step plan w (Restart group member) ms h = by_node w group member _
-joined_step plan w (Offer group member lsn) ms h = by_node w group member _
+joined_step plan w e ms h = ap (λ (a : Authority). groups_joined a) (sym (frame plan w e TheAuthority refl))

@@ -1,5 +1,5 @@
 -- Lists whose elements are seen as others, one by one, as entries are as those of the model.
-use Rattle.std.proofs.Common.{◌≡◌, ℕ, zero, suc, List, [], ◌∷◌, ◌++◌, length, take, map, Some, option_map, refl, sym, ap, ◌∙◌}
+use Rattle.std.proofs.Common.{◌≡◌, ℕ, zero, suc, List, [], ◌∷◌, ◌++◌, length, map, Some, option_map, refl, sym, ap, ◌∙◌}
 use Rattle.std.specs.Prelude.{slice_get}
 use mathlib.Core.List.{IsPrefix}
 
@@ -10,11 +10,6 @@ module _ {A B : Type 0} (f : A → B) where
 
   pub map-prefix : (xs ys : List A) → IsPrefix xs ys → IsPrefix (map f xs) (map f ys)
   map-prefix xs ys p = (map f p.0, sym (map-append xs p.0) ∙ ap (map f) p.1)
-
-  pub map-take : (k : ℕ) (xs : List A) → map f (take k xs) ≡ take k (map f xs)
-  map-take zero xs = refl
-  map-take (suc k) [] = refl
-  map-take (suc k) (x ∷ xs) = ap (λ (l : List B). f x ∷ l) (map-take k xs)
 
   pub map-get : (xs : List A) (k : ℕ) → slice_get (map f xs) k ≡ option_map f (slice_get xs k)
   map-get [] k = refl

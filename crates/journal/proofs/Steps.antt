@@ -1,5 +1,5 @@
 -- Steps that stand in a journal, and the last number of each actor.
-use Rattle.std.proofs.Common.{◌≡◌, ℕ, suc, ◌+◌, ◌<◌, Bool, true, false, List, [], ◌∷◌, ◌++◌, length, take, None, sym, ap, ◌∙◌, subst, length-append, arith, MatchBool}
+use Rattle.std.proofs.Common.{◌≡◌, ℕ, suc, ◌+◌, Bool, true, false, List, [], ◌∷◌, ◌++◌, length, take, None, sym, ap, ◌∙◌, subst, length-append, arith, MatchBool}
 use Rattle.std.specs.Prelude.{if◌then◌else◌}
 use mathlib.Core.List.{IsPrefix}
 use Rattle.volume_model.specs.Lists.{numbered}
@@ -9,7 +9,7 @@ use Rattle.volume_model.specs.Actor.{Actor, actor_of, same_actor}
 use Rattle.volume_model.specs.Journal.{Entry, world_at, last_of, IsRun}
 use Rattle.volume_model.proofs.Fronts.{prefix_get, prefix_self}
 use Rattle.volume_model.proofs.ListFacts.{get_within}
-use Rattle.volume_model.proofs.Worlds.{take_prefix, take_long, get_last, world_at-push, last_of-push, last_covers}
+use Rattle.volume_model.proofs.Worlds.{take_prefix, take_long, get_last, world_at-push, last_of-push}
 use Rattle.volume_model.proofs.FoundMessages as found
 use Rattle.journal.specs.PassSteps.{durable_in, Made, made, Stands, IsElse}
 
@@ -37,10 +37,6 @@ module _ (plan : Plan) where
   -- a message that is not there was made by no step that stands
   pub none_made : (es : List Entry) (number : ℕ) (s : Made) → IsRun plan es → Stands plan es s → numbered (world_at plan es).messages number ≡ None → IsElse number s
   none_made es number s run stands none = found.none_made plan es number s.at s.entry run stands.stands none
-
-  -- a step of an actor that stands is not after its last one
-  pub stands_below : (es : List Entry) (actor : Actor) (s : Made) → Stands plan es s → same_actor (actor_of s.entry.event) actor ≡ true → s.at < last_of actor es
-  stands_below es actor s stands same = let c = last_covers actor 0 0 es s.at s.entry (omega arith) stands.stands same in omega (arith, c)
 
 -- the last numbers after one entry more
 pub newest_push : (actor other : Actor) (es now : List Entry) (e : Entry) (n cell : ℕ) → now ≡ es ++ e ∷ [] → actor ≡ actor_of e.event → cell ≡ length es

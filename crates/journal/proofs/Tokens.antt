@@ -1,5 +1,5 @@
 -- The entries that the journal lends.
-use Rattle.std.proofs.Common.{◌≡◌, ℕ, zero, suc, ◌<◌, ◌++◌, List, [], ◌∷◌, length, get_or, map, Some, refl, sym, ap, ◌∙◌, ⊎_elim, arith}
+use Rattle.std.proofs.Common.{◌≡◌, ℕ, zero, suc, ◌<◌, ◌++◌, List, [], ◌∷◌, length, get_or, Some, refl, sym, ap, arith}
 use Rattle.std.specs.Prelude.{slice_get}
 use Rattle.std.specs.Borrow.{Bor}
 use Rattle.journal.specs.declared.entry.Entry.{Entry}
@@ -12,12 +12,6 @@ shown_push (x ∷ ts) t = ap (λ l. x.now ∷ l) (shown_push ts t)
 pub length-shown : (ts : List (Bor Entry)) → length (shown ts) ≡ length ts
 length-shown [] = refl
 length-shown (x ∷ ts) = ap suc (length-shown ts)
-
-module _ {A : Type 0} where
-  pub get_some : (xs : List A) (k : ℕ) (d : A) → k < length xs → slice_get xs k ≡ Some (get_or xs k d)
-  get_some [] k d lt = absurd (omega arith)
-  get_some (x ∷ xs) zero d lt = refl
-  get_some (x ∷ xs) (suc k) d lt = get_some xs k d (omega arith)
 
 -- the entry at a place
 pub shown_at : (ts : List (Bor Entry)) (k : ℕ) (t : Bor Entry) → k < length ts → t ≡ get_or ts k t → slice_get (shown ts) k ≡ Some t.now
