@@ -37,11 +37,7 @@ client_here actor volume w v now is agree seen = sym (seen ∙ subst (λ (a : Ac
 event_of_client : (volume : ℕ) (asked : ClientAction)
     → actor_of (client_event volume asked) ≡ Actor.Client volume
 event_of_client volume (action.Issue changes) = refl
-event_of_client volume (action.Take message) = refl
-event_of_client volume action.Cut = refl
-event_of_client volume action.Open = refl
-event_of_client volume (action.Resend lsn) = refl
-event_of_client volume (action.Read group block) = refl
+event_of_client volume asked = refl
 
 -- the event of a client's action is that of this client
 pub event_is : (event : Event) (volume own : ℕ) (asked : ClientAction) → client_event own asked ≡ event
@@ -54,24 +50,17 @@ event_is event volume own asked is who =
 -- the durable point that a client's step shows
 client_shows : (volume : ℕ) (asked : ClientAction) (w : World) (now : Client) → w.clients volume ≡ now
     → action_durable asked now ≡ durable_in w (client_event volume asked)
-client_shows volume (action.Issue changes) w now is = refl
 client_shows volume (action.Take message) w now is = ap durable_of (sym is)
-client_shows volume action.Cut w now is = refl
 client_shows volume action.Open w now is = ap durable_of (sym is)
-client_shows volume (action.Resend lsn) w now is = refl
-client_shows volume (action.Read group block) w now is = refl
+client_shows volume asked w now is = refl
 
 -- the step of an action is that of the client's answer
 action_step : (plan : Plan) (w : World) (volume : ℕ) (asked : ClientAction) (found : Option model.Message)
     → IsFound w.messages (client_event volume asked) found
     → step plan w (client_event volume asked)
     ≡ of_client w volume (client_acted found asked plan volume (w.clients volume))
-action_step plan w volume (action.Issue changes) found is = refl
 action_step plan w volume (action.Take message) found is = ap (λ (o : Option model.Message). of_client w volume (take plan volume (w.clients volume) o)) is.1
-action_step plan w volume action.Cut found is = refl
-action_step plan w volume action.Open found is = refl
-action_step plan w volume (action.Resend lsn) found is = refl
-action_step plan w volume (action.Read group block) found is = refl
+action_step plan w volume asked found is = refl
 
 -- a client that was old, of this plan, does what it is asked to, in a world that has it
 module _ (plan own : Plan) (of : own ≡ plan) (w : World) (volume : ℕ) (asked : ClientAction)

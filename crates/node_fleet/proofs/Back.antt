@@ -68,13 +68,6 @@ back_first boxes seats fit slot m has =
     let did : steps_of t.0 ≡ one.0 = search (one) in
     ap lists_of t.1 ∙ one.1 ∙ ap (λ (l : List MailStep). l ∷ []) (sym did ∙ sym (ap seat_steps t.1))
 
--- a seat that fits where a mailbox stands is one of it
-pub seat_there : (boxes : List (Option Mailbox)) (i : ℕ) (m : Mailbox) (id : Option MailboxId) (s : Option MailSeat) → slice_get boxes i ≡ Some (Some m) → slice_get (ids_in boxes) i ≡ Some id → Fits id s → Fits (Some (id_of m)) s
-seat_there boxes i m id s has e fit =
-    let is : Some id ≡ Some (Some (id_of m)) = sym e ∙ id_at boxes i (Some m) has in
-    let same : id ≡ Some (id_of m) = cc in
-    subst (λ (k : Option MailboxId). Fits k s) same fit
-
 pub some_there : {A : Type 0} (xs : List A) (i : ℕ) → i < length xs → (x : A) × (slice_get xs i ≡ Some x)
 some_there [] i lt = absurd (omega arith)
 some_there (x ∷ xs) zero lt = (x, refl)

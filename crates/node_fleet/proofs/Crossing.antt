@@ -48,20 +48,11 @@ plan_sync = search (sendable, crosses, expr.crosses, cert.crosses) depth 60 fits
 pub authority_field : IsSend (Authority.the_field).row
 authority_field = search (parts, plan_send, plan_sync) depth 30
 
-pub authority_send : IsSend Authority.the_row
-authority_send = search (sendable, authority_field) depth 30
-
 pub segment_field : IsSend (Segment.the_field).row
 segment_field = search (parts, plan_send, plan_sync) depth 30
 
-pub segment_send : IsSend Segment.the_row
-segment_send = search (sendable, segment_field) depth 30
-
 pub standings_field : IsSend (GroupStates.the_field).row
 standings_field = search (parts, plan_send, plan_sync) depth 30
-
-pub standings_send : IsSend GroupStates.the_row
-standings_send = search (sendable, standings_field) depth 30
 
 pub writer_field : IsSend (Writer.the_field).row
 writer_field = search (parts, plan_send, plan_sync, standings_field) depth 30
@@ -77,9 +68,6 @@ recovery_send = search (sendable, recovery_field) depth 30
 
 pub client_field : IsSend (Client.the_field).row
 client_field = search (parts, plan_send, plan_sync, standings_field, writer_field, recovery_field, writer_send, recovery_send) depth 30
-
-pub client_send : IsSend Client.the_row
-client_send = search (sendable, client_field) depth 30
 
 module _ (T : RattleType) (g : site.Ghosts T.Denot) (l : ledger.Ghosts T.Denot) where
   authority_actor : IsSend (AuthorityActor.the_row T g l)

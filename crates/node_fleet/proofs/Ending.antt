@@ -1,7 +1,7 @@
 -- Seats of passes that are taken back, the last pass first.
 use Rattle.std.proofs.Common.{◌≡◌, ℕ, zero, suc, List, [], ◌∷◌, ◌++◌, length, map, All, Some, refl, sym, ap, ◌∙◌, subst, append_assoc, arith}
 use Rattle.std.specs.Prelude.{slice_get}
-use Rattle.std.proofs.lemmas.List.{append-nil, length-map, map-append, nil_from_length}
+use Rattle.std.proofs.lemmas.List.{append-nil, length-map, map-append}
 use Rattle.volume_model.specs.Plan.{Plan}
 use Rattle.world.specs.Slots.{slot_of}
 use Rattle.node_fleet.specs.declared.mailbox.Mailbox.{Mailbox}
@@ -28,10 +28,6 @@ module _ {A B : Type 0} (f : A → B) (all rest : List A) (x : A) (split : all �
 
   pub first_back : map f rest ++ f x ∷ [] ≡ map f all
   first_back = one_back [] ∙ append-nil (map f all)
-
--- none is left
-pub all_back : {A B : Type 0} (f : A → B) (rest : List A) (back all : List B) → length rest ≡ 0 → map f rest ++ back ≡ all → back ≡ all
-all_back f rest back all none e = ap (λ l. map f l ++ back) (sym (nil_from_length rest none)) ∙ e
 
 -- the seats of the first pass, as those of all that were taken back
 pub first_mail : (mailboxes : Mailboxes) (seats : MailSeats) → AreSeatsOf mailboxes seats → (slot : ℕ) (m : Mailbox) → Has mailboxes slot m → back_at seats slot ≡ steps_at seats slot ∷ []

@@ -6,7 +6,7 @@ use Rattle.volume_model.specs.Plan.{Plan, is_named}
 use Rattle.volume_model.specs.Refusal.{refuse_if}
 use Rattle.volume_model.specs.StepResults.{refusal}
 use Rattle.volume_model.specs.World.{World, Event, groups_joined, if_there, of_node, step}
-use Rattle.volume_model.specs.World.Event.{Assign, Advance, Refresh, Grow, Issue, Take, Cut, Open, Resend, Read, Deliver, Hydrate, Restart, Offer}
+use Rattle.volume_model.specs.World.Event.{Deliver, Hydrate, Restart, Offer}
 use Rattle.node_fleet.specs.Calls.{IsOfNone}
 
 and-false : (b : Bool) → (b && false) ≡ false
@@ -24,13 +24,4 @@ unnamed_refuses plan w (Deliver g m number) none = not_there plan w (groups_join
 unnamed_refuses plan w (Hydrate g m) none = not_there plan w (groups_joined w.authority) g m _ none
 unnamed_refuses plan w (Restart g m) none = not_there plan w (groups_joined w.authority) g m _ none
 unnamed_refuses plan w (Offer g m lsn) none = not_there plan w (groups_joined w.authority) g m _ none
-unnamed_refuses plan w Assign none = absurd none
-unnamed_refuses plan w (Advance group configuration) none = absurd none
-unnamed_refuses plan w (Refresh volume) none = absurd none
-unnamed_refuses plan w Grow none = absurd none
-unnamed_refuses plan w (Issue volume changes) none = absurd none
-unnamed_refuses plan w (Take volume number) none = absurd none
-unnamed_refuses plan w (Cut volume) none = absurd none
-unnamed_refuses plan w (Open volume) none = absurd none
-unnamed_refuses plan w (Resend volume lsn) none = absurd none
-unnamed_refuses plan w (Read volume group block) none = absurd none
+unnamed_refuses plan w event none = absurd none

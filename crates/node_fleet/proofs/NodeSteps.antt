@@ -1,5 +1,5 @@
 -- The step of a node, in the world.
-use Rattle.std.proofs.Common.{◌≡◌, ◌≢◌, ℕ, ◌<◌, ◌≤◌, not, ◌&&◌, nat_lt, Bool, true, List, [], length, Option, Some, option_map, Result, Ok, Err, refl, sym, ap, ap₂, ◌∙◌, subst, arith}
+use Rattle.std.proofs.Common.{◌≡◌, ◌≢◌, ℕ, ◌<◌, ◌≤◌, not, ◌&&◌, nat_lt, Bool, true, List, length, Option, Some, option_map, Result, Ok, Err, refl, sym, ap, ap₂, ◌∙◌, subst, arith}
 use Rattle.std.proofs.lemmas.Bool.{le-ltb, lt-ltb}
 use Rattle.std.specs.Prelude.{slice_get}
 use Rattle.volume_model.specs.declared.fault.Fault.{Fault}
@@ -10,7 +10,7 @@ use Rattle.volume_model.specs.Judging.{Exact}
 use Rattle.volume_model.specs.Journal.{Entry, world_at}
 use Rattle.volume_model.specs.Lists.{numbered}
 use Rattle.volume_model.specs.Message.{Message}
-use Rattle.volume_model.specs.Node.{Node, NodeAnswer, NodeStep, hydrated, offered, restarted}
+use Rattle.volume_model.specs.Node.{Node, NodeAnswer, NodeStep}
 use Rattle.volume_model.specs.Plan.{Plan, is_named}
 use Rattle.volume_model.specs.Refusal.{refuse_if}
 use Rattle.volume_model.specs.StepResults.{makes, refusal, IsOwn, Refuses}
@@ -27,6 +27,7 @@ use Rattle.segment_core.specs.Segment.{action_of, node_of, IsSameActor, IsSegmen
 use Rattle.wire.specs.declared.message.Message as wire
 use Rattle.wire.specs.Message.{message_of}
 use Rattle.world.specs.Actions.{node_event}
+use Rattle.world.proofs.ActorSteps.{node_step}
 
 -- a node that the plan names, and whose group has joined, isn't refused for that
 there_is : (plan : Plan) (joined g m : ℕ) (answer : NodeAnswer) → nat_lt g joined ≡ true → is_named plan g m ≡ true → if_there plan joined g m answer ≡ answer
@@ -48,9 +49,7 @@ unjoined_delivery plan w g m number h = absent plan w g m (deliver plan g m (w.n
 
 pub unjoined_action : (plan : Plan) (w : World) (g m : ℕ) (what : NodeAction) → groups_joined w.authority ≤ g
     → refusal (step plan w (node_event g m what)) ≡ 82
-unjoined_action plan w g m action.Hydrate h = absent plan w g m (hydrated plan g m (w.nodes g m)) h
-unjoined_action plan w g m action.Restart h = absent plan w g m (Ok (record { made = []; node = restarted (w.nodes g m) })) h
-unjoined_action plan w g m (action.Offer lsn) h = absent plan w g m (offered g (w.nodes g m) lsn) h
+unjoined_action plan w g m what h = ap refusal (node_step plan w g m what) ∙ absent plan w g m (acted what plan g m (w.nodes g m)) h
 
 module _ (plan : Plan) (w : World) (g m : ℕ) (joined : nat_lt g (groups_joined w.authority) ≡ true) (named : is_named plan g m ≡ true) (now : Node) (here : now ≡ w.nodes g m) where
   -- a delivery is the node's own step, of the message that was found
@@ -62,13 +61,9 @@ module _ (plan : Plan) (w : World) (g m : ℕ) (joined : nat_lt g (groups_joined
 
   -- so is what it does of itself
   does : (what : NodeAction) → step plan w (node_event g m what) ≡ of_node w g m (acted what plan g m now)
-  does action.Hydrate =
-      ap (of_node w g m) (there_is plan (groups_joined w.authority) g m (hydrated plan g m (w.nodes g m)) joined named) ∙ ap (λ (n : Node). of_node w g m (hydrated plan g m n)) (sym here)
-  does action.Restart =
-      ap (of_node w g m) (there_is plan (groups_joined w.authority) g m (Ok (record { made = []; node = restarted (w.nodes g m) })) joined named)
-      ∙ ap (λ (n : Node). of_node w g m (Ok (record { made = []; node = restarted n }))) (sym here)
-  does (action.Offer lsn) =
-      ap (of_node w g m) (there_is plan (groups_joined w.authority) g m (offered g (w.nodes g m) lsn) joined named) ∙ ap (λ (n : Node). of_node w g m (offered g n lsn)) (sym here)
+  does what =
+      node_step plan w g m what ∙ ap (of_node w g m) (there_is plan (groups_joined w.authority) g m (acted what plan g m (w.nodes g m)) joined named)
+      ∙ ap (λ (n : Node). of_node w g m (acted what plan g m n)) (sym here)
 
 -- the refusal of a node is the one of the model
 exact : (plan : Plan) (slots cells : ℕ) (es : List Entry) (g m : ℕ) (e : Event) (answer : NodeAnswer) → step plan (world_at plan es) e ≡ of_node (world_at plan es) g m answer → Refuses IsOwn answer
@@ -77,11 +72,6 @@ exact plan slots cells es g m e answer is own NoMemory fails = tt
 exact plan slots cells es g m e answer is own NoSlot fails = absurd (subst (Refuses IsOwn) fails own)
 exact plan slots cells es g m e answer is own JournalFull fails = absurd (subst (Refuses IsOwn) fails own)
 exact plan slots cells es g m e answer is own fault fails = ap refusal (is ∙ ap (of_node (world_at plan es) g m) fails)
-
--- what is refused fails so
-pub failed : (answer : NodeAnswer) (fault : Fault) → answer ≡ Err fault → Fails fault answer
-failed answer NoMemory h = tt
-failed answer fault h = h
 
 -- a node doesn't refuse for lack of a message
 pub not_lost : (answer : NodeAnswer) (fault : Fault) → Refuses IsOwn answer → Fails fault answer → fault ≢ NoMessage

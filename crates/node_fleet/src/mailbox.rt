@@ -162,8 +162,8 @@ impl Mailbox {
         Ok((Mailbox { to, from, seats }, made))
     }
 
-    // Puts a letter at the next place. Blocks while the mailbox is full.
-    fn put<R: Wait>(&self, rt: &R, seat: &mut MailSeat, letter: Letter)
+    /// Puts a letter at the next place. Blocks while the mailbox is full.
+    pub(crate) fn put<R: Wait>(&self, rt: &R, seat: &mut MailSeat, letter: Letter)
         requires { IsSeatOf self.now seat.old }
         ensures same { IsSeatOf self.now seat.new }
         ensures step { AddsPosted (steps_of seat.old) letter (steps_of seat.new) }

@@ -123,13 +123,13 @@ impl Mailboxes {
         Ok((mailboxes, seats))
     }
 
-    /// Posts a message's number to a node. Blocks while the mailbox is full. Allocates nothing.
-    pub fn post<R: Wait>(&self, rt: &R, seats: &mut MailSeats, group: u8, member: u8, message: u64)
+    // Posts a letter to a node. Blocks while the mailbox is full.
+    fn send<R: Wait>(&self, rt: &R, seats: &mut MailSeats, group: u8, member: u8, letter: Letter)
         requires node { has_mailbox self.now group member ≡ true }
         requires seats { AreSeatsOf self.now seats.old }
         ensures same { AreSeatsOf self.now seats.new }
-        ensures step { ChangesAt (slot_of group member) (λ before after. AddsPosted before (Some message) after)
-            seats.old seats.new }
+        ensures step { ChangesAt (slot_of group member) (λ before after. AddsPosted before letter after) seats.old
+            seats.new }
     {
         let slot = slot(group, member);
         let Some(mailbox) = &self.boxes[slot] else {
@@ -138,7 +138,18 @@ impl Mailboxes {
         let Some(seat) = &mut seats.seats[slot] else {
             unreachable!()
         };
-        mailbox.post(rt, seat, message);
+        mailbox.put(rt, seat, letter);
+    }
+
+    /// Posts a message's number to a node. Blocks while the mailbox is full. Allocates nothing.
+    pub fn post<R: Wait>(&self, rt: &R, seats: &mut MailSeats, group: u8, member: u8, message: u64)
+        requires node { has_mailbox self.now group member ≡ true }
+        requires seats { AreSeatsOf self.now seats.old }
+        ensures same { AreSeatsOf self.now seats.new }
+        ensures step { ChangesAt (slot_of group member) (λ before after. AddsPosted before (Some message) after)
+            seats.old seats.new }
+    {
+        self.send(rt, seats, group, member, Some(message));
     }
 
     /// Posts the closing letter to a node. Blocks while the mailbox is full. Allocates nothing.
@@ -149,14 +160,7 @@ impl Mailboxes {
         ensures step { ChangesAt (slot_of group member) (λ before after. AddsPosted before None after) seats.old
             seats.new }
     {
-        let slot = slot(group, member);
-        let Some(mailbox) = &self.boxes[slot] else {
-            unreachable!()
-        };
-        let Some(seat) = &mut seats.seats[slot] else {
-            unreachable!()
-        };
-        mailbox.close(rt, seat);
+        self.send(rt, seats, group, member, None);
     }
 
     /// Takes a node's oldest letter. Blocks while there is none. The letter's place is above all that this caller has

@@ -1,4 +1,4 @@
-use Rattle.std.proofs.Common.{◌≡◌, List, length, sym, ap, ◌∙◌, subst}
+use Rattle.std.proofs.Common.{◌≡◌, List, length, sym, ap, ◌∙◌, subst, rules}
 use Rattle.volume_model.specs.Actor.{Actor}
 use Rattle.volume_model.specs.Journal.{Entry, world_at}
 use Rattle.world.specs.Clients.{client_plan, client_volume, seen_client}
@@ -11,49 +11,8 @@ use Rattle.node_fleet.proofs.Acting.{attempt_state}
 use Rattle.node_fleet.proofs.Exactly.{attempt_exact}
 use Rattle.node_fleet.proofs.client.ClientActor.step.Goals as goal
 
-pub commit_or_note-requires-clause-goes : goal.commit_or_note-requires-clause-goes
-commit_or_note-requires-clause-goes g c =
-    let self = c.args.self.now in
-    let plan = g.L.Site.plan in
-    let client = self.client in
-    let volume = client_volume client in
-    let action = c.in-Client.action in
-    let found = message_found c.args.found in
-    let es = journal_of c.reserve_step.new.log in
-    let w = world_at plan es in
-    let old = seen_client client in
-    let new = seen_client c.try_step-done.new.client in
-    let event = event_of c.args.event in
-    let is = event_is event volume c.in-Client.field-0 action (sym (ap action_event c.in-Client.is) ∙ c.split.ensures)
-    c.requires.who in
-    let here = client_here (marked self.cursor) volume (world_at plan (seen_at self.cursor)) w old self.who c.in_default.ensures.agree self.state in
-    let heard = subst (λ (l : List Entry). IsFound (world_at plan l).messages event found)
-    (sym c.reserve_step.ensures.log) c.requires.found in
-    attempt_makes plan (client_plan client) self.plan w volume action found old new event here is heard c.try_step-done.result c.try_step-done.ensures.done
-
-pub commit_or_note-requires-clause-durable : goal.commit_or_note-requires-clause-durable
-commit_or_note-requires-clause-durable g c =
-    let self = c.args.self.now in
-    let plan = g.L.Site.plan in
-    let client = self.client in
-    let volume = client_volume client in
-    let action = c.in-Client.action in
-    let found = message_found c.args.found in
-    let es = journal_of c.reserve_step.new.log in
-    let w = world_at plan es in
-    let old = seen_client client in
-    let new = seen_client c.try_step-done.new.client in
-    let event = event_of c.args.event in
-    let is = event_is event volume c.in-Client.field-0 action (sym (ap action_event c.in-Client.is) ∙ c.split.ensures)
-    c.requires.who in
-    let here = client_here (marked self.cursor) volume (world_at plan (seen_at self.cursor)) w old self.who c.in_default.ensures.agree self.state in
-    let heard = subst (λ (l : List Entry). IsFound (world_at plan l).messages event found)
-    (sym c.reserve_step.ensures.log) c.requires.found in
-    attempt_durable plan (client_plan client) self.plan w volume action found old new event here is heard
-    c.try_step-done.result c.try_step-done.ensures.done c.shown-durable.result c.shown-durable.ensures
-
-pub commit_or_note-requires-clause-exact : goal.commit_or_note-requires-clause-exact
-commit_or_note-requires-clause-exact g c =
+pub commit_or_note-requires : goal.commit_or_note-requires
+commit_or_note-requires g c =
     let self = c.args.self.now in
     let plan = g.L.Site.plan in
     let client = self.client in
@@ -71,9 +30,17 @@ commit_or_note-requires-clause-exact g c =
     let heard = subst (λ (l : List Entry). IsFound (world_at plan l).messages event found)
     (sym c.reserve_step.ensures.log) c.requires.found in
     let same = refuses_alike plan (client_plan client) self.plan w volume action found old new event here is heard in
-    attempt_exact plan g.L.Site.slots (length g.L.Site.cells) es event ⊥ c.is_full.result
-    (client_acted found action (client_plan client) volume old) (λ h. absurd h) c.is_full.ensures same
-    c.try_step-done.result c.try_step-done.ensures.refused
+    record {
+      who = search rules;
+      ready = search rules;
+      goes = attempt_makes plan (client_plan client) self.plan w volume action found old new event here is heard c.try_step-done.result c.try_step-done.ensures.done;
+      durable = attempt_durable plan (client_plan client) self.plan w volume action found old new event here is heard
+          c.try_step-done.result c.try_step-done.ensures.done c.shown-durable.result c.shown-durable.ensures;
+      cell = search rules;
+      exact = attempt_exact plan g.L.Site.slots (length g.L.Site.cells) es event ⊥ c.is_full.result
+          (client_acted found action (client_plan client) volume old) (λ h. absurd h) c.is_full.ensures same
+          c.try_step-done.result c.try_step-done.ensures.refused;
+    }
 
 pub invariant_of-self-2 : goal.invariant_of-self-2
 invariant_of-self-2 g c =
