@@ -1,7 +1,7 @@
 -- Changes that are read as they come.
 use Rattle.std.proofs.Common.{◌≡◌, ◌∙◌, ap, sym, ℕ, ◌+◌, ◌*◌, ◌≤◌, true, false, List, [], ◌∷◌, ◌++◌, Option, Some, None, All, append_assoc, length, drop, get_or, refl, eqb, arith, length-append, option_map}
 use Rattle.std.specs.Char.{is_ascii_digit}
-use Rattle.std.proofs.lemmas.Bool.{eqb-true, le-leb, ne_eqb}
+use Rattle.std.proofs.lemmas.Bool.{eqb-true, ne_eqb}
 use Rattle.std.proofs.lemmas.List.{append-nil}
 use Rattle.std.proofs.lemmas.List.Elements.{All-append, All-cons, All-weaker}
 use Rattle.std.proofs.lemmas.List.Splits.{slice_split_at, slice_split_none}
@@ -89,11 +89,6 @@ pub none_left : (xs : List ℕ) → eqb (length xs) 0 ≡ true → xs ≡ []
 none_left [] e = refl
 none_left (x ∷ xs) e = absurd (omega (arith, eqb-true (length (x ∷ xs)) 0 e))
 
--- before any change
-pub no_change_yet : (there : Option (List model.Change)) → there ≡ option_map (λ more. [] ++ more) there
-no_change_yet None = refl
-no_change_yet (Some changes) = refl
-
 -- a text begins with the digits of so many bytes, and goes on with this
 pub record AreSpelled (text bytes rest : List ℕ) (count : ℕ) : Type 0 where
   pub word : List ℕ
@@ -131,13 +126,4 @@ spelled_more text bytes items rest more count byte s two is is_more is_items =
       is = s.is ∙ (ap (λ r. s.word ++ r) goes ∙ sym (append_assoc s.word ends more));
       long = omega (arith, length-append s.word ends, s.long);
       all = byte_after s.word bytes (get_or rest 0 0) (get_or rest 1 0) byte s.all is ∙ ap Some (sym is_items);
-    }
-
--- 1 to 64 bytes
-pub spelled_all : (text bytes rest : List ℕ) (count : ℕ) → AreSpelled text bytes rest count → 1 ≤ count → count ≤ 64 → AreBytesAt text bytes rest
-spelled_all text bytes rest count s some few =
-    record {
-      word = s.word;
-      is = s.is;
-      spelled = rw (le-leb 1 (length s.word) (omega (arith, s.long)), le-leb (length s.word) 128 (omega (arith, s.long))) s.all;
     }

@@ -76,17 +76,6 @@ module _ (earlier group member : ℕ) (words second third : List (List ℕ)) (g 
       go (name ∷ []) one a b ea eb = rw (ea, eb, one) refl
       go (name ∷ other ∷ more) none a b ea eb = absurd cc
 
-  pub no_delivery : only_name earlier third ≡ None → deliver_in earlier words ≡ None
-  no_delivery named =
-      let one = taken most_ids words group second g in
-      let two = taken most_ids second member third m in
-      rw (one.is, two.is) (go third named one.word two.word one.spells two.spells)
-    where
-      go : (left : List (List ℕ)) → only_name earlier left ≡ None → (a b : List ℕ) → number_in most_ids a ≡ Some group → number_in most_ids b ≡ Some member → deliver_in earlier (a ∷ b ∷ left) ≡ None
-      go [] none a b ea eb = refl
-      go (name ∷ []) none a b ea eb = rw (ea, eb, none) refl
-      go (name ∷ other ∷ more) none a b ea eb = refl
-
 -- the same of a page's reading
 module _ (volume group : ℕ) (words second third : List (List ℕ)) (v : first_number most_blocks words ≡ Some (volume, second)) (g : first_number most_ids second ≡ Some (group, third)) where
   pub read_is : (block : ℕ) (rest : List (List ℕ)) → first_number most_blocks third ≡ Some (block, rest) → rest ≡ [] → read_in words ≡ Some (Event.Read volume group block)
