@@ -1,200 +1,183 @@
 //! The place of a certificate's fault: each check ends at the first one, to which the trail leads.
 
-use crate::trail::{Halt, Trail};
+use crate::trail::Trail;
 use quorum_expr::{Node, TapeNode, count_items};
 use refutation::{MAX_DEPTH, MAX_LIST, MAX_NODES, has_keys, number_to};
 
-const ITEM: &str = "an item's number, from 0 to 65,535";
-
-const BRANCHES: &str = "an array of rules";
-
-const PAIRS: &str = "at most 255 pairs of children's numbers, from 0 to 255";
-
-const NUMBERS: &str = "at most 255 children's numbers, from 0 to 255";
-
-const RULES: &str = "one of \"dead\", \"clash\", \"open\", \"pick\", \"match\", \"split\"";
-
-/// Returns whether the value at a key is a whole number up to a limit.
-fn has_number(node: &TapeNode<'_, '_>, key: &str, most: u64) -> bool {
-    match node.get(key) {
-        Some(value) => number_to(&value, most).is_ok(),
-        None => false,
-    }
+/// What a rule has at a key.
+#[derive(Clone, Copy)]
+enum Part {
+    Side,
+    Item,
+    Member,
+    Children,
+    Pairs,
+    Branch,
+    Branches,
 }
 
-/// Returns whether an array has only whole numbers up to 255.
-fn has_numbers(value: &TapeNode<'_, '_>) -> bool {
+/// The name of each rule, and its other keys in the order in which they are checked.
+const RULES: &[(&str, &[(&str, Part)])] = &[
+    ("dead", &[SIDE, ITEM]),
+    ("clash", &[LEFT, RIGHT]),
+    ("open", &[SIDE, ITEM, ("then", Part::Branch)]),
+    ("pick", &[SIDE, ITEM, ("children", Part::Children), THEN]),
+    ("match", &[LEFT, RIGHT, ("pairs", Part::Pairs), THEN]),
+    (
+        "split",
+        &[
+            ("member", Part::Member),
+            ("left", Part::Branch),
+            ("right", Part::Branch),
+        ],
+    ),
+];
+
+const SIDE: (&str, Part) = ("side", Part::Side);
+
+const ITEM: (&str, Part) = ("item", Part::Item);
+
+const LEFT: (&str, Part) = ("left", Part::Item);
+
+const RIGHT: (&str, Part) = ("right", Part::Item);
+
+const THEN: (&str, Part) = ("then", Part::Branches);
+
+const NAMES: &str = "one of \"dead\", \"clash\", \"open\", \"pick\", \"match\", \"split\"";
+
+/// Returns whether a value is a child's number.
+fn is_child(value: &TapeNode<'_, '_>) -> bool {
+    number_to(value, 255).is_ok()
+}
+
+/// Returns whether a value is a pair of children's numbers.
+fn is_pair(value: &TapeNode<'_, '_>) -> bool {
+    let Some(mut rest) = value.items() else {
+        return false;
+    };
+    for _ in 0..2 {
+        match TapeNode::next(&mut rest) {
+            Some(child) if is_child(&child) => {}
+            _ => return false,
+        }
+    }
+    TapeNode::next(&mut rest).is_none()
+}
+
+/// Returns whether a value is a list of at most 255 children's numbers, or of pairs of them.
+fn is_list(value: &TapeNode<'_, '_>, has_pairs: bool) -> bool {
     let Some(mut rest) = value.items() else {
         return false;
     };
     for _ in 0..=MAX_LIST {
         match TapeNode::next(&mut rest) {
-            Some(number) => {
-                if number_to(&number, 255).is_err() {
-                    return false;
-                }
-            }
+            Some(entry) if has_pairs && is_pair(&entry) => {}
+            Some(entry) if !has_pairs && is_child(&entry) => {}
+            Some(_) => return false,
             None => return true,
         }
     }
-    true
+    false
 }
 
-/// Returns whether an array has only pairs of whole numbers up to 255.
-fn has_pairs(value: &TapeNode<'_, '_>) -> bool {
-    let Some(mut rest) = value.items() else {
-        return false;
-    };
-    for _ in 0..=MAX_LIST {
-        match TapeNode::next(&mut rest) {
-            Some(pair) => {
-                if count_items(&pair, 3) != 2 || !has_numbers(&pair) {
-                    return false;
-                }
-            }
-            None => return true,
+impl Part {
+    /// Returns whether a value is as expected. Branches are checked behind their rule.
+    fn accepts(self, value: &TapeNode<'_, '_>) -> bool {
+        match self {
+            Part::Side => value.is_text("left") || value.is_text("right"),
+            Part::Item => number_to(value, 65_535).is_ok(),
+            Part::Member => number_to(value, 63).is_ok(),
+            Part::Children => is_list(value, false),
+            Part::Pairs => is_list(value, true),
+            Part::Branch => true,
+            Part::Branches => value.items().is_some(),
         }
     }
-    true
+
+    /// Returns the words for what is expected.
+    fn expected(self) -> &'static str {
+        match self {
+            Part::Side => "\"left\" or \"right\"",
+            Part::Item => "an item's number, from 0 to 65,535",
+            Part::Member => "a member, from 0 to 63",
+            Part::Children => "at most 255 children's numbers, from 0 to 255",
+            Part::Pairs => "at most 255 pairs of children's numbers, from 0 to 255",
+            Part::Branch => "a rule",
+            Part::Branches => "an array of rules",
+        }
+    }
 }
 
-/// Checks the keys `side` and `item`.
-fn check_side(node: &TapeNode<'_, '_>, trail: &mut Trail) -> Result<(), Halt> {
-    let is_side = match node.get("side") {
-        Some(side) => side.is_text("left") || side.is_text("right"),
-        None => false,
-    };
-    if !is_side {
-        return Err(trail.expect_at("side", "\"left\" or \"right\""));
-    }
-    if !has_number(node, "item", 65_535) {
-        return Err(trail.expect_at("item", ITEM));
-    }
-    Ok(())
-}
-
-/// Checks the keys `left` and `right`, which number items.
-fn check_items(node: &TapeNode<'_, '_>, trail: &mut Trail) -> Result<(), Halt> {
-    if !has_number(node, "left", 65_535) {
-        return Err(trail.expect_at("left", ITEM));
-    }
-    if !has_number(node, "right", 65_535) {
-        return Err(trail.expect_at("right", ITEM));
-    }
-    Ok(())
-}
-
-/// Checks a list of branches, and another list that is as long.
-fn check_lists(
-    node: &TapeNode<'_, '_>,
+/// Checks a part of a rule, which has this value.
+fn check_part(
     key: &'static str,
-    is_pairs: bool,
+    part: Part,
+    value: Option<TapeNode<'_, '_>>,
     trail: &mut Trail,
-) -> Result<(), Halt> {
-    let Some(list) = node.get(key) else {
-        return Err(trail.expect_at(key, "a list of children"));
+) -> Result<(), &'static str> {
+    let Some(value) = value else {
+        return match part {
+            Part::Branch => Ok(()),
+            Part::Children | Part::Pairs => trail.require(false, key, "a list of children"),
+            _ => trail.require(false, key, part.expected()),
+        };
     };
-    let (is_good, expected) = if is_pairs {
-        (has_pairs(&list), PAIRS)
-    } else {
-        (has_numbers(&list), NUMBERS)
-    };
-    if !is_good || count_items(&list, MAX_LIST + 1) > MAX_LIST {
-        return Err(trail.expect_at(key, expected));
+    trail.require(part.accepts(&value), key, part.expected())?;
+    if let Part::Branches = part {
+        let is_short = count_items(&value, MAX_LIST + 1) <= MAX_LIST;
+        return trail.require(is_short, key, "at most 255 rules");
     }
-    match node.get("then") {
-        Some(then) if then.items().is_some() => {
-            if count_items(&then, MAX_LIST + 1) > MAX_LIST {
-                return Err(trail.expect_at("then", "at most 255 rules"));
-            }
-            Ok(())
-        }
-        _ => Err(trail.expect_at("then", BRANCHES)),
-    }
+    Ok(())
 }
 
-/// Checks that a rule has `count` keys, at most five.
-fn check_keys(node: &TapeNode<'_, '_>, count: usize) -> Result<(), Halt> {
-    if count > 5 || has_keys(node, count).is_ok() {
-        return Ok(());
-    }
-    Err(Halt::Expected("the keys of its rule, and no others"))
-}
-
-/// Checks a rule without its branches.
+/// Checks a rule without its branches. Returns its parts.
 fn check_level(
     node: &TapeNode<'_, '_>,
-    name: &TapeNode<'_, '_>,
     trail: &mut Trail,
-) -> Result<(), Halt> {
-    if name.is_text("dead") {
-        check_keys(node, 3)?;
-        check_side(node, trail)
-    } else if name.is_text("clash") {
-        check_keys(node, 3)?;
-        check_items(node, trail)
-    } else if name.is_text("open") {
-        check_keys(node, 4)?;
-        check_side(node, trail)
-    } else if name.is_text("pick") {
-        check_keys(node, 5)?;
-        check_side(node, trail)?;
-        check_lists(node, "children", false, trail)
-    } else if name.is_text("match") {
-        check_keys(node, 5)?;
-        check_items(node, trail)?;
-        check_lists(node, "pairs", true, trail)
-    } else if name.is_text("split") {
-        check_keys(node, 4)?;
-        if has_number(node, "member", 63) {
-            return Ok(());
-        }
-        Err(trail.expect_at("member", "a member, from 0 to 63"))
-    } else {
-        Err(trail.expect_at("rule", RULES))
-    }
-}
-
-/// Checks the branch at a key.
-#[cycle(rule)]
-fn check_branch(
-    node: &TapeNode<'_, '_>,
-    key: &'static str,
-    left: u8,
-    room: &mut u32,
-    trail: &mut Trail,
-) -> Result<(), Halt> {
-    trail.enter(key)?;
-    let Some(branch) = node.get(key) else {
-        return Err(Halt::Expected("a rule"));
+) -> Result<&'static [(&'static str, Part)], &'static str> {
+    let Some(name) = node.get("rule") else {
+        return Err("an object with the key \"rule\"");
     };
-    check_rule(&branch, left, room, trail)?;
-    trail.leave();
-    Ok(())
+    for (word, parts) in RULES {
+        if name.is_text(word) {
+            if parts.len() > 4 || has_keys(node, parts.len() + 1).is_err() {
+                return Err("the keys of its rule, and no others");
+            }
+            for (key, part) in *parts {
+                check_part(key, *part, node.get(key), trail)?;
+            }
+            return Ok(parts);
+        }
+    }
+    trail.enter("rule");
+    Err(NAMES)
 }
 
-/// Checks the branches in the array at the key `then`.
+/// Checks the branches in the array at a key, or the one branch there.
 #[cycle(rule)]
 fn check_branches(
     node: &TapeNode<'_, '_>,
+    key: &'static str,
+    part: Part,
     left: u8,
     room: &mut u32,
     trail: &mut Trail,
-) -> Result<(), Halt> {
-    trail.enter("then")?;
-    let Some(then) = node.get("then") else {
-        return Err(Halt::Expected(BRANCHES));
+) -> Result<(), &'static str> {
+    trail.enter(key);
+    let Some(branches) = node.get(key) else {
+        return Err(part.expected());
     };
-    let Some(mut rest) = then.items() else {
-        return Err(Halt::Expected(BRANCHES));
-    };
-    for item in 0..MAX_LIST {
-        let Some(branch) = TapeNode::next(&mut rest) else {
-            break;
-        };
-        trail.enter_item(item)?;
-        check_rule(&branch, left, room, trail)?;
-        trail.leave();
+    if let Part::Branch = part {
+        check_rule(&branches, left, room, trail)?;
+    } else if let Some(mut rest) = branches.items() {
+        for item in 0..MAX_LIST {
+            let Some(branch) = TapeNode::next(&mut rest) else {
+                break;
+            };
+            trail.enter_item(item);
+            check_rule(&branch, left, room, trail)?;
+            trail.leave();
+        }
     }
     trail.leave();
     Ok(())
@@ -207,33 +190,29 @@ fn check_rule(
     left: u8,
     room: &mut u32,
     trail: &mut Trail,
-) -> Result<(), Halt> {
+) -> Result<(), &'static str> {
     *room = room.saturating_sub(1);
-    let Some(name) = node.get("rule") else {
-        return Err(Halt::Expected("an object with the key \"rule\""));
-    };
-    check_level(node, &name, trail)?;
+    let parts = check_level(node, trail)?;
     if left == 0 {
-        return Err(Halt::Expected("a certificate of at most 40 levels"));
+        return Err("a certificate of at most 40 levels");
     }
-    if name.is_text("open") {
-        check_branch(node, "then", left - 1, room, trail)
-    } else if name.is_text("split") {
-        check_branch(node, "left", left - 1, room, trail)?;
-        check_branch(node, "right", left - 1, room, trail)
-    } else if name.is_text("pick") || name.is_text("match") {
-        check_branches(node, left - 1, room, trail)
-    } else {
-        Ok(())
+    for (key, part) in parts {
+        if matches!(part, Part::Branch | Part::Branches) {
+            check_branches(node, key, *part, left - 1, room, trail)?;
+        }
     }
+    Ok(())
 }
 
 /// Checks a certificate.
-pub(crate) fn check_certificate(node: &TapeNode<'_, '_>, trail: &mut Trail) -> Result<(), Halt> {
+pub(crate) fn check_certificate(
+    node: &TapeNode<'_, '_>,
+    trail: &mut Trail,
+) -> Result<(), &'static str> {
     let mut room = MAX_NODES + 1;
     check_rule(node, MAX_DEPTH, &mut room, trail)?;
-    if room == 0 {
-        return Err(Halt::Expected("a certificate of at most 100,000 rules"));
+    match room {
+        0 => Err("a certificate of at most 100,000 rules"),
+        _ => Ok(()),
     }
-    Ok(())
 }

@@ -117,18 +117,14 @@ pub fn answer_claim(
 
 /// Returns the facts to print about a claim.
 pub(crate) fn claim_facts(answer: &ClaimAnswer) -> ClaimFacts {
-    let state = match answer {
-        ClaimAnswer::Certified => ClaimState::Certified,
-        ClaimAnswer::Uncertified => ClaimState::Holds,
-        ClaimAnswer::Fails(_) => ClaimState::Fails,
-        ClaimAnswer::Unknown => ClaimState::Unknown,
-    };
-    let witness = match answer {
-        ClaimAnswer::Fails(witness) => Some(WitnessFacts {
-            read: Members(witness.left),
-            other: Members(witness.right),
-        }),
-        _ => None,
+    let (state, witness) = match answer {
+        ClaimAnswer::Certified => (ClaimState::Certified, None),
+        ClaimAnswer::Uncertified => (ClaimState::Holds, None),
+        ClaimAnswer::Fails(witness) => {
+            let (read, other) = (Members(witness.left), Members(witness.right));
+            (ClaimState::Fails, Some(WitnessFacts { read, other }))
+        }
+        ClaimAnswer::Unknown => (ClaimState::Unknown, None),
     };
     ClaimFacts { state, witness }
 }

@@ -1,6 +1,6 @@
 //! The place of an expression's fault: each check ends at the first one, to which the trail leads.
 
-use crate::trail::{Halt, Trail};
+use crate::trail::Trail;
 use quorum_expr::{Lists, MemberSet, Node, TapeItems, TapeNode, count_items};
 
 /// The most levels of an expression.
@@ -23,15 +23,6 @@ const TOO_DEEP: &str = "an expression of at most six levels";
 const THRESHOLD: &str =
     "a threshold from 1 to the number of children, or to the sum of their weights";
 
-/// Returns what an expression has to be.
-fn shape(lists: &Lists) -> &'static str {
-    if lists.is_weighted {
-        WEIGHTED_SHAPE
-    } else {
-        SHAPE
-    }
-}
-
 /// Returns the members that a list's name stands for.
 fn named(node: &TapeNode<'_, '_>, lists: &Lists) -> Option<MemberSet> {
     if node.is_text("all") {
@@ -45,11 +36,12 @@ fn named(node: &TapeNode<'_, '_>, lists: &Lists) -> Option<MemberSet> {
     }
 }
 
-/// Returns the number of children, up to 65.
-fn child_count(of: &TapeNode<'_, '_>, lists: &Lists) -> usize {
+/// Returns the number of children, up to 65, if these are children.
+fn child_count(of: &TapeNode<'_, '_>, lists: &Lists) -> Option<usize> {
     match named(of, lists) {
-        Some(members) => usize::from(members.len()),
-        None => count_items(of, 65),
+        Some(members) => Some(usize::from(members.len())),
+        None if of.items().is_some() => Some(count_items(of, 65)),
+        None => None,
     }
 }
 
@@ -70,19 +62,11 @@ fn sum_of(weights: &TapeNode<'_, '_>, count: usize) -> Option<u64> {
     }
 }
 
-/// Checks a member's number.
-fn check_member(node: &TapeNode<'_, '_>, lists: &Lists) -> Result<(), Halt> {
-    match node.as_u64() {
-        Some(number) if number < 64 && lists.members.contains(number as u8) => Ok(()),
-        _ => Err(Halt::Expected("the number of a member of the configuration")),
-    }
-}
-
 /// Returns the threshold of an object and its children.
 fn parts_of<'t, 'a>(
     node: &TapeNode<'t, 'a>,
     lists: &Lists,
-) -> Result<(TapeNode<'t, 'a>, TapeNode<'t, 'a>), Halt> {
+) -> Result<(TapeNode<'t, 'a>, TapeNode<'t, 'a>), &'static str> {
     let is_keyed = match node.keys(4) {
         Some(2) => true,
         Some(3) => lists.is_weighted && node.get("weights").is_some(),
@@ -90,42 +74,38 @@ fn parts_of<'t, 'a>(
     };
     match (node.get("k"), node.get("of")) {
         (Some(k), Some(of)) if is_keyed => Ok((k, of)),
-        _ => Err(Halt::Expected(shape(lists))),
+        _ if lists.is_weighted => Err(WEIGHTED_SHAPE),
+        _ => Err(SHAPE),
     }
 }
 
-/// Checks a threshold of at most `left` levels without its children. Returns them.
+/// Checks a threshold of at most `left` levels without its children. Returns them, and how many they are.
 fn check_threshold<'t, 'a>(
     node: &TapeNode<'t, 'a>,
     lists: &Lists,
     left: u8,
     trail: &mut Trail,
-) -> Result<TapeNode<'t, 'a>, Halt> {
+) -> Result<(TapeNode<'t, 'a>, usize), &'static str> {
     let (k, of) = parts_of(node, lists)?;
     let Some(k) = k.as_u64() else {
         return Err(trail.expect_at("k", "a whole number"));
     };
-    if of.items().is_none() && named(&of, lists).is_none() {
+    let Some(count) = child_count(&of, lists) else {
         return Err(trail.expect_at("of", CHILDREN));
-    }
-    let count = child_count(&of, lists);
-    if count > 64 {
-        return Err(trail.expect_at("of", "at most 64 children"));
-    }
+    };
+    trail.require(count <= 64, "of", "at most 64 children")?;
     let sum = match node.get("weights") {
-        None => count as u64,
-        Some(weights) => match sum_of(&weights, count) {
-            Some(sum) => sum,
-            None => return Err(trail.expect_at("weights", WEIGHTS)),
-        },
+        None => Some(count as u64),
+        Some(weights) => sum_of(&weights, count),
+    };
+    let Some(sum) = sum else {
+        return Err(trail.expect_at("weights", WEIGHTS));
     };
     if left == 0 {
-        return Err(Halt::Expected(TOO_DEEP));
+        return Err(TOO_DEEP);
     }
-    if k < 1 || k > sum {
-        return Err(trail.expect_at("k", THRESHOLD));
-    }
-    Ok(of)
+    trail.require(1 <= k && k <= sum, "k", THRESHOLD)?;
+    Ok((of, count))
 }
 
 /// Checks an expression of at most `left` levels. Subtracts its nodes from `room`, down to 0.
@@ -136,27 +116,26 @@ fn check_tree(
     left: u8,
     room: &mut u32,
     trail: &mut Trail,
-) -> Result<(), Halt> {
+) -> Result<(), &'static str> {
     *room = room.saturating_sub(1);
     if node.is_number() {
-        if left == 0 {
-            return Err(Halt::Expected(TOO_DEEP));
-        }
-        return check_member(node, lists);
+        return match node.as_u64() {
+            _ if left == 0 => Err(TOO_DEEP),
+            Some(number) if number < 64 && lists.members.contains(number as u8) => Ok(()),
+            _ => Err("the number of a member of the configuration"),
+        };
     }
-    let of = check_threshold(node, lists, left, trail)?;
+    let (of, count) = check_threshold(node, lists, left, trail)?;
     if left == 0 {
-        return Err(Halt::Expected(TOO_DEEP));
+        return Err(TOO_DEEP);
     }
-    trail.enter("of")?;
-    match of.items() {
-        Some(mut rest) => check_children(&mut rest, lists, left - 1, room, trail)?,
-        None => {
-            let members = u32::try_from(child_count(&of, lists)).unwrap_or(u32::MAX);
-            *room = room.saturating_sub(members);
-            if left == 1 {
-                return Err(Halt::Expected(TOO_DEEP));
-            }
+    trail.enter("of");
+    if let Some(mut rest) = of.items() {
+        check_children(&mut rest, lists, left - 1, room, trail)?;
+    } else {
+        *room = room.saturating_sub(u32::try_from(count).unwrap_or(u32::MAX));
+        if left == 1 {
+            return Err(TOO_DEEP);
         }
     }
     trail.leave();
@@ -171,12 +150,12 @@ fn check_children(
     left: u8,
     room: &mut u32,
     trail: &mut Trail,
-) -> Result<(), Halt> {
+) -> Result<(), &'static str> {
     for item in 0..64usize {
         let Some(child) = TapeNode::next(rest) else {
-            return Ok(());
+            break;
         };
-        trail.enter_item(item)?;
+        trail.enter_item(item);
         check_tree(&child, lists, left, room, trail)?;
         trail.leave();
     }
@@ -188,11 +167,11 @@ pub(crate) fn check_expression(
     node: &TapeNode<'_, '_>,
     lists: &Lists,
     trail: &mut Trail,
-) -> Result<(), Halt> {
+) -> Result<(), &'static str> {
     let mut room = NODES;
     check_tree(node, lists, LEVELS, &mut room, trail)?;
-    if room == 0 {
-        return Err(Halt::Expected("at most 4,096 members and thresholds"));
+    match room {
+        0 => Err("at most 4,096 members and thresholds"),
+        _ => Ok(()),
     }
-    Ok(())
 }

@@ -39,15 +39,14 @@ pub const FAULTS: &[FaultWords] = &[
     FaultWords {
         fault: Fault::NoMemory,
         of: "any call that grows",
-        words: "memory ran out, and nothing changed: the call may be made again. An argument \
-            passed by value (a tree, a plan, a list) may be gone: keep a copy if it is \
-            needed again.",
+        words: "memory ran out, and nothing changed: the call may be made again. An argument passed by value (a tree, \
+            a plan, a list) may be gone: keep a copy if it is needed again.",
     },
     FaultWords {
         fault: Fault::BadCount,
         of: "a plan",
-        words: "a K that isn't 1 to the number of its list's expressions, or to what they weigh \
-            together; more than 64 of these; a weight that isn't 1 to 255.",
+        words: "a K that isn't 1 to the number of its list's expressions, or to what they weigh together; more than 64 \
+            of these; a weight that isn't 1 to 255.",
     },
     FaultWords {
         fault: Fault::TooDeep,
@@ -97,8 +96,7 @@ pub const FAULTS: &[FaultWords] = &[
     FaultWords {
         fault: Fault::CountTooSmall,
         of: "a certificate",
-        words: "`match` with too few pairs: there may be disjoint sets. The quorums may not meet \
-            at all.",
+        words: "`match` with too few pairs: there may be disjoint sets. The quorums may not meet at all.",
     },
     FaultWords {
         fault: Fault::BranchCount,
@@ -108,14 +106,12 @@ pub const FAULTS: &[FaultWords] = &[
     FaultWords {
         fault: Fault::BadParent,
         of: "a plan",
-        words: "configuration 0 has a parent, or the parent of another configuration isn't one \
-            that comes before it.",
+        words: "configuration 0 has a parent, or the parent of another configuration isn't one that comes before it.",
     },
     FaultWords {
         fault: Fault::MemberReused,
         of: "a plan",
-        words: "a fresh member that a configuration above has: give the member a number that \
-            wasn't in use.",
+        words: "a fresh member that a configuration above has: give the member a number that wasn't in use.",
     },
     FaultWords {
         fault: Fault::NoCertificate,
@@ -130,27 +126,24 @@ pub const FAULTS: &[FaultWords] = &[
     FaultWords {
         fault: Fault::OverLimit,
         of: "a plan",
-        words: "the text, an expression or a certificate is larger than allowed: `PLANS.md` \
-            has the limits.",
+        words: "the text, an expression or a certificate is larger than allowed: `PLANS.md` has the limits.",
     },
     FaultWords {
         fault: Fault::Superseded,
         of: "the authority",
-        words: "`refresh` of a client whose volume epoch isn't the last one assigned: it is to \
-            stop.",
+        words: "`refresh` of a client whose volume epoch isn't the last one assigned: it is to stop.",
     },
     FaultWords {
         fault: Fault::NotInPlan,
         of: "the authority, a node, a client",
-        words: "the configuration isn't a child of the group's present one; or a message names \
-            a group or a configuration that the plan doesn't have; or a View lists fewer \
-            groups than the volume has at birth, or more than the plan has.",
+        words: "the configuration isn't a child of the group's present one; or a message names a group or a \
+            configuration that the plan doesn't have; or a View lists fewer groups than the volume has at birth, or \
+            more than the plan has.",
     },
     FaultWords {
         fault: Fault::NoGroup,
         of: "the authority, a writer",
-        words: "there is no such group, or it hasn't joined; of a writer, it isn't in its view: \
-            refresh it.",
+        words: "there is no such group, or it hasn't joined; of a writer, it isn't in its view: refresh it.",
     },
     FaultWords {
         fault: Fault::EpochsSpent,
@@ -170,8 +163,8 @@ pub const FAULTS: &[FaultWords] = &[
     FaultWords {
         fault: Fault::StaleMember,
         of: "a node",
-        words: "it is at a later membership epoch: refresh the sender; or it has taken this \
-            step, or a later one, already.",
+        words: "it is at a later membership epoch: refresh the sender; or it has taken this step, or a later one, \
+            already.",
     },
     FaultWords {
         fault: Fault::AheadMember,
@@ -191,8 +184,7 @@ pub const FAULTS: &[FaultWords] = &[
     FaultWords {
         fault: Fault::Full,
         of: "a node",
-        words: "it would hold more than 1,048,576 records; or an Install in more than 4,096 \
-            pieces.",
+        words: "it would hold more than 1,048,576 records; or an Install in more than 4,096 pieces.",
     },
     FaultWords {
         fault: Fault::AlreadyWhole,
@@ -202,9 +194,8 @@ pub const FAULTS: &[FaultWords] = &[
     FaultWords {
         fault: Fault::NotEnough,
         of: "a node",
-        words: "the members whose complete copies it has don't satisfy the read expression of \
-            the configuration that it took last, or it isn't a member of that \
-            configuration: send it the missing pieces.",
+        words: "the members whose complete copies it has don't satisfy the read expression of the configuration that \
+            it took last, or it isn't a member of that configuration: send it the missing pieces.",
     },
     FaultWords {
         fault: Fault::NoRecord,
@@ -214,16 +205,14 @@ pub const FAULTS: &[FaultWords] = &[
     FaultWords {
         fault: Fault::BadPiece,
         of: "a node",
-        words: "a piece of an Install or of a copy that can't be one: the count of its pieces \
-            is 0 or above 4,096, its number isn't below that count, it has more than 256 \
-            records, or its count isn't that of the pieces received before. No actor makes \
-            such a piece: check the transport.",
+        words: "a piece of an Install or of a copy that can't be one: the count of its pieces is 0 or above 4,096, its \
+            number isn't below that count, it has more than 256 records, or its count isn't that of the pieces \
+            received before. No actor makes such a piece: check the transport.",
     },
     FaultWords {
         fault: Fault::TailSegment,
         of: "a node",
-        words: "it keeps no whole pages, or isn't a member of its configuration any more: ask a \
-            full segment.",
+        words: "it keeps no whole pages, or isn't a member of its configuration any more: ask a full segment.",
     },
     FaultWords {
         fault: Fault::PointAhead,
@@ -243,14 +232,14 @@ pub const FAULTS: &[FaultWords] = &[
     FaultWords {
         fault: Fault::LimitReached,
         of: "a writer",
-        words: "the log would run further than the allowance ahead of the durable point or, \
-            where that is greater, of the writer's start: wait for acknowledgements.",
+        words: "the log would run further than the allowance ahead of the durable point or, where that is greater, of \
+            the writer's start: wait for acknowledgements.",
     },
     FaultWords {
         fault: Fault::BadTransaction,
         of: "a writer",
-        words: "not 1 to 32 changes, a group outside the writer's view, not 1 to 64 bytes, or \
-            bytes that end beyond the page of 512.",
+        words: "not 1 to 32 changes, a group outside the writer's view, not 1 to 64 bytes, or bytes that end beyond \
+            the page of 512.",
     },
     FaultWords {
         fault: Fault::LsnSpent,
@@ -260,8 +249,8 @@ pub const FAULTS: &[FaultWords] = &[
     FaultWords {
         fault: Fault::NotReady,
         of: "a recovery",
-        words: "`cut` before each group's reports are a read set, or `open` before the cut or \
-            before the installs are acknowledged.",
+        words: "`cut` before each group's reports are a read set, or `open` before the cut or before the installs are \
+            acknowledged.",
     },
     FaultWords {
         fault: Fault::AlreadyDone,
@@ -276,8 +265,8 @@ pub const FAULTS: &[FaultWords] = &[
     FaultWords {
         fault: Fault::NotJoined,
         of: "a writer",
-        words: "it learned of the group after it opened, and no write quorum has acknowledged \
-            the group's Install yet: deliver the Install.",
+        words: "it learned of the group after it opened, and no write quorum has acknowledged the group's Install yet: \
+            deliver the Install.",
     },
     FaultWords {
         fault: Fault::NoMessage,
@@ -287,20 +276,18 @@ pub const FAULTS: &[FaultWords] = &[
     FaultWords {
         fault: Fault::NotAddressed,
         of: "any that takes a message",
-        words: "the message is for another group, volume epoch or kind of actor; or it carries \
-            records of another group, or names a sender above 63.",
+        words: "the message is for another group, volume epoch or kind of actor; or it carries records of another \
+            group, or names a sender above 63.",
     },
     FaultWords {
         fault: Fault::NoActor,
         of: "nodes and clients",
-        words: "the plan names no such node, or its group hasn't joined; or no View has reached \
-            the client yet.",
+        words: "the plan names no such node, or its group hasn't joined; or no View has reached the client yet.",
     },
     FaultWords {
         fault: Fault::NoSlot,
         of: "the authority under its lock: `assign` of a fleet",
-        words: "the last slot's volume epoch was assigned: no slot is left for a client. `fleet` \
-            has 64.",
+        words: "the last slot's volume epoch was assigned: no slot is left for a client. `fleet` has 64.",
     },
     FaultWords {
         fault: Fault::JournalFull,

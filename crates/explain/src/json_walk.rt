@@ -43,14 +43,6 @@ impl Due {
         }
     }
 
-    /// Returns whether a value may come next.
-    fn is_value(self) -> bool {
-        matches!(
-            self,
-            Due::Plan | Due::Member | Due::FirstItem | Due::NextItem
-        )
-    }
-
     /// Returns whether this token may come next.
     fn accepts(self, token: &Token<'_>) -> bool {
         match token {
@@ -58,7 +50,10 @@ impl Due {
             Token::EndObject => matches!(self, Due::FirstKey | Due::MemberEnd),
             Token::EndArray => matches!(self, Due::FirstItem | Due::ItemEnd),
             Token::Bad => false,
-            _ => self.is_value(),
+            _ => matches!(
+                self,
+                Due::Plan | Due::Member | Due::FirstItem | Due::NextItem
+            ),
         }
     }
 }
@@ -71,20 +66,12 @@ struct Open {
     keys: usize,
 }
 
-/// The first place at which a text isn't JSON.
-#[derive(Clone, Copy)]
-pub(crate) struct SyntaxFault {
-    /// The offset, in bytes from the beginning.
-    pub offset: usize,
-    /// What is expected there.
-    pub expected: &'static str,
-}
-
 /// The result of a walk over a text.
 #[derive(Clone, Copy)]
 pub(crate) struct Walked {
-    /// The first place at which the text isn't JSON.
-    pub fault: Option<SyntaxFault>,
+    /// The offset of the first place at which the text isn't JSON, in bytes from the beginning, and what is expected
+    /// there.
+    pub fault: Option<(usize, &'static str)>,
     /// The offset of the first key that its object already has.
     pub repeated: Option<usize>,
 }
@@ -105,27 +92,19 @@ fn is_behind_comma(text: &str, offset: usize) -> bool {
     for byte in before.as_bytes().iter().rev() {
         match byte {
             b' ' | b'\t' | b'\n' | b'\r' => {}
-            b',' => return true,
-            _ => return false,
+            _ => return *byte == b',',
         }
     }
     false
 }
 
 impl<'a> Walk<'a> {
-    /// Enters an array or an object. Returns `false` if it is beyond the nesting limit.
-    fn enter(&mut self, is_object: bool) -> Result<bool, AllocError> {
-        if self.open.len() >= LEVELS {
-            return Ok(false);
-        }
+    /// Enters an array or an object.
+    fn enter(&mut self, is_object: bool, due: Due) -> Result<(), AllocError> {
         let keys = self.keys.len();
         self.open.push(Open { is_object, keys })?;
-        self.due = if is_object {
-            Due::FirstKey
-        } else {
-            Due::FirstItem
-        };
-        Ok(true)
+        self.due = due;
+        Ok(())
     }
 
     /// Leaves the innermost array or object.
@@ -142,14 +121,12 @@ impl<'a> Walk<'a> {
             Some(open) => open.keys,
             None => 0,
         };
-        let mut count = 0usize;
         for seen in self.keys.iter().skip(first) {
             if *seen == key && self.repeated.is_none() {
                 self.repeated = Some(offset);
             }
-            count = count.saturating_add(1);
         }
-        if count < KEYS {
+        if self.keys.len().saturating_sub(first) < KEYS {
             self.keys.push(key)?;
         }
         Ok(())
@@ -160,52 +137,40 @@ impl<'a> Walk<'a> {
         let has_comma = is_behind_comma(text, offset);
         self.due = match self.open.last() {
             None => Due::Nothing,
-            Some(open) if open.is_object => {
-                if has_comma {
-                    Due::NextKey
-                } else {
-                    Due::MemberEnd
-                }
-            }
-            Some(_) => {
-                if has_comma {
-                    Due::NextItem
-                } else {
-                    Due::ItemEnd
-                }
-            }
+            Some(open) => match (open.is_object, has_comma) {
+                (true, true) => Due::NextKey,
+                (true, false) => Due::MemberEnd,
+                (false, true) => Due::NextItem,
+                (false, false) => Due::ItemEnd,
+            },
         };
     }
 
-    /// Returns the result of a walk that ends at this fault.
-    fn ended(&self, offset: usize, expected: &'static str) -> Walked {
-        Walked {
-            fault: Some(SyntaxFault { offset, expected }),
-            repeated: self.repeated,
-        }
-    }
-
-    /// Consumes a token that may come next. The token begins at `offset`, the one after it at `next`. Returns `false`
-    /// if the token opens an array or an object beyond the nesting limit.
+    /// Consumes a token that may come next. The token begins at `offset`, the one after it at `next`.
     fn take(
         &mut self,
         text: &str,
         token: Token<'a>,
         offset: usize,
         next: usize,
-    ) -> Result<bool, AllocError> {
+    ) -> Result<(), AllocError> {
         match token {
-            Token::BeginObject => return self.enter(true),
-            Token::BeginArray => return self.enter(false),
-            Token::Key(key) => {
-                self.take_key(key, offset)?;
-                return Ok(true);
-            }
+            Token::BeginObject => return self.enter(true, Due::FirstKey),
+            Token::BeginArray => return self.enter(false, Due::FirstItem),
+            Token::Key(key) => return self.take_key(key, offset),
             Token::EndObject | Token::EndArray => self.leave(),
             _ => {}
         }
         self.pass(text, next);
-        Ok(true)
+        Ok(())
+    }
+
+    /// Returns the result of a walk that ends with this fault.
+    fn ended(&self, fault: Option<(usize, &'static str)>) -> Walked {
+        Walked {
+            fault,
+            repeated: self.repeated,
+        }
     }
 }
 
@@ -228,17 +193,15 @@ pub(crate) fn walk_over(
             break;
         };
         if !walk.due.accepts(&token) {
-            return Ok(walk.ended(offset, walk.due.expected()));
+            return Ok(walk.ended(Some((offset, walk.due.expected()))));
         }
-        if !walk.take(text, token, offset, reader.offset())? {
-            return Ok(walk.ended(offset, TOO_DEEP));
+        if matches!(token, Token::BeginObject | Token::BeginArray) && walk.open.len() >= LEVELS {
+            return Ok(walk.ended(Some((offset, TOO_DEEP))));
         }
+        walk.take(text, token, offset, reader.offset())?;
     }
-    if walk.due != Due::Nothing {
-        return Ok(walk.ended(reader.offset(), walk.due.expected()));
+    match walk.due {
+        Due::Nothing => Ok(walk.ended(None)),
+        due => Ok(walk.ended(Some((reader.offset(), due.expected())))),
     }
-    Ok(Walked {
-        fault: None,
-        repeated: walk.repeated,
-    })
 }

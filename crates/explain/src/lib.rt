@@ -9,9 +9,8 @@ mod expression_place;
 mod facts;
 mod faults;
 mod json_walk;
-mod line_fault;
+mod line_check;
 mod line_forms;
-mod line_words;
 mod page;
 mod placing;
 mod plan_place;
@@ -30,11 +29,11 @@ pub use facts::{
     WitnessFacts,
 };
 pub use faults::{FAULTS, FaultWords, add_meaning, fault_lines, fault_words};
-pub use line_words::bad_line;
+pub use line_check::bad_line;
 pub use page::{COLUMNS, Page};
 pub use placing::{place_lines, warning_lines};
 pub use report::{json_report, known_configurations};
 pub use stepping::{NoStep, step_script};
 pub use survival::{Survival, survival_of};
 pub use text_place::{FaultPlace, fault_place};
-pub use wording::{add_expr, add_members};
+pub use wording::{add_expr, add_kind, add_members};

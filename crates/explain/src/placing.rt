@@ -2,45 +2,46 @@
 
 use crate::json_walk::walk_over;
 use crate::page::Page;
-use crate::text_place::{FaultPlace, fault_place, position};
+use crate::text_place::{FaultPlace, Position, fault_place, position_at};
 use json::Scratch;
 use plan::PLAN_BYTES;
 use std::alloc::{AllocError, Global};
 
-/// Returns the offset of the first key in a text that its object has already.
-pub(crate) fn repeated_key(alloc: Global, text: &[u8]) -> Result<Option<usize>, AllocError> {
+/// Returns the position of the first key in a text that its object has already.
+pub(crate) fn repeated_key(alloc: Global, text: &[u8]) -> Result<Option<Position>, AllocError> {
     if text.len() > PLAN_BYTES as usize {
         return Ok(None);
     }
-    let Ok(text) = simdutf8::basic::from_utf8(text) else {
+    let Ok(utf8) = simdutf8::basic::from_utf8(text) else {
         return Ok(None);
     };
     let mut scratch = Scratch::new(alloc);
-    let walked = walk_over(alloc, text, &mut scratch)?;
-    Ok(walked.repeated)
+    let walked = walk_over(alloc, utf8, &mut scratch)?;
+    match walked.repeated {
+        Some(offset) => Ok(Some(position_at(text, offset))),
+        None => Ok(None),
+    }
 }
 
-/// Appends the place of the first repeated key of an object, if there is one.
+/// Appends the position of the first repeated key of an object, if there is one.
 fn add_warning(alloc: Global, page: &mut Page, text: &[u8]) -> Result<(), AllocError> {
-    let Some(offset) = repeated_key(alloc, text)? else {
+    let Some(Position { line, column }) = repeated_key(alloc, text)? else {
         return Ok(());
     };
-    let (line, column) = position(text, offset);
-    let mut warning = format!(in alloc; "warning: line {line}, column {column}: ")?;
-    warning.push_str("the object has this key already: its last value counts")?;
+    let warning = format!(in alloc;
+        "warning: line {line}, column {column}: the object has this key already: its last value counts"
+    )?;
     page.add(0, warning.as_str())
 }
 
 /// Appends a place, and what is expected there.
 fn add_place(alloc: Global, page: &mut Page, place: &FaultPlace) -> Result<(), AllocError> {
-    let (line, column) = (place.line, place.column);
-    let mut text = format!(in alloc; "line {line}, column {column}: ")?;
-    if !place.path.is_empty() {
-        text.push_str(place.path.as_str())?;
+    let (line, column, path) = (place.line, place.column, place.path.as_str());
+    let mut text = format!(in alloc; "line {line}, column {column}: {path}")?;
+    if !path.is_empty() {
         text.push_str(": ")?;
     }
-    text.push_str("expected ")?;
-    text.push_str(place.expected)?;
+    write!(text, "expected {}", place.expected)?;
     if place.is_end {
         text.push_str(", but the text ends")?;
     }

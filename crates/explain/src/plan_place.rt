@@ -2,9 +2,9 @@
 
 use crate::certificate_place::check_certificate;
 use crate::expression_place::check_expression;
-use crate::trail::{Halt, Trail};
-use plan::Format;
-use quorum_expr::{Lists, MemberSet, Node, TapeNode, count_items};
+use crate::trail::Trail;
+use plan::{Fields, fields_at};
+use quorum_expr::{Lists, MemberSet, Node, TapeItems, TapeNode, count_items};
 use refutation::has_keys;
 
 const PLAN: &str = "an object with the keys \"format\", \"groups\" and \"lal\", and no others";
@@ -14,27 +14,9 @@ const GROWING_PLAN: &str =
 
 const GROUP: &str = "an object with the one key \"configurations\"";
 
-const GROUPS: &str = "an array of 1 to 16 groups";
-
-const CONFIGURATIONS: &str = "an array of 1 to 64 configurations";
-
 const CONFIGURATION: &str =
     "an object with the keys \"full\", \"meets\", \"members\", \"parent\", \"read\", \"step\" and \
     \"write\", and no others";
-
-const MEMBERS: &str = "an array of one or more members";
-
-const MEMBER: &str = "a whole number from 0 to 63, greater than the one before it";
-
-/// Returns the format with a node's number.
-fn format_of(node: &TapeNode<'_, '_>) -> Option<Format> {
-    match node.as_u64() {
-        Some(1) => Some(Format::Plain),
-        Some(2) => Some(Format::Weighted),
-        Some(3) => Some(Format::Growing),
-        _ => None,
-    }
-}
 
 /// Returns whether a node is a whole number from 1 to a limit.
 fn is_from_one(node: &TapeNode<'_, '_>, most: u64) -> bool {
@@ -44,16 +26,30 @@ fn is_from_one(node: &TapeNode<'_, '_>, most: u64) -> bool {
     }
 }
 
-/// Reads members in growing order.
-fn members_of(node: &TapeNode<'_, '_>, trail: &mut Trail) -> Result<MemberSet, Halt> {
-    let mut set = MemberSet::empty();
+/// Returns the items of an array of 1 to `most` items, and how many they are.
+fn items_of<'t, 'a>(array: &TapeNode<'t, 'a>, most: usize) -> Option<(TapeItems<'t, 'a>, usize)> {
+    let count = count_items(array, most.saturating_add(1));
+    match array.items() {
+        Some(items) if 1 <= count && count <= most => Some((items, count)),
+        _ => None,
+    }
+}
+
+/// Reads members in growing order at a key.
+fn members_of(
+    key: &'static str,
+    node: &TapeNode<'_, '_>,
+    trail: &mut Trail,
+) -> Result<MemberSet, &'static str> {
+    trail.enter(key);
     let Some(mut rest) = node.items() else {
-        return Err(Halt::Expected("an array of members"));
+        return Err("an array of members");
     };
+    let mut set = MemberSet::empty();
     let mut least = 0u64;
     for item in 0..=64usize {
         let Some(member) = TapeNode::next(&mut rest) else {
-            return Ok(set);
+            break;
         };
         match member.as_u64() {
             Some(number) if least <= number && number < 64 => {
@@ -61,37 +57,33 @@ fn members_of(node: &TapeNode<'_, '_>, trail: &mut Trail) -> Result<MemberSet, H
                 least = number + 1;
             }
             _ => {
-                trail.enter_item(item)?;
-                return Err(Halt::Expected(MEMBER));
+                trail.enter_item(item);
+                return Err("a whole number from 0 to 63, greater than the one before it");
             }
         }
     }
+    trail.leave();
     Ok(set)
 }
 
 /// Reads the members of a configuration and the full ones.
-fn lists_of(node: &TapeNode<'_, '_>, is_weighted: bool, trail: &mut Trail) -> Result<Lists, Halt> {
-    let (Some(members), Some(full)) = (node.get("members"), node.get("full")) else {
-        return Err(Halt::Expected(CONFIGURATION));
-    };
-    trail.enter("members")?;
-    if count_items(&members, 1) < 1 {
-        return Err(Halt::Expected(MEMBERS));
-    }
-    let members = match members_of(&members, trail) {
+fn lists_of(
+    of: &Fields<TapeNode<'_, '_>>,
+    is_weighted: bool,
+    trail: &mut Trail,
+) -> Result<Lists, &'static str> {
+    let has_some = count_items(&of.members, 1) > 0;
+    trail.require(has_some, "members", "an array of one or more members")?;
+    let members = match members_of("members", &of.members, trail) {
         Ok(members) => members,
-        Err(halt) => return Err(halt),
+        Err(expected) => return Err(expected),
     };
-    trail.leave();
-    trail.enter("full")?;
-    let full = match members_of(&full, trail) {
+    let full = match members_of("full", &of.full, trail) {
         Ok(full) => full,
-        Err(halt) => return Err(halt),
+        Err(expected) => return Err(expected),
     };
-    if !full.is_subset(members) {
-        return Err(Halt::Expected("members of the configuration alone"));
-    }
-    trail.leave();
+    let is_within = full.is_subset(members);
+    trail.require(is_within, "full", "members of the configuration alone")?;
     Ok(Lists {
         members,
         full,
@@ -99,55 +91,17 @@ fn lists_of(node: &TapeNode<'_, '_>, is_weighted: bool, trail: &mut Trail) -> Re
     })
 }
 
-/// Returns whether an object has the seven keys of a configuration.
-fn has_fields(node: &TapeNode<'_, '_>) -> bool {
-    if has_keys(node, 7).is_err() {
-        return false;
-    }
-    for key in [
-        "full", "meets", "members", "parent", "read", "step", "write",
-    ] {
-        if node.get(key).is_none() {
-            return false;
-        }
-    }
-    true
-}
-
-/// Checks the expression at a key.
-fn check_quorum(
-    node: &TapeNode<'_, '_>,
-    key: &'static str,
-    lists: &Lists,
-    trail: &mut Trail,
-) -> Result<(), Halt> {
-    let Some(expression) = node.get(key) else {
-        return Err(Halt::Expected(CONFIGURATION));
-    };
-    trail.enter(key)?;
-    check_expression(&expression, lists, trail)?;
-    trail.leave();
-    Ok(())
-}
-
 /// Checks the certificate at a key, or null.
 fn check_claim(
-    node: &TapeNode<'_, '_>,
     key: &'static str,
-    is_null: bool,
+    certificate: &TapeNode<'_, '_>,
     trail: &mut Trail,
-) -> Result<(), Halt> {
-    let Some(certificate) = node.get(key) else {
-        return Err(Halt::Expected(CONFIGURATION));
-    };
+) -> Result<(), &'static str> {
     if certificate.is_null() {
         return Ok(());
     }
-    trail.enter(key)?;
-    if is_null {
-        return Err(Halt::Expected("null, since configuration 0 has no parent"));
-    }
-    check_certificate(&certificate, trail)?;
+    trail.enter(key);
+    check_certificate(certificate, trail)?;
     trail.leave();
     Ok(())
 }
@@ -158,48 +112,54 @@ fn check_configuration(
     number: usize,
     is_weighted: bool,
     trail: &mut Trail,
-) -> Result<(), Halt> {
-    if !has_fields(node) {
-        return Err(Halt::Expected(CONFIGURATION));
-    }
-    let is_parent = match node.get("parent") {
-        Some(parent) => parent.is_null() || parent.as_u64().is_some(),
-        None => false,
+) -> Result<(), &'static str> {
+    let Ok(of) = fields_at(node) else {
+        return Err(CONFIGURATION);
     };
-    if !is_parent {
-        return Err(trail.expect_at("parent", "null, or the number of an earlier configuration"));
-    }
-    let lists = match lists_of(node, is_weighted, trail) {
+    let is_parent = of.parent.is_null() || of.parent.as_u64().is_some();
+    trail.require(
+        is_parent,
+        "parent",
+        "null, or the number of an earlier configuration",
+    )?;
+    let lists = match lists_of(&of, is_weighted, trail) {
         Ok(lists) => lists,
-        Err(halt) => return Err(halt),
+        Err(expected) => return Err(expected),
     };
-    check_quorum(node, "read", &lists, trail)?;
-    check_quorum(node, "write", &lists, trail)?;
-    check_claim(node, "meets", false, trail)?;
-    check_claim(node, "step", number == 0, trail)
+    for (key, expression) in [("read", &of.read), ("write", &of.write)] {
+        trail.enter(key);
+        check_expression(expression, &lists, trail)?;
+        trail.leave();
+    }
+    check_claim("meets", &of.meets, trail)?;
+    let may_step = number > 0 || of.step.is_null();
+    trail.require(
+        may_step,
+        "step",
+        "null, since configuration 0 has no parent",
+    )?;
+    check_claim("step", &of.step, trail)
 }
 
 /// Checks a group.
-fn check_group(node: &TapeNode<'_, '_>, is_weighted: bool, trail: &mut Trail) -> Result<(), Halt> {
-    let Some(list) = node.get("configurations") else {
-        return Err(Halt::Expected(GROUP));
+fn check_group(
+    node: &TapeNode<'_, '_>,
+    is_weighted: bool,
+    trail: &mut Trail,
+) -> Result<(), &'static str> {
+    let list = match node.get("configurations") {
+        Some(list) if has_keys(node, 1).is_ok() => list,
+        _ => return Err(GROUP),
     };
-    if has_keys(node, 1).is_err() {
-        return Err(Halt::Expected(GROUP));
-    }
-    trail.enter("configurations")?;
-    let count = count_items(&list, 65);
-    let Some(mut rest) = list.items() else {
-        return Err(Halt::Expected(CONFIGURATIONS));
+    trail.enter("configurations");
+    let Some((mut rest, count)) = items_of(&list, 64) else {
+        return Err("an array of 1 to 64 configurations");
     };
-    if count < 1 || count > 64 {
-        return Err(Halt::Expected(CONFIGURATIONS));
-    }
     for number in 0..count {
         let Some(configuration) = TapeNode::next(&mut rest) else {
             break;
         };
-        trail.enter_item(number)?;
+        trail.enter_item(number);
         check_configuration(&configuration, number, is_weighted, trail)?;
         trail.leave();
     }
@@ -207,63 +167,46 @@ fn check_group(node: &TapeNode<'_, '_>, is_weighted: bool, trail: &mut Trail) ->
     Ok(())
 }
 
-/// Checks the number of groups at birth.
-fn check_born(node: &TapeNode<'_, '_>, groups: usize, trail: &mut Trail) -> Result<(), Halt> {
-    match node.get("born") {
-        Some(born) if is_from_one(&born, groups as u64) => Ok(()),
-        _ => Err(trail.expect_at("born", "a whole number from 1 to the number of groups")),
-    }
-}
-
-/// Checks the groups of a plan.
-fn check_groups(node: &TapeNode<'_, '_>, format: Format, trail: &mut Trail) -> Result<(), Halt> {
-    let Some(list) = node.get("groups") else {
-        return Err(Halt::Expected(PLAN));
+/// Checks a plan in the order in which it is read.
+pub(crate) fn check_plan(node: &TapeNode<'_, '_>, trail: &mut Trail) -> Result<(), &'static str> {
+    let Some(format) = node.get("format") else {
+        return Err(PLAN);
     };
-    let count = count_items(&list, 17);
-    let Some(mut rest) = list.items() else {
-        return Err(trail.expect_at("groups", GROUPS));
+    let (keys, shape, is_weighted) = match format.as_u64() {
+        Some(1) => (3usize, PLAN, false),
+        Some(2) => (3, PLAN, true),
+        Some(3) => (4, GROWING_PLAN, true),
+        _ => return Err(trail.expect_at("format", "1, 2 or 3")),
     };
-    if count < 1 || count > 16 {
-        return Err(trail.expect_at("groups", GROUPS));
+    let (Some(lal), Some(groups)) = (node.get("lal"), node.get("groups")) else {
+        return Err(shape);
+    };
+    let born = node.get("born");
+    if has_keys(node, keys).is_err() || (keys == 4 && born.is_none()) {
+        return Err(shape);
     }
-    if format == Format::Growing {
-        check_born(node, count, trail)?;
+    let is_lal = is_from_one(&lal, 10_000_000);
+    trail.require(is_lal, "lal", "a whole number from 1 to 10,000,000")?;
+    let Some((mut rest, count)) = items_of(&groups, 16) else {
+        return Err(trail.expect_at("groups", "an array of 1 to 16 groups"));
+    };
+    if let Some(born) = born {
+        let is_born = is_from_one(&born, count as u64);
+        trail.require(
+            is_born,
+            "born",
+            "a whole number from 1 to the number of groups",
+        )?;
     }
-    trail.enter("groups")?;
+    trail.enter("groups");
     for number in 0..count {
         let Some(group) = TapeNode::next(&mut rest) else {
             break;
         };
-        trail.enter_item(number)?;
-        check_group(&group, format.is_weighted(), trail)?;
+        trail.enter_item(number);
+        check_group(&group, is_weighted, trail)?;
         trail.leave();
     }
     trail.leave();
     Ok(())
-}
-
-/// Checks a plan in the order in which it is read.
-pub(crate) fn check_plan(node: &TapeNode<'_, '_>, trail: &mut Trail) -> Result<(), Halt> {
-    let Some(format) = node.get("format") else {
-        return Err(Halt::Expected(PLAN));
-    };
-    let Some(format) = format_of(&format) else {
-        return Err(trail.expect_at("format", "1, 2 or 3"));
-    };
-    let (keys, shape) = match format {
-        Format::Plain | Format::Weighted => (3usize, PLAN),
-        Format::Growing => (4, GROWING_PLAN),
-    };
-    let has_born = format != Format::Growing || node.get("born").is_some();
-    if has_keys(node, keys).is_err() || !has_born || node.get("groups").is_none() {
-        return Err(Halt::Expected(shape));
-    }
-    let Some(lal) = node.get("lal") else {
-        return Err(Halt::Expected(shape));
-    };
-    if !is_from_one(&lal, 10_000_000) {
-        return Err(trail.expect_at("lal", "a whole number from 1 to 10,000,000"));
-    }
-    check_groups(node, format, trail)
 }

@@ -3,19 +3,10 @@
 use crate::configurations::plan_facts;
 use crate::facts::ConfigurationFacts;
 use crate::placing::repeated_key;
-use crate::text_place::{FaultPlace, fault_place, position};
+use crate::text_place::{FaultPlace, Position, fault_place};
 use plan::{Plan, PlanFault};
 use serde::Serialize;
 use std::alloc::{AllocError, Global};
-
-/// A place in a text.
-#[derive(Clone, Copy, Serialize)]
-struct TextPosition {
-    /// The line, from 1.
-    line: usize,
-    /// The column, from 1, in bytes.
-    column: usize,
-}
 
 /// What is known of a plan's text.
 #[derive(Drop, Serialize)]
@@ -25,21 +16,12 @@ struct Report<'a> {
     /// The line of `check`.
     verdict: &'a str,
     /// The first key that its object has already.
-    repeated_key: Option<TextPosition>,
+    repeated_key: Option<Position>,
     /// The first fault of the text, if it isn't a plan's.
     fault: Option<FaultPlace>,
     /// The configurations of all groups. There is none if the plan has a fault of its text, its parents or its fresh
     /// members.
     configurations: Vec<ConfigurationFacts>,
-}
-
-/// Returns the place of the first key that its object has already.
-fn repeated(alloc: Global, text: &[u8]) -> Result<Option<TextPosition>, AllocError> {
-    let Some(offset) = repeated_key(alloc, text)? else {
-        return Ok(None);
-    };
-    let (line, column) = position(text, offset);
-    Ok(Some(TextPosition { line, column }))
 }
 
 /// Returns what is known of the configurations of a plan, nothing if its parents or fresh members have a fault.
@@ -57,17 +39,6 @@ pub fn known_configurations(
     }
 }
 
-/// Writes a report as one line.
-fn line_of(alloc: Global, report: &Report<'_>) -> Result<String, AllocError> {
-    match serde_json::to_string(alloc, report) {
-        Ok(mut line) => {
-            line.push_str("\n")?;
-            Ok(line)
-        }
-        Err(_) => Err(AllocError),
-    }
-}
-
 /// Returns one line of JSON about a text: the status and the line of `check`, and the configurations of its plan or the
 /// place of its fault.
 ///
@@ -80,19 +51,20 @@ pub fn json_report(
     status: u8,
     verdict: &str,
 ) -> Result<String, AllocError> {
-    let fault = match &configurations {
-        Some(_) => None,
-        None => fault_place(alloc, text)?,
+    let (fault, configurations) = match configurations {
+        Some(configurations) => (None, configurations),
+        None => (fault_place(alloc, text)?, Vec::new(alloc)),
     };
     let report = Report {
         status,
         verdict: verdict.trim_end(),
-        repeated_key: repeated(alloc, text)?,
+        repeated_key: repeated_key(alloc, text)?,
         fault,
-        configurations: match configurations {
-            Some(configurations) => configurations,
-            None => Vec::new(alloc),
-        },
+        configurations,
     };
-    line_of(alloc, &report)
+    let Ok(mut line) = serde_json::to_string(alloc, &report) else {
+        return Err(AllocError);
+    };
+    line.push_str("\n")?;
+    Ok(line)
 }

@@ -1,6 +1,7 @@
 //! The script of a step: what an operator does, with comments.
 
-use crate::wording::{add_expr, add_members};
+use crate::facts::Members;
+use crate::wording::add_expr;
 use plan::CheckedPlan;
 use quorum_expr::{Expr, MEMBERS, MemberSet, holds};
 use std::alloc::{AllocError, Global};
@@ -57,31 +58,17 @@ impl Script {
         Ok(self.lines)
     }
 
-    /// Appends a line.
-    fn add(&mut self, line: &str) -> Result<u64, AllocError> {
-        self.text.push_str(line)?;
+    /// Delivers the first message of a line to a member.
+    fn deliver(&mut self, group: u8, member: u8, line: u64) -> Result<u64, AllocError> {
+        write!(self.text, "deliver {group} {member} {line}.1")?;
         self.end()
     }
 
-    /// Appends a comment with members.
-    fn add_comment(
-        &mut self,
-        before: &str,
-        set: MemberSet,
-        behind: &str,
-    ) -> Result<(), AllocError> {
-        self.text.push_str(before)?;
-        add_members(&mut self.text, set)?;
-        self.add(behind)?;
-        Ok(())
-    }
-
     /// Delivers the first message of a line to each member of a set.
-    fn deliver(&mut self, group: u8, to: MemberSet, line: u64) -> Result<(), AllocError> {
+    fn deliver_each(&mut self, group: u8, to: MemberSet, line: u64) -> Result<(), AllocError> {
         for member in 0..MEMBERS {
             if to.contains(member) {
-                write!(self.text, "deliver {group} {member} {line}.1")?;
-                self.end()?;
+                self.deliver(group, member, line)?;
             }
         }
         Ok(())
@@ -89,27 +76,23 @@ impl Script {
 
     /// Lets a new member become whole by the copies of those that are.
     fn hydrate(&mut self, step: &Step, member: u8, advance: u64) -> Result<(), AllocError> {
-        let (group, kept) = (step.group, step.kept);
+        let (group, kept) = (step.group, Members(step.kept));
         write!(
             self.text,
-            "# The StepTo goes to member {member}, which asks for copies: "
+            "# The StepTo goes to member {member}, which asks for copies: {kept} send them, and it becomes whole."
         )?;
-        self.add_comment("", kept, " send them, and it becomes whole.")?;
-        write!(self.text, "deliver {group} {member} {advance}.1")?;
-        let asked = self.end()?;
-        let first = self.lines.saturating_add(1);
-        self.deliver(group, kept, asked)?;
-        let behind = self.lines.saturating_add(1);
-        for copy in first..behind {
-            write!(self.text, "deliver {group} {member} {copy}.1")?;
-            self.end()?;
+        self.end()?;
+        let asked = self.deliver(group, member, advance)?;
+        self.deliver_each(group, step.kept, asked)?;
+        for copy in asked..self.lines {
+            self.deliver(group, member, copy.saturating_add(1))?;
         }
         write!(self.text, "hydrate {group} {member}")?;
         self.end()?;
         Ok(())
     }
 
-    /// Appends what is said of a step, and the line that advances the group.
+    /// Appends what is said of a step, and the line that advances the group. Returns its number.
     fn advance(&mut self, step: &Step, read: &Expr<Global>) -> Result<u64, AllocError> {
         let (group, number, parent) = (step.group, step.number, step.parent);
         write!(
@@ -125,73 +108,40 @@ impl Script {
         self.end()
     }
 
-    /// Lets the writer learn of a step.
-    fn refresh(&mut self) -> Result<(), AllocError> {
-        self.add("# The writer learns of the step.")?;
-        let view = self.add("refresh 1")?;
-        write!(self.text, "take 1 {view}.1")?;
-        self.end()?;
-        Ok(())
-    }
-
-    /// Appends the lines of a step to a configuration with this read expression.
+    /// Appends the lines of a step to a configuration with this read expression. At last the writer learns of it.
     fn add_step(&mut self, step: &Step, read: &Expr<Global>) -> Result<(), AllocError> {
         let advance = self.advance(step, read)?;
-        self.add_comment("# The StepTo goes to the members ", step.kept, ".")?;
-        self.deliver(step.group, step.kept, advance)?;
+        let kept = Members(step.kept);
+        write!(self.text, "# The StepTo goes to the members {kept}.")?;
+        self.end()?;
+        self.deliver_each(step.group, step.kept, advance)?;
         for member in 0..MEMBERS {
             if step.fresh.contains(member) {
                 self.hydrate(step, member, advance)?;
             }
         }
-        self.refresh()
+        self.text.push_str("# The writer learns of the step.")?;
+        self.end()?;
+        self.text.push_str("refresh 1")?;
+        let view = self.end()?;
+        write!(self.text, "take 1 {view}.1")?;
+        self.end()?;
+        Ok(())
     }
-}
 
-/// The numbers of the configurations from the one behind a root to a given one.
-#[derive(Clone, Copy)]
-struct Path {
-    numbers: [u8; STEPS],
-    first: usize,
-}
-
-/// Returns the path to a configuration.
-fn path_to(plan: &CheckedPlan, group: u8, number: u8) -> Path {
-    let mut path = Path {
-        numbers: [0; STEPS],
-        first: STEPS,
-    };
-    let mut at = number;
-    for _ in 0..STEPS {
-        let parent = match plan.configuration(group, at) {
-            Some(configuration) => configuration.parent,
-            None => None,
-        };
-        let Some(parent) = parent else {
-            return path;
-        };
-        let place = path.first.saturating_sub(1);
-        if place < STEPS {
-            path.numbers[place] = at;
+    /// Lets the groups behind those at birth join, up to a given one.
+    fn add_growth(&mut self, born: u8, group: u8) -> Result<(), AllocError> {
+        if group < born {
+            return Ok(());
         }
-        path.first = place;
-        at = u8::try_from(parent).unwrap_or(0);
+        write!(self.text, "# Group {group} joins the volume.")?;
+        self.end()?;
+        for _ in born..=group {
+            self.text.push_str("grow")?;
+            self.end()?;
+        }
+        Ok(())
     }
-    path
-}
-
-/// Lets the groups behind those at birth join, up to a given one.
-fn add_growth(script: &mut Script, plan: &CheckedPlan, group: u8) -> Result<(), AllocError> {
-    let born = plan.born();
-    if group < born {
-        return Ok(());
-    }
-    write!(script.text, "# Group {group} joins the volume.")?;
-    script.end()?;
-    for _ in born..=group {
-        script.add("grow")?;
-    }
-    Ok(())
 }
 
 /// Appends the lines of a step between two configurations of a group.
@@ -202,10 +152,8 @@ fn add_step_between(
     parent: u8,
     number: u8,
 ) -> Result<(), NoStep> {
-    let Some(before) = plan.configuration(group, parent) else {
-        return Err(NoStep::NotInPlan);
-    };
-    let Some(child) = plan.configuration(group, number) else {
+    let before = plan.configuration(group, parent);
+    let (Some(before), Some(child)) = (before, plan.configuration(group, number)) else {
         return Err(NoStep::NotInPlan);
     };
     let kept = child.members.intersection(before.members);
@@ -223,14 +171,27 @@ fn add_step_between(
     Ok(())
 }
 
-/// Appends the lines of the steps of a path.
-fn add_path(script: &mut Script, plan: &CheckedPlan, group: u8, path: Path) -> Result<(), NoStep> {
-    let mut parent = 0u8;
-    for number in path.numbers.iter().skip(path.first) {
-        add_step_between(script, plan, group, parent, *number)?;
-        parent = *number;
+/// Returns the numbers of the configurations on the way from one back to a root, without the root.
+fn path_from(
+    alloc: Global,
+    plan: &CheckedPlan,
+    group: u8,
+    number: u8,
+) -> Result<Vec<u8>, AllocError> {
+    let mut path = Vec::new(alloc);
+    let mut at = number;
+    for _ in 0..STEPS {
+        let parent = match plan.configuration(group, at) {
+            Some(configuration) => configuration.parent,
+            None => None,
+        };
+        let Some(parent) = parent else {
+            break;
+        };
+        path.push(at)?;
+        at = u8::try_from(parent).unwrap_or(0);
     }
-    Ok(())
+    Ok(path)
 }
 
 /// Returns the script of a step of a group to a configuration, over a volume that was just born: the steps that lead to
@@ -248,15 +209,19 @@ pub fn step_script(
     if plan.configuration(group, configuration).is_none() {
         return Err(NoStep::NotInPlan);
     }
-    let path = path_to(plan, group, configuration);
-    if path.first >= STEPS {
+    let path = path_from(alloc, plan, group, configuration)?;
+    if path.is_empty() {
         return Err(NoStep::IsRoot);
     }
     let mut script = Script {
         text: String::new(alloc),
         lines: 0,
     };
-    add_growth(&mut script, plan, group)?;
-    add_path(&mut script, plan, group, path)?;
+    script.add_growth(plan.born(), group)?;
+    let mut parent = 0u8;
+    for number in path.iter().rev() {
+        add_step_between(&mut script, plan, group, parent, *number)?;
+        parent = *number;
+    }
     Ok(script.text)
 }

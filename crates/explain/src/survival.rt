@@ -94,18 +94,18 @@ pub(crate) fn quorum_facts(
     let mut expression = String::new(alloc);
     add_expr(&mut expression, expr)?;
     let survival = survival_of(alloc, expr, members, budget / nodes(expr))?;
-    let blocks = blocks_of(alloc, expr, members)?;
+    let (survives, stopped_by) = match survival.smallest {
+        Some(smallest) => (
+            Some(smallest.len().saturating_sub(1)),
+            Some(Members(smallest)),
+        ),
+        None => (None, None),
+    };
     Ok(QuorumFacts {
         expression,
-        survives: match survival.smallest {
-            Some(smallest) => Some(smallest.len().saturating_sub(1)),
-            None => None,
-        },
-        stopped_by: match survival.smallest {
-            Some(smallest) => Some(Members(smallest)),
-            None => None,
-        },
+        survives,
+        stopped_by,
         single: Members(survival.alone),
-        blocks,
+        blocks: blocks_of(alloc, expr, members)?,
     })
 }

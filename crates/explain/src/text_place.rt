@@ -2,7 +2,7 @@
 
 use crate::json_walk::{LEVELS, walk_over};
 use crate::plan_place::check_plan;
-use crate::trail::{Halt, Step, Trail, add_path};
+use crate::trail::{Step, Trail};
 use json::{Reader, Scratch, Tape};
 use plan::PLAN_BYTES;
 use quorum_expr::tape_root;
@@ -24,16 +24,26 @@ pub struct FaultPlace {
     pub expected: &'static str,
 }
 
-/// Returns the number of blanks at the beginning of a text.
-fn blanks(text: &str) -> usize {
-    let mut count = 0usize;
-    for byte in text.as_bytes() {
+/// A position in a text.
+#[derive(Clone, Copy, Serialize)]
+pub(crate) struct Position {
+    /// The line, from 1.
+    pub line: usize,
+    /// The column, from 1, in bytes.
+    pub column: usize,
+}
+
+/// Returns the offset of the first byte from an offset on that isn't a blank.
+fn behind_blanks(text: &str, at: usize) -> usize {
+    let rest = text.get(at..).unwrap_or("");
+    let mut end = at;
+    for byte in rest.as_bytes() {
         match byte {
-            b' ' | b'\t' | b'\n' | b'\r' => count = count.saturating_add(1),
-            _ => return count,
+            b' ' | b'\t' | b'\n' | b'\r' => end = end.saturating_add(1),
+            _ => return end,
         }
     }
-    count
+    end
 }
 
 /// Returns the offset of the value at a key of the object that a text begins with: of the last one, if the key is
@@ -78,11 +88,9 @@ fn offset_of_item(
 
 /// Returns the offset of the value at a path of a text, or of the last value on the path that is there.
 fn offset_of(text: &str, steps: &[Step], scratch: &mut Scratch) -> Result<usize, AllocError> {
-    let mut at = blanks(text);
+    let mut at = behind_blanks(text, 0);
     for step in steps {
-        let Some(rest) = text.get(at..) else {
-            return Ok(at);
-        };
+        let rest = text.get(at..).unwrap_or("");
         let found = match step {
             Step::Key(key) => offset_of_key(rest, key, scratch)?,
             Step::Item(item) => offset_of_item(rest, *item, scratch)?,
@@ -90,29 +98,27 @@ fn offset_of(text: &str, steps: &[Step], scratch: &mut Scratch) -> Result<usize,
         let Some(offset) = found else {
             return Ok(at);
         };
-        at = at.saturating_add(offset);
-        at = at.saturating_add(blanks(text.get(at..).unwrap_or("")));
+        at = behind_blanks(text, at.saturating_add(offset));
     }
     Ok(at)
 }
 
-/// Returns the line and the column of an offset in a text, both from 1.
-pub(crate) fn position(text: &[u8], offset: usize) -> (usize, usize) {
+/// Returns the position of an offset in a text.
+pub(crate) fn position_at(text: &[u8], offset: usize) -> Position {
     let (mut line, mut column) = (1usize, 1usize);
     for byte in text.iter().take(offset) {
+        column = column.saturating_add(1);
         if *byte == b'\n' {
             line = line.saturating_add(1);
             column = 1;
-        } else {
-            column = column.saturating_add(1);
         }
     }
-    (line, column)
+    Position { line, column }
 }
 
 /// Returns the place at an offset of a text.
 fn place_at(alloc: Global, text: &[u8], offset: usize, expected: &'static str) -> FaultPlace {
-    let (line, column) = position(text, offset);
+    let Position { line, column } = position_at(text, offset);
     FaultPlace {
         line,
         column,
@@ -130,10 +136,8 @@ fn syntax_place(
 ) -> Result<FaultPlace, AllocError> {
     let mut scratch = Scratch::new(alloc);
     let walked = walk_over(alloc, text, &mut scratch)?;
-    Ok(match walked.fault {
-        Some(fault) => place_at(alloc, text.as_bytes(), fault.offset, fault.expected),
-        None => place_at(alloc, text.as_bytes(), 0, otherwise),
-    })
+    let (offset, expected) = walked.fault.unwrap_or((0, otherwise));
+    Ok(place_at(alloc, text.as_bytes(), offset, expected))
 }
 
 /// Returns the place of the first fault of a text that is JSON, `None` if it is a plan.
@@ -146,18 +150,14 @@ fn value_place(
         let otherwise = "numbers within the range of 64-bit floats";
         return Ok(Some(syntax_place(alloc, text, otherwise)?));
     };
-    let mut trail = Trail {
-        steps: Vec::new(alloc),
-    };
-    let expected = match check_plan(&root, &mut trail) {
-        Ok(()) => return Ok(None),
-        Err(Halt::Expected(expected)) => expected,
-        Err(Halt::NoMemory) => return Err(AllocError),
+    let mut trail = Trail::new();
+    let Err(expected) = check_plan(&root, &mut trail) else {
+        return Ok(None);
     };
     let mut scratch = Scratch::new(alloc);
-    let offset = offset_of(text, &trail.steps, &mut scratch)?;
+    let offset = offset_of(text, trail.steps(), &mut scratch)?;
     let mut place = place_at(alloc, text.as_bytes(), offset, expected);
-    add_path(&mut place.path, &trail.steps)?;
+    write!(place.path, "{trail}")?;
     Ok(Some(place))
 }
 

@@ -2,8 +2,10 @@
 
 ghost use Rattle.std.specs.Prelude.{◌≤◌};
 
+use crate::facts::Members;
 use quorum_expr::{Expr, MEMBERS, MemberSet};
 use std::alloc::{AllocError, Global};
+use std::fmt;
 
 /// Returns the last member of the run of members that begins with this one.
 fn last_of_run(members: MemberSet, first: u8) -> u8 {
@@ -22,40 +24,55 @@ fn begins_run(members: MemberSet, member: u8) -> bool {
     members.contains(member) && (member == 0 || !members.contains(member.saturating_sub(1)))
 }
 
-/// Appends the members of a set in growing order, runs as `0-5`.
-pub fn add_members(text: &mut String, members: MemberSet) -> Result<(), AllocError> {
-    let mut is_first = true;
-    for member in 0..MEMBERS {
-        if begins_run(members, member) {
-            if !is_first {
-                text.push_str(" ")?;
-            }
-            is_first = false;
-            let last = last_of_run(members, member);
-            if last == member {
-                write!(text, "{member}")?;
-            } else {
-                write!(text, "{member}-{last}")?;
+/// Writes the members in growing order, runs as `0-5`.
+impl fmt::Display for Members {
+    fn fmt<W: fmt::Write>(&self, f: &mut fmt::Formatter<W>) -> fmt::Result {
+        let mut space = "";
+        for member in 0..MEMBERS {
+            if begins_run(self.0, member) {
+                let last = last_of_run(self.0, member);
+                write!(f, "{space}{member}")?;
+                if last > member {
+                    write!(f, "-{last}")?;
+                }
+                space = " ";
             }
         }
+        Ok(())
     }
-    Ok(())
 }
 
-/// Appends the members of a set in braces, one by one.
-pub fn add_set(text: &mut String, members: MemberSet) -> Result<(), AllocError> {
-    text.push_str("{")?;
-    let mut is_first = true;
-    for member in 0..MEMBERS {
-        if members.contains(member) {
-            if !is_first {
-                text.push_str(" ")?;
-            }
-            is_first = false;
-            write!(text, "{member}")?;
-        }
+/// Appends the members of a set in growing order, runs as `0-5`.
+pub fn add_members(text: &mut String, members: MemberSet) -> Result<(), AllocError> {
+    let members = Members(members);
+    write!(text, "{members}")
+}
+
+/// Appends these words and the members of a set, unless it has none.
+pub fn add_kind(text: &mut String, word: &str, members: Members) -> Result<(), AllocError> {
+    if members.0.is_empty() {
+        return Ok(());
     }
-    text.push_str("}")
+    write!(text, "{word}{members}")
+}
+
+/// The members of a set, written in braces one by one.
+#[derive(Clone, Copy)]
+pub(crate) struct Each(pub Members);
+
+impl fmt::Display for Each {
+    fn fmt<W: fmt::Write>(&self, f: &mut fmt::Formatter<W>) -> fmt::Result {
+        write!(f, "{{")?;
+        let mut space = "";
+        let set = self.0.0;
+        for member in 0..MEMBERS {
+            if set.contains(member) {
+                write!(f, "{space}{member}")?;
+                space = " ";
+            }
+        }
+        write!(f, "}}")
+    }
 }
 
 /// Returns the set of a list of different members of weight 1, or `None` for any other list.
@@ -98,8 +115,8 @@ pub fn add_expr(text: &mut String, expr: &Expr<Global>) -> Result<(), AllocError
         Expr::Member(member) => write!(text, "{member}"),
         Expr::KOf { k, of } => {
             if let Some(members) = plain_members(of) {
-                write!(text, "any {k} of ")?;
-                return add_members(text, members);
+                let members = Members(members);
+                return write!(text, "any {k} of {members}");
             }
             write!(text, "{k} of {{")?;
             let mut is_first = true;
