@@ -5,7 +5,7 @@ use std::alloc::AllocError;
 use world::{Event, Order};
 
 /// A kind of message.
-#[derive(Clone, Copy)]
+#[derive(Clone, Copy, Debug)]
 pub(crate) enum Kind {
     View,
     StepTo,
@@ -22,24 +22,6 @@ pub(crate) enum Kind {
 }
 
 impl Kind {
-    /// Returns the kind's name.
-    pub fn name(self) -> &'static str {
-        match self {
-            Kind::View => "View",
-            Kind::StepTo => "StepTo",
-            Kind::Fence => "Fence",
-            Kind::Report => "Report",
-            Kind::Install => "Install",
-            Kind::Write => "Write",
-            Kind::Gossip => "Gossip",
-            Kind::Ack => "Ack",
-            Kind::CopyAsk => "CopyAsk",
-            Kind::CopyReport => "CopyReport",
-            Kind::PageAsk => "PageAsk",
-            Kind::Page => "Page",
-        }
-    }
-
     /// Returns the class of the arrows of such messages.
     pub fn class(self) -> &'static str {
         match self {
@@ -152,6 +134,7 @@ pub(crate) enum Named {
 
 /// Returns the actor of an event, what it does, and the message that it names. What depends on the run is missing.
 fn event_act(event: &Event) -> (Actor, Act, Named) {
+    let takes = Act::Takes(None);
     let (actor, act) = match event {
         Event::Assign => (Actor::Authority, Act::Assign),
         Event::Advance {
@@ -160,9 +143,7 @@ fn event_act(event: &Event) -> (Actor, Act, Named) {
         } => (Actor::Authority, Act::Advance(*group, *configuration)),
         Event::Refresh { volume } => (Actor::Authority, Act::Refresh(*volume)),
         Event::Grow => (Actor::Authority, Act::Grow),
-        Event::Issue { volume, changes } => {
-            (Actor::Client(*volume), Act::Issue(0, changes.len()))
-        }
+        Event::Issue { volume, changes } => (Actor::Client(*volume), Act::Issue(0, changes.len())),
         Event::Cut { volume } => (Actor::Client(*volume), Act::Cut(None)),
         Event::Open { volume } => (Actor::Client(*volume), Act::Open),
         Event::Resend { volume, lsn } => (Actor::Client(*volume), Act::Resend(*lsn)),
@@ -175,26 +156,20 @@ fn event_act(event: &Event) -> (Actor, Act, Named) {
         Event::Restart { group, member } => (Actor::Node(*group, *member), Act::Restart),
         Event::Offer { group, member, lsn } => (Actor::Node(*group, *member), Act::Offer(*lsn)),
         Event::Take { volume, message } => {
-            return (
-                Actor::Client(*volume),
-                Act::Takes(None),
-                Named::Number(*message),
-            );
+            return (Actor::Client(*volume), takes, Named::Number(*message));
         }
         Event::Deliver {
             group,
             member,
             message,
-        } => {
-            let actor = Actor::Node(*group, *member);
-            return (actor, Act::Takes(None), Named::Number(*message));
-        }
+        } => return (Actor::Node(*group, *member), takes, Named::Number(*message)),
     };
     (actor, act, Named::Nothing)
 }
 
 /// Returns the actor of an order, what it does, and the message that it names. What depends on the run is missing.
 pub(crate) fn order_act(order: &Order) -> (Actor, Act, Named) {
+    let takes = Act::Takes(None);
     match order {
         Order::Event(event) => event_act(event),
         Order::DeliverFrom {
@@ -202,120 +177,56 @@ pub(crate) fn order_act(order: &Order) -> (Actor, Act, Named) {
             member,
             event,
             place,
-        } => {
-            let actor = Actor::Node(*group, *member);
-            (actor, Act::Takes(None), Named::From(*event, *place))
-        }
+        } => (
+            Actor::Node(*group, *member),
+            takes,
+            Named::From(*event, *place),
+        ),
         Order::TakeFrom {
             volume,
             event,
             place,
-        } => {
-            let actor = Actor::Client(*volume);
-            (actor, Act::Takes(None), Named::From(*event, *place))
-        }
+        } => (Actor::Client(*volume), takes, Named::From(*event, *place)),
     }
 }
 
-/// An act in words: a word and a number, and another word and a number.
-#[derive(Clone, Copy)]
-struct Words {
-    first: &'static str,
-    number: Option<u64>,
-    second: &'static str,
-    other: Option<u64>,
-}
-
-/// Returns words without a number.
-fn plain(first: &'static str) -> Words {
-    Words {
-        first,
-        number: None,
-        second: "",
-        other: None,
-    }
-}
-
-/// Returns words with a number.
-fn numbered(first: &'static str, number: u64) -> Words {
-    Words {
-        number: Some(number),
-        ..plain(first)
-    }
-}
-
-/// Returns words with two numbers.
-fn paired(first: &'static str, number: u64, second: &'static str, other: u64) -> Words {
-    Words {
-        first,
-        number: Some(number),
-        second,
-        other: Some(other),
-    }
-}
-
-/// Returns a message in words.
-fn sent_words(sent: Sent) -> Words {
-    let name = sent.kind.name();
-    if sent.lsn > 0 {
-        numbered(name, sent.lsn)
-    } else if sent.made > 1 {
-        paired(name, sent.place, " of", sent.made)
+/// Appends a message in words.
+fn add_sent(svg: &mut String, sent: Sent) -> Result<(), AllocError> {
+    let (kind, lsn, place, made) = (sent.kind, sent.lsn, sent.place, sent.made);
+    if lsn > 0 {
+        write!(svg, "{kind:?} {lsn}")
+    } else if made > 1 {
+        write!(svg, "{kind:?} {place} of {made}")
     } else {
-        plain(name)
-    }
-}
-
-/// Returns the records that a writer makes in words.
-fn issue_words(first: u64, count: usize) -> Words {
-    match (first, count) {
-        (0, _) => plain("issue"),
-        (_, 0..=1) => numbered("issue LSN", first),
-        _ => {
-            let last = first.saturating_add(count as u64).saturating_sub(1);
-            paired("issue LSN", first, " to", last)
-        }
-    }
-}
-
-/// Returns an act in words.
-fn words_of(act: Act) -> Words {
-    match act {
-        Act::Takes(Some(sent)) => sent_words(sent),
-        Act::Takes(None) => plain("no message"),
-        Act::Assign => plain("assign"),
-        Act::Advance(group, configuration) => paired(
-            "advance group",
-            u64::from(group),
-            " to configuration",
-            u64::from(configuration),
-        ),
-        Act::Refresh(volume) => numbered("refresh", u64::from(volume)),
-        Act::Grow => plain("grow"),
-        Act::Issue(first, count) => issue_words(first, count),
-        Act::Cut(Some((cut, start))) => paired("cut", cut, ", start", start),
-        Act::Cut(None) => plain("cut"),
-        Act::Open => plain("open"),
-        Act::Resend(lsn) => numbered("resend LSN", lsn),
-        Act::Read(group, block) => paired(
-            "read block",
-            u64::from(block),
-            " of group",
-            u64::from(group),
-        ),
-        Act::Hydrate => plain("hydrate"),
-        Act::Restart => plain("restart"),
-        Act::Offer(lsn) => numbered("offer LSN", lsn),
+        write!(svg, "{kind:?}")
     }
 }
 
 /// Appends an act in words.
 pub(crate) fn add_act(svg: &mut String, act: Act) -> Result<(), AllocError> {
-    let words = words_of(act);
-    let (first, second) = (words.first, words.second);
-    match (words.number, words.other) {
-        (Some(number), Some(other)) => write!(svg, "{first} {number}{second} {other}"),
-        (Some(number), None) => write!(svg, "{first} {number}"),
-        _ => svg.push_str(first),
+    match act {
+        Act::Takes(Some(sent)) => add_sent(svg, sent),
+        Act::Takes(None) => svg.push_str("no message"),
+        Act::Assign => svg.push_str("assign"),
+        Act::Advance(group, number) => write!(
+            svg,
+            "advance group {group} to configuration {number}"
+        ),
+        Act::Refresh(volume) => write!(svg, "refresh {volume}"),
+        Act::Grow => svg.push_str("grow"),
+        Act::Issue(0, _) => svg.push_str("issue"),
+        Act::Issue(first, 0..=1) => write!(svg, "issue LSN {first}"),
+        Act::Issue(first, count) => {
+            let last = first.saturating_add(count as u64).saturating_sub(1);
+            write!(svg, "issue LSN {first} to {last}")
+        }
+        Act::Cut(Some((cut, start))) => write!(svg, "cut {cut}, start {start}"),
+        Act::Cut(None) => svg.push_str("cut"),
+        Act::Open => svg.push_str("open"),
+        Act::Resend(lsn) => write!(svg, "resend LSN {lsn}"),
+        Act::Read(group, block) => write!(svg, "read block {block} of group {group}"),
+        Act::Hydrate => svg.push_str("hydrate"),
+        Act::Restart => svg.push_str("restart"),
+        Act::Offer(lsn) => write!(svg, "offer LSN {lsn}"),
     }
 }

@@ -43,7 +43,7 @@ pub(crate) struct Card {
 }
 
 /// A configuration's place in its group's tree.
-#[derive(Clone, Copy)]
+#[derive(Clone, Copy, Default)]
 pub(crate) struct Place {
     /// The number of its ancestors.
     pub depth: usize,
@@ -88,12 +88,7 @@ fn card_of(this: &ConfigurationFacts, lines: (usize, usize), words: usize) -> Ca
         is_good: has_good_step && is_certified(&this.meets),
         lines,
         height: card_height(members, words),
-        place: Place {
-            depth: 0,
-            row: 0,
-            rows: 0,
-            taken: 0,
-        },
+        place: Place::default(),
         corner: (0, 0),
     }
 }

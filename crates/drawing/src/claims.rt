@@ -2,46 +2,26 @@
 
 use crate::sheet::{Sheet, Style, clipped};
 use explain::{
-    BlockFacts, ClaimFacts, ClaimState, ConfigurationFacts, Members, QuorumFacts, StepFacts,
-    WitnessFacts, add_members,
+    BlockFacts, ClaimFacts, ClaimState, ConfigurationFacts, QuorumFacts, StepFacts, WitnessFacts,
+    add_kind,
 };
 use plan::claim_name;
 use std::alloc::AllocError;
 
 /// Adds how many members an expression can lose, and a smallest set that it can't lose.
-fn add_survives(sheet: &mut Sheet, survives: u8, smallest: Members) -> Result<(), AllocError> {
-    let begun = match survives {
-        0 => sheet.text.push_str("survives no loss; that of {"),
-        1 => sheet.text.push_str("survives any one loss; that of {"),
-        most => write!(sheet.text, "survives any {most} losses; that of {{"),
-    };
-    begun?;
-    add_members(&mut sheet.text, smallest.0)?;
-    sheet.text.push_str("} stops it")?;
-    sheet.end(Style::Detail)
-}
-
-/// Adds what is known of how many members an expression can lose.
 fn add_smallest(sheet: &mut Sheet, quorum: &QuorumFacts) -> Result<(), AllocError> {
-    match (quorum.survives, quorum.stopped_by) {
-        (Some(survives), Some(smallest)) => add_survives(sheet, survives, smallest),
-        _ => {
-            sheet
-                .text
-                .push_str("how many losses it survives is unknown")?;
-            sheet.end(Style::Detail)
-        }
+    let (Some(survives), Some(smallest)) = (quorum.survives, quorum.stopped_by) else {
+        sheet
+            .text
+            .push_str("how many losses it survives is unknown")?;
+        return sheet.end(Style::Detail);
+    };
+    match survives {
+        0 => sheet.text.push_str("survives no loss")?,
+        1 => sheet.text.push_str("survives any one loss")?,
+        most => write!(sheet.text, "survives any {most} losses")?,
     }
-}
-
-/// Adds which members alone stop an expression, if there are several.
-fn add_single(sheet: &mut Sheet, single: Members) -> Result<(), AllocError> {
-    if single.0.len() < 2 {
-        return Ok(());
-    }
-    sheet.text.push_str("the loss of any one of {")?;
-    add_members(&mut sheet.text, single.0)?;
-    sheet.text.push_str("} stops it")?;
+    write!(sheet.text, "; that of {{{smallest}}} stops it")?;
     sheet.end(Style::Detail)
 }
 
@@ -56,39 +36,44 @@ fn add_blocks(sheet: &mut Sheet, blocks: &[BlockFacts], survived: bool) -> Resul
                 _ => "; all of ",
             })?;
             is_first = false;
-            add_members(&mut sheet.text, block.members.0)?;
+            write!(sheet.text, "{}", block.members)?;
         }
     }
     sheet.end(Style::Detail)
 }
 
-/// Adds what an expression asks for and survives.
+/// Adds what an expression asks for and survives, and which members alone stop it, if there are several.
 fn add_quorum(sheet: &mut Sheet, word: &str, quorum: &QuorumFacts) -> Result<(), AllocError> {
     let expression = clipped(quorum.expression.as_str());
     write!(sheet.text, "{word} {expression}")?;
     sheet.end(Style::Plain)?;
     add_smallest(sheet, quorum)?;
-    add_single(sheet, quorum.single)?;
+    if quorum.single.0.len() >= 2 {
+        write!(
+            sheet.text,
+            "the loss of any one of {{{}}} stops it",
+            quorum.single
+        )?;
+        sheet.end(Style::Detail)?;
+    }
     add_blocks(sheet, quorum.blocks.as_slice(), true)?;
     add_blocks(sheet, quorum.blocks.as_slice(), false)
 }
 
 /// Adds the two sets that show that a claim fails.
 fn add_witness(sheet: &mut Sheet, is_step: bool, witness: &WitnessFacts) -> Result<(), AllocError> {
-    let (begin, middle, end) = if is_step {
-        (
-            "✗ step fails: read {",
-            "} contains no read set of the parent, each of which has one of {",
-            "}",
-        )
+    let WitnessFacts { read, other } = *witness;
+    if is_step {
+        write!(
+            sheet.text,
+            "✗ step fails: read {{{read}}} contains no read set of the parent, each of which has one of {{{other}}}"
+        )?;
     } else {
-        ("✗ meets fails: read {", "} and write {", "} are disjoint")
-    };
-    sheet.text.push_str(begin)?;
-    add_members(&mut sheet.text, witness.read.0)?;
-    sheet.text.push_str(middle)?;
-    add_members(&mut sheet.text, witness.other.0)?;
-    sheet.text.push_str(end)?;
+        write!(
+            sheet.text,
+            "✗ meets fails: read {{{read}}} and write {{{other}}} are disjoint"
+        )?;
+    }
     sheet.end(Style::Bad)
 }
 
@@ -111,15 +96,6 @@ fn add_claim(sheet: &mut Sheet, is_step: bool, claim: &ClaimFacts) -> Result<(),
 /// Returns whether a claim is certified.
 pub(crate) fn is_certified(claim: &ClaimFacts) -> bool {
     claim.state == ClaimState::Certified
-}
-
-/// Adds these words and the members of a set, unless it has none.
-fn add_kind(text: &mut String, word: &str, members: Members) -> Result<(), AllocError> {
-    if members.0.is_empty() {
-        return Ok(());
-    }
-    text.push_str(word)?;
-    add_members(text, members.0)
 }
 
 /// Adds a step: which members it adds and drops, whether it is certified, and whether it must never be taken.

@@ -38,73 +38,23 @@ fn copy_of(alloc: Global, order: &Order) -> Result<Order, AllocError> {
     })
 }
 
-/// Returns copies of orders.
-fn copies_of(alloc: Global, orders: &[Order]) -> Result<Vec<Order>, AllocError> {
-    let mut copies = Vec::new(alloc);
-    for order in orders {
-        copies.push(copy_of(alloc, order)?)?;
-    }
-    Ok(copies)
-}
-
-/// Returns the number of the message that an order names by its event and place, 0 if there is none.
-fn number_of(results: &[Result<u32, Fault>], event: u32, place: u64) -> u64 {
-    let (before, rest) = results.split_at(results.len().min(event as usize));
-    let made = match rest.first() {
-        Some(Ok(made)) => u64::from(*made),
-        _ => 0,
-    };
-    if place == 0 || place > made {
-        return 0;
-    }
-    let mut number = place;
-    for result in before {
-        if let Ok(made) = result {
-            number = number.saturating_add(u64::from(*made));
-        }
-    }
-    number
-}
-
-/// Returns the event of an order of a run with these results.
-fn event_of(order: &Order, results: &[Result<u32, Fault>]) -> Result<Event, AllocError> {
+/// Returns the event of an order that names the message with this number.
+fn event_of(order: &Order, message: u64) -> Result<Event, AllocError> {
     match order {
         Order::Event(event) => {
             let event: &Event = event;
             event.clone()
         }
-        Order::DeliverFrom {
-            group,
-            member,
-            event,
-            place,
-        } => Ok(Event::Deliver {
+        Order::DeliverFrom { group, member, .. } => Ok(Event::Deliver {
             group: *group,
             member: *member,
-            message: number_of(results, *event, *place),
+            message,
         }),
-        Order::TakeFrom {
-            volume,
-            event,
-            place,
-        } => Ok(Event::Take {
+        Order::TakeFrom { volume, .. } => Ok(Event::Take {
             volume: *volume,
-            message: number_of(results, *event, *place),
+            message,
         }),
     }
-}
-
-/// Returns the events of orders of a run with these results.
-fn events_of(
-    alloc: Global,
-    orders: &[Order],
-    results: &[Result<u32, Fault>],
-) -> Result<Vec<Event>, AllocError> {
-    let mut events = Vec::new(alloc);
-    for order in orders {
-        events.push(event_of(order, results)?)?;
-    }
-    Ok(events)
 }
 
 /// Returns the durable point of a writer.
@@ -130,14 +80,31 @@ fn known_point(rows: &[Row], volume: u32) -> u64 {
     known
 }
 
-/// Notes in each row whether its writer's durable point has grown. Runs the events again up to each row at which it may
-/// have.
-fn note_points(
+/// Returns the outcome of a run of orders.
+pub(crate) fn outcome_of(
     alloc: Global,
     plan: &Arc<CheckedPlan>,
-    events: &[Event],
+    orders: &[Order],
+) -> Result<Outcome, Fault> {
+    let mut copies = Vec::new(alloc);
+    for order in orders {
+        copies.push(copy_of(alloc, order)?)?;
+    }
+    run_orders(alloc, plan, copies)
+}
+
+/// Notes in each row of a run whether its writer's durable point has grown. Runs the events again up to each row at
+/// which it may have.
+pub(crate) fn note_growth(
+    alloc: Global,
+    plan: &Arc<CheckedPlan>,
+    orders: &[Order],
     rows: &mut [Row],
 ) -> Result<(), Fault> {
+    let mut events = Vec::new(alloc);
+    for (order, row) in orders.iter().zip(rows.iter()) {
+        events.push(event_of(order, row.message)?)?;
+    }
     for place in 0..rows.len() {
         if let Actor::Client(volume) = rows[place].actor
             && rows[place].may_commit
@@ -151,26 +118,4 @@ fn note_points(
         }
     }
     Ok(())
-}
-
-/// Returns the outcome of a run of orders.
-pub(crate) fn outcome_of(
-    alloc: Global,
-    plan: &Arc<CheckedPlan>,
-    orders: &[Order],
-) -> Result<Outcome, Fault> {
-    let copies = copies_of(alloc, orders)?;
-    run_orders(alloc, plan, copies)
-}
-
-/// Notes in each row of a run with these results whether its writer's durable point has grown.
-pub(crate) fn note_growth(
-    alloc: Global,
-    plan: &Arc<CheckedPlan>,
-    orders: &[Order],
-    results: &[Result<u32, Fault>],
-    rows: &mut [Row],
-) -> Result<(), Fault> {
-    let events = events_of(alloc, orders, results)?;
-    note_points(alloc, plan, events.as_slice(), rows)
 }

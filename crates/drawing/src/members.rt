@@ -1,7 +1,7 @@
 //! Members as squares and in words.
 
 use crate::cards::Card;
-use explain::add_members;
+use explain::Members;
 use quorum_expr::{MEMBERS, MemberSet};
 use std::alloc::AllocError;
 
@@ -26,22 +26,6 @@ fn class_of(is_full: bool, is_fresh: bool) -> &'static str {
     }
 }
 
-/// Appends a member's square of a class.
-fn add_member(
-    svg: &mut String,
-    class: &str,
-    member: u8,
-    x: usize,
-    y: usize,
-) -> Result<(), AllocError> {
-    let (middle, base) = (x.saturating_add(11), y.saturating_add(13));
-    write!(
-        svg,
-        "<rect class=\"{class}\" x=\"{x}\" y=\"{y}\" width=\"23\" height=\"18\" rx=\"4\"/>\
-            <text class=\"number\" x=\"{middle}\" y=\"{base}\">{member}</text>\n"
-    )
-}
-
 /// Appends the squares of a configuration's members, in rows from this corner on.
 pub(crate) fn add_squares(
     svg: &mut String,
@@ -51,12 +35,16 @@ pub(crate) fn add_squares(
     let mut place = 0usize;
     for member in 0..MEMBERS {
         if card.members.contains(member) {
+            let down = (place / A_ROW).saturating_mul(PITCH.1);
             let x = corner.0.saturating_add(place % A_ROW * PITCH.0);
-            let y = corner
-                .1
-                .saturating_add((place / A_ROW).saturating_mul(PITCH.1));
+            let y = corner.1.saturating_add(down);
+            let (middle, base) = (x.saturating_add(11), y.saturating_add(13));
             let class = class_of(card.full.contains(member), card.fresh.contains(member));
-            add_member(svg, class, member, x, y)?;
+            write!(
+                svg,
+                "<rect class=\"{class}\" x=\"{x}\" y=\"{y}\" width=\"23\" height=\"18\" rx=\"4\"/>\
+                    <text class=\"number\" x=\"{middle}\" y=\"{base}\">{member}</text>\n"
+            )?;
             place = place.saturating_add(1);
         }
     }
@@ -66,14 +54,11 @@ pub(crate) fn add_squares(
 /// Appends a title with the members of a configuration in words.
 pub(crate) fn add_title(svg: &mut String, card: &Card) -> Result<(), AllocError> {
     let (group, number) = (card.group, card.number);
+    let (members, full) = (Members(card.members), Members(card.full));
     write!(
         svg,
-        "<title>group {group}, configuration {number}: members "
-    )?;
-    add_members(svg, card.members)?;
-    svg.push_str(", full ")?;
-    add_members(svg, card.full)?;
-    svg.push_str("</title>\n")
+        "<title>group {group}, configuration {number}: members {members}, full {full}</title>\n"
+    )
 }
 
 /// The legend: one square of each kind, and what it means.

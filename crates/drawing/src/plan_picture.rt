@@ -73,8 +73,14 @@ fn add_card(svg: &mut String, sheet: &Sheet, card: &Card) -> Result<(), AllocErr
     svg.push_str("</g>\n")
 }
 
-/// Appends the line from a parent's card to a card.
-fn add_edge(svg: &mut String, parent: &Card, card: &Card) -> Result<(), AllocError> {
+/// Appends the line to a card from its parent's, if it has a parent.
+fn add_edge(svg: &mut String, cards: &[Card], card: &Card) -> Result<(), AllocError> {
+    let Some(number) = card.parent else {
+        return Ok(());
+    };
+    let Some(parent) = cards.get(number.min(64) as usize) else {
+        return Ok(());
+    };
     let class = if card.has_good_step {
         "edge"
     } else {
@@ -91,22 +97,11 @@ fn add_edge(svg: &mut String, parent: &Card, card: &Card) -> Result<(), AllocErr
     )
 }
 
-/// Appends the line to a card from its parent's, if it has a parent.
-fn add_edge_to(svg: &mut String, cards: &[Card], card: &Card) -> Result<(), AllocError> {
-    let Some(number) = card.parent else {
-        return Ok(());
-    };
-    match cards.get(number.min(64) as usize) {
-        Some(parent) => add_edge(svg, parent, card),
-        None => Ok(()),
-    }
-}
-
 /// Appends a group: its heading, its cards and the lines between them.
 fn add_tree(svg: &mut String, sheet: &Sheet, born: u8, tree: &Tree) -> Result<(), AllocError> {
     add_heading(svg, tree.group, born, tree.top)?;
     for card in &tree.cards {
-        add_edge_to(svg, tree.cards.as_slice(), card)?;
+        add_edge(svg, tree.cards.as_slice(), card)?;
         add_card(svg, sheet, card)?;
     }
     Ok(())
@@ -138,36 +133,6 @@ fn place_trees(alloc: Global, trees: &mut [Tree]) -> Result<(usize, usize), Allo
     Ok((width, bottom.saturating_add(4)))
 }
 
-/// Appends a picture of these groups.
-fn add_picture(
-    svg: &mut String,
-    sheet: &Sheet,
-    born: u8,
-    trees: &[Tree],
-    size: (usize, usize),
-) -> Result<(), AllocError> {
-    begin_picture(svg, size.0, size.1, STYLE)?;
-    svg.push_str(LEGEND)?;
-    for tree in trees {
-        add_tree(svg, sheet, born, tree)?;
-    }
-    svg.push_str("</svg>\n")
-}
-
-/// Returns a picture of these configurations, of which the groups below `born` exist when the volume is born.
-fn picture_of(
-    alloc: Global,
-    born: u8,
-    configurations: &[ConfigurationFacts],
-) -> Result<String, AllocError> {
-    let mut sheet = Sheet::new(alloc);
-    let mut trees = trees_of(alloc, &mut sheet, configurations)?;
-    let size = place_trees(alloc, trees.as_mut_slice())?;
-    let mut svg = String::new(alloc);
-    add_picture(&mut svg, &sheet, born, trees.as_slice(), size)?;
-    Ok(svg)
-}
-
 /// Returns a plan as an SVG picture: each group's tree of configurations from left to right; of each configuration its
 /// members, what its expressions ask for and survive, its step, and whether its claims are certified, in red if not.
 ///
@@ -175,6 +140,15 @@ fn picture_of(
 /// The plan's first fault of parents or fresh members, or [`NoMemory`](volume_model::Fault::NoMemory).
 pub fn draw_plan(alloc: Global, plan: &Plan) -> Result<String, PlanFault> {
     let configurations = plan_facts(alloc, plan)?;
-    let svg = picture_of(alloc, plan.born, configurations.as_slice())?;
+    let mut sheet = Sheet::new(alloc);
+    let mut trees = trees_of(alloc, &mut sheet, configurations.as_slice())?;
+    let (width, height) = place_trees(alloc, trees.as_mut_slice())?;
+    let mut svg = String::new(alloc);
+    begin_picture(&mut svg, width, height, STYLE)?;
+    svg.push_str(LEGEND)?;
+    for tree in &trees {
+        add_tree(&mut svg, &sheet, plan.born, tree)?;
+    }
+    svg.push_str("</svg>\n")?;
     Ok(svg)
 }

@@ -76,10 +76,8 @@ fn lanes_of(alloc: Global, rows: &[Row]) -> Result<Vec<Actor>, AllocError> {
 
 /// Appends the names of the lanes.
 fn add_names(svg: &mut String, lanes: &[Actor], top: usize) -> Result<(), AllocError> {
-    let mut lane = 0usize;
-    for actor in lanes {
+    for (lane, actor) in lanes.iter().enumerate() {
         actor.add_name(svg, lane_x(lane), top.saturating_add(20))?;
-        lane = lane.saturating_add(1);
     }
     Ok(())
 }
@@ -174,38 +172,14 @@ fn add_picture(svg: &mut String, lanes: &[Actor], rows: &[Row]) -> Result<(), Al
     let width = lane_x(lanes.len()).saturating_add(WORDS);
     begin_picture(svg, width, bottom, STYLE)?;
     add_lanes(svg, lanes.len(), bottom.saturating_sub(12))?;
-    let mut place = 0usize;
-    for row in rows {
+    for (place, row) in rows.iter().enumerate() {
         let y = row_y(place);
         if place % ROWS_A_BAND == 0 {
             add_names(svg, lanes, y.saturating_sub(ROW + NAMES - 6))?;
         }
         add_row(svg, lanes, row, y)?;
-        place = place.saturating_add(1);
     }
     svg.push_str("</svg>\n")
-}
-
-/// Returns what is drawn of each line of a run.
-fn rows_in(
-    alloc: Global,
-    plan: &Arc<CheckedPlan>,
-    lines: &[u32],
-    orders: &[Order],
-) -> Result<Vec<Row>, Fault> {
-    let outcome = outcome_of(alloc, plan, orders)?;
-    let mut rows = rows_of(alloc, lines, orders, &outcome)?;
-    let results = outcome.results.as_slice();
-    note_growth(alloc, plan, orders, results, rows.as_mut_slice())?;
-    Ok(rows)
-}
-
-/// Returns a picture of these rows.
-fn picture_of(alloc: Global, rows: &[Row]) -> Result<String, AllocError> {
-    let lanes = lanes_of(alloc, rows)?;
-    let mut svg = String::new(alloc);
-    add_picture(&mut svg, lanes.as_slice(), rows)?;
-    Ok(svg)
 }
 
 /// Returns a script's run over a plan as an SVG picture: a lane for each actor; a row for each order, beside the number
@@ -223,7 +197,11 @@ pub fn draw_run(
     if orders.len() > MOST_ROWS {
         return Err(Fault::OverLimit);
     }
-    let rows = rows_in(alloc, plan, lines, orders)?;
-    let svg = picture_of(alloc, rows.as_slice())?;
+    let outcome = outcome_of(alloc, plan, orders)?;
+    let mut rows = rows_of(alloc, lines, orders, &outcome)?;
+    note_growth(alloc, plan, orders, rows.as_mut_slice())?;
+    let lanes = lanes_of(alloc, rows.as_slice())?;
+    let mut svg = String::new(alloc);
+    add_picture(&mut svg, lanes.as_slice(), rows.as_slice())?;
     Ok(svg)
 }

@@ -15,6 +15,8 @@ pub(crate) struct Row {
     pub actor: Actor,
     /// What it does.
     pub act: Act,
+    /// The number of the message that it names, 0 if there is none.
+    pub message: u64,
     /// Why it was refused, if it was.
     pub refused: Option<Fault>,
     /// Whether a writer's durable point may have grown.
@@ -64,19 +66,23 @@ impl RunState {
         Ok(place)
     }
 
-    /// Returns the message that a line names, if it was made.
-    fn message(&self, named: Named) -> Option<Sent> {
-        let index = match named {
-            Named::Nothing => return None,
-            Named::Number(number) => number.checked_sub(1)?,
-            Named::From(event, place) => {
-                let (first, made) = *self.made.get(event as usize)?;
-                if place == 0 || place > u64::from(made) {
-                    return None;
+    /// Returns the number of the message that a line names, 0 if there is none.
+    fn number_of(&self, named: Named) -> u64 {
+        match named {
+            Named::Nothing => 0,
+            Named::Number(number) => number,
+            Named::From(event, place) => match self.made.get(event as usize) {
+                Some((first, made)) if 1 <= place && place <= u64::from(*made) => {
+                    (*first as u64).saturating_add(place)
                 }
-                (first as u64).saturating_add(place).saturating_sub(1)
-            }
-        };
+                _ => 0,
+            },
+        }
+    }
+
+    /// Returns the message with a number, if it was made.
+    fn message(&self, number: u64) -> Option<Sent> {
+        let index = number.checked_sub(1)?;
         self.sent.get(index as usize).copied()
     }
 
@@ -90,19 +96,18 @@ impl RunState {
     ) -> Result<(), AllocError> {
         let (kind, first) = act.makes(has_cut);
         self.made.push((self.sent.len(), made))?;
+        let mut lsn = first;
         for number in 0..made {
-            let before = u64::from(number);
+            let place = u64::from(number) + 1;
+            let made = u64::from(made);
             self.sent.push(Sent {
                 from,
                 kind,
-                lsn: if first > 0 {
-                    first.saturating_add(before)
-                } else {
-                    0
-                },
-                place: before + 1,
-                made: u64::from(made),
+                lsn,
+                place,
+                made,
             })?;
+            lsn = if lsn > 0 { lsn.saturating_add(1) } else { 0 };
         }
         Ok(())
     }
@@ -152,8 +157,9 @@ fn add_row(
     finds: &[RecoveryOutcome],
 ) -> Result<(), AllocError> {
     let (actor, plain, named) = order_act(order);
+    let message = state.number_of(named);
     let mut act = match plain {
-        Act::Takes(_) => Act::Takes(state.message(named)),
+        Act::Takes(_) => Act::Takes(state.message(message)),
         _ => plain,
     };
     let (mut has_cut, mut is_open) = (false, false);
@@ -177,30 +183,11 @@ fn add_row(
         line,
         actor,
         act,
+        message,
         refused,
         may_commit,
         durable: None,
     })?;
-    Ok(())
-}
-
-/// Adds what is drawn of each line with an event.
-fn add_rows(
-    rows: &mut Vec<Row>,
-    state: &mut RunState,
-    lines: &[u32],
-    orders: &[Order],
-    outcome: &Outcome,
-) -> Result<(), AllocError> {
-    let finds = outcome.finds.as_slice();
-    let mut at = 0usize;
-    for order in orders {
-        let line = lines.get(at).copied().unwrap_or(0);
-        if let Some(answer) = outcome.results.get(at) {
-            add_row(rows, state, line, order, *answer, finds)?;
-        }
-        at = at.saturating_add(1);
-    }
     Ok(())
 }
 
@@ -217,6 +204,12 @@ pub(crate) fn rows_of(
         clients: Vec::new(alloc),
     };
     let mut rows = Vec::new(alloc);
-    add_rows(&mut rows, &mut state, lines, orders, outcome)?;
+    for (at, order) in orders.iter().enumerate() {
+        let line = lines.get(at).copied().unwrap_or(0);
+        if let Some(answer) = outcome.results.get(at) {
+            let finds = outcome.finds.as_slice();
+            add_row(&mut rows, &mut state, line, order, *answer, finds)?;
+        }
+    }
     Ok(rows)
 }

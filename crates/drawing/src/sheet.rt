@@ -163,13 +163,6 @@ impl Sheet {
         }
     }
 
-    /// Appends the title of a line that is cut: its whole sentence.
-    fn add_whole(&self, svg: &mut String, first: usize, last: usize) -> Result<(), AllocError> {
-        svg.push_str("<title>")?;
-        self.add_part(svg, first, last)?;
-        svg.push_str("</title>")
-    }
-
     /// Appends a line at a place. The last line of a cut sentence ends with an ellipsis, and its title has the whole
     /// sentence.
     fn add_line(
@@ -183,7 +176,9 @@ impl Sheet {
         begin_text(svg, line.style.class(), x.saturating_add(indent), y)?;
         let mut end = "</text>\n";
         if let Some((first, last)) = line.whole {
-            self.add_whole(svg, first, last)?;
+            svg.push_str("<title>")?;
+            self.add_part(svg, first, last)?;
+            svg.push_str("</title>")?;
             end = " …</text>\n";
         }
         self.add_part(svg, line.from, line.to)?;
