@@ -3,7 +3,7 @@
 use crate::judge::Shown;
 
 /// What was checked in all runs.
-#[derive(Clone, Copy, Debug, PartialEq, Eq)]
+#[derive(Clone, Copy, Default)]
 pub struct Counts {
     /// The number of runs.
     pub runs: u64,
@@ -18,17 +18,6 @@ pub struct Counts {
 }
 
 impl Counts {
-    /// Makes zero counts.
-    pub fn new() -> Counts {
-        Counts {
-            runs: 0,
-            events: 0,
-            acknowledged: 0,
-            recoveries: 0,
-            waited: 0,
-        }
-    }
-
     /// Adds a run with this many events.
     pub fn add(&mut self, events: u64, shown: Shown) {
         self.runs = self.runs.saturating_add(1);

@@ -2,7 +2,8 @@
 
 use crate::numbers::Numbers;
 use crate::schedule::Schedule;
-use crate::written::{Delivery, Receiver};
+use crate::written::{Delivery, Named, Receiver};
+use std::ops::Range;
 
 impl Schedule {
     /// Delivers the StepTo of a group's last advance to all its members.
@@ -16,9 +17,15 @@ impl Schedule {
     }
 
     /// Delivers a message to members of a group, and lets a client take the answers.
-    fn exchange(&mut self, client: u32, message: (u64, u64), group: u8, members: &[u8]) {
-        let answers = self.deliver_each(message, group, members, Receiver::Client(client));
+    fn exchange(&mut self, client: u32, named: Named, group: u8, members: &[u8]) {
+        let answers = self.deliver_each(named, group, members, Receiver::Client(client));
         self.take_all(client, answers);
+    }
+
+    /// Delivers a message to all members of a group, and lets a client take the answers.
+    pub fn exchange_all(&mut self, client: u32, named: Named, group: u8) {
+        let members = self.members(group);
+        self.exchange(client, named, group, members.as_slice());
     }
 
     /// Sends the pieces of an install to members of a group, whose first piece has this place.
@@ -35,28 +42,28 @@ impl Schedule {
         Numbers::of_set(own.difference(self.set_of(group, 0)))
     }
 
+    /// Lets a member become whole from the copies, with all their pieces, that these lines made.
+    pub fn hydrate_by(&mut self, copies: Range<u64>, group: u8, member: u8) {
+        for copy in copies {
+            for piece in 0..self.pieces_of(group) {
+                let delivery = Delivery::new((copy, piece.saturating_add(1)), group, member);
+                self.written.deliver(delivery, Receiver::Nodes(group));
+            }
+        }
+        self.written.of_node("hydrate", group, member);
+    }
+
     /// Lets a member become whole from copies of all members, if it isn't.
     fn make_whole(&mut self, group: u8, member: u8) {
-        let stepped = self.written.first_delivery(Delivery {
-            line: self.last_advance(group),
-            place: 1,
-            group,
-            member,
-        });
-        let Some(ask) = stepped else {
+        let step = Delivery::new((self.last_advance(group), 1), group, member);
+        let Some(ask) = self.written.first_delivery(step) else {
             return;
         };
         let nodes = Receiver::Nodes(group);
         let members = self.members(group);
         let copies = self.deliver_each((ask, 1), group, members.as_slice(), nodes);
         self.written.of_node("restart", group, member);
-        for copy in copies {
-            for piece in 0..self.pieces_of(group) {
-                let place = piece.saturating_add(1);
-                self.deliver_each((copy, place), group, &[member], nodes);
-            }
-        }
-        self.written.of_node("hydrate", group, member);
+        self.hydrate_by(copies, group, member);
     }
 
     /// Installs a cut in all members of a group, whose first piece has this place.
@@ -76,28 +83,14 @@ impl Schedule {
         for group in 0..self.joined {
             self.step_all(group);
             let place = u64::from(group).saturating_add(1);
-            let members = self.members(group);
-            self.exchange(client, (fences, place), group, members.as_slice());
+            self.exchange_all(client, (fences, place), group);
         }
-    }
-
-    /// Lets a client commit a record of the first group.
-    fn commit_last(&mut self, client: u32) {
-        self.written.begin("issue", &[u64::from(client), 0]);
-        self.written.text.add(":0:0:");
-        self.add_random_byte();
-        let line = self.written.end();
-        self.written.note_issue(line, client, 1);
-        let members = self.members(0);
-        self.exchange(client, (line, 1), 0, members.as_slice());
     }
 
     /// Ends a script: a last recovery reads all members of each group, installs its log in all, lets the members that
     /// steps have added become whole, opens and commits.
     pub fn finish(&mut self) {
-        let view = self.written.put("assign", &[]);
-        self.clients = self.clients.saturating_add(1);
-        let client = self.clients;
+        let (view, client) = self.assign();
         self.read_all(client, view);
         let cut = self.written.of_client("cut", client);
         let mut first = 1u64;
@@ -106,6 +99,7 @@ impl Schedule {
             first = first.saturating_add(self.pieces_of(group));
         }
         self.written.of_client("open", client);
-        self.commit_last(client);
+        let line = self.issue_plain(client, 0, 1);
+        self.exchange_all(client, (line, 1), 0);
     }
 }

@@ -41,25 +41,17 @@ fn check_answers(outcome: &Outcome, lines: u64) -> Result<(), Broken> {
     Ok(())
 }
 
-/// Returns the start of a writer's own LSNs: all are above it.
-fn start_of(outcome: &Outcome, client: u64) -> u64 {
+/// Returns the cut of a writer's recovery and the start of its own LSNs, which are above it; 0 if there was none.
+fn found_by(outcome: &Outcome, client: u64) -> (u64, u64) {
     match outcome.find_of(client) {
-        Some(find) => find.start,
-        None => 0,
-    }
-}
-
-/// Returns the cut of a writer's recovery; 0 if there was none.
-fn cut_of(outcome: &Outcome, client: u64) -> u64 {
-    match outcome.find_of(client) {
-        Some(find) => find.cut,
-        None => 0,
+        Some(find) => (find.cut, find.start),
+        None => (0, 0),
     }
 }
 
 /// Returns the last LSN of a writer, given the ends of its transactions.
 fn last_of(outcome: &Outcome, ends: &[End], client: u64) -> u64 {
-    let mut last = start_of(outcome, client);
+    let (_, mut last) = found_by(outcome, client);
     for end in ends.iter() {
         if end.client == client {
             last = end.last;
@@ -81,53 +73,30 @@ fn made_by(outcome: &Outcome, line: u64) -> Option<u64> {
 fn ends_of(alloc: Global, outcome: &Outcome, issues: &[Issue]) -> Result<Vec<End>, Broken> {
     let mut ends: Vec<End> = Vec::new(alloc);
     for issue in issues.iter() {
-        let Issue {
-            line,
-            client,
-            changes,
-        } = *issue;
+        let (line, changes) = (issue.line, issue.changes);
         if let Some(made) = made_by(outcome, line) {
             if made != changes {
                 let what = "not one message a change (line, changes, messages)";
                 return Err(Broken::new(what, [line, changes, made, 0]));
             }
-            let client = u64::from(client);
+            let client = u64::from(issue.client);
             let last = last_of(outcome, ends.as_slice(), client).saturating_add(changes);
-            push_end(&mut ends, End { client, last })?;
+            if ends.push(End { client, last }).is_err() {
+                return Err(Broken::from(AllocError));
+            }
         }
     }
     Ok(ends)
 }
 
-fn push_end(ends: &mut Vec<End>, end: End) -> Result<(), AllocError> {
-    ends.push(end)?;
-    Ok(())
-}
-
-/// Returns whether a transaction of a client ends at this number.
-fn ends_at(ends: &[End], client: u64, last: u64) -> bool {
-    ends.iter()
-        .any(|end| end.client == client && end.last == last)
-}
-
-/// Returns whether a transaction of an earlier client ends at this number.
-fn ends_before(ends: &[End], client: u64, last: u64) -> bool {
-    ends.iter()
-        .any(|end| end.client < client && end.last == last)
-}
-
 /// Checks that a writer's points are below its next LSN, and its durable point isn't below the cut of its own recovery.
-fn check_points(outcome: &Outcome, writer: Writer) -> Result<(), Broken> {
-    let Writer {
-        client,
-        durable,
-        next,
-    } = writer;
-    if !is_given(durable, next) || !is_given(start_of(outcome, client), next) {
+fn check_points(outcome: &Outcome, writer: &Writer) -> Result<(), Broken> {
+    let (client, durable, next) = (writer.client, writer.durable, writer.next);
+    let (cut, start) = found_by(outcome, client);
+    if !is_given(durable, next) || !is_given(start, next) {
         let what = "a writer's next LSN isn't above its points (writer, durable, next)";
         return Err(Broken::new(what, [client, durable, next, 0]));
     }
-    let cut = cut_of(outcome, client);
     if !is_kept(cut, durable) {
         let what = "a writer's durable point is below its cut (writer, durable, cut)";
         return Err(Broken::new(what, [client, durable, cut, 0]));
@@ -135,30 +104,18 @@ fn check_points(outcome: &Outcome, writer: Writer) -> Result<(), Broken> {
     Ok(())
 }
 
-/// Checks that a recovery starts at its cut or above.
-fn check_start(find: Find) -> Result<(), Broken> {
-    let Find { client, cut, start } = find;
-    if !is_kept(cut, start) {
-        let what = "a recovery starts below its cut (recovery, cut, start)";
-        return Err(Broken::new(what, [client, cut, start, 0]));
-    }
-    Ok(())
-}
-
 /// Checks that a writer numbered the records of its transactions consecutively, and that its durable point doesn't
 /// divide a transaction.
-fn check_log(outcome: &Outcome, ends: &[End], writer: Writer) -> Result<(), Broken> {
-    let Writer {
-        client,
-        durable,
-        next,
-    } = writer;
+fn check_log(outcome: &Outcome, ends: &[End], writer: &Writer) -> Result<(), Broken> {
+    let (client, durable, next) = (writer.client, writer.durable, writer.next);
     let last = last_of(outcome, ends, client);
     if last.saturating_add(1) != next {
         let what = "a writer's next LSN isn't behind its last (writer, last, next)";
         return Err(Broken::new(what, [client, last, next, 0]));
     }
-    if durable != cut_of(outcome, client) && !ends_at(ends, client, durable) {
+    let (cut, _) = found_by(outcome, client);
+    let is_end = |end: &End| end.client == client && end.last == durable;
+    if durable != cut && !ends.iter().any(is_end) {
         let what = "a writer's durable point ends no transaction of it (writer, durable)";
         return Err(Broken::new(what, [client, durable, 0, 0]));
     }
@@ -166,9 +123,10 @@ fn check_log(outcome: &Outcome, ends: &[End], writer: Writer) -> Result<(), Brok
 }
 
 /// Checks that the cut of a recovery doesn't divide a transaction.
-fn check_cut(ends: &[End], find: Find) -> Result<(), Broken> {
-    let Find { client, cut, .. } = find;
-    if cut != 0 && !ends_before(ends, client, cut) {
+fn check_cut(ends: &[End], find: &Find) -> Result<(), Broken> {
+    let (client, cut) = (find.client, find.cut);
+    let is_end = |end: &End| end.client < client && end.last == cut;
+    if cut != 0 && !ends.iter().any(is_end) {
         let what = "a recovery's cut ends no transaction of an earlier writer (recovery, cut)";
         return Err(Broken::new(what, [client, cut, 0, 0]));
     }
@@ -176,7 +134,7 @@ fn check_cut(ends: &[End], find: Find) -> Result<(), Broken> {
 }
 
 /// Checks that a later recovery has a writer's commits, and reuses none of the writer's LSNs.
-fn check_pair(writer: Writer, find: Find) -> Result<(), Broken> {
+fn check_pair(writer: &Writer, find: &Find) -> Result<(), Broken> {
     if !is_kept(writer.durable, find.cut) {
         let what = "a later recovery lost commits (writer, durable, recovery, cut)";
         let numbers = [writer.client, writer.durable, find.client, find.cut];
@@ -190,45 +148,23 @@ fn check_pair(writer: Writer, find: Find) -> Result<(), Broken> {
     Ok(())
 }
 
-/// Checks a recovery against all earlier writers.
-fn check_commits(writers: &[Writer], find: Find) -> Result<(), Broken> {
-    for writer in writers.iter() {
-        if writer.client < find.client {
-            check_pair(*writer, find)?;
-        }
-    }
-    Ok(())
-}
-
-/// Returns how many of a writer's transactions are acknowledged.
-fn acknowledged_by(ends: &[End], writer: Writer) -> u64 {
-    let mut acknowledged = 0u64;
-    for end in ends.iter() {
-        if end.client == writer.client && end.last <= writer.durable {
-            acknowledged = acknowledged.saturating_add(1);
-        }
-    }
-    acknowledged
-}
-
-/// Checks all recoveries against all earlier writers.
+/// Checks all recoveries against all earlier writers, and that each starts at its cut or above.
 pub fn check_promises(outcome: &Outcome) -> Result<(), Broken> {
     for writer in outcome.writers.iter() {
-        check_points(outcome, *writer)?;
+        check_points(outcome, writer)?;
     }
     for find in outcome.finds.iter() {
-        check_start(*find)?;
-        check_commits(outcome.writers.as_slice(), *find)?;
+        if !is_kept(find.cut, find.start) {
+            let what = "a recovery starts below its cut (recovery, cut, start)";
+            return Err(Broken::new(what, [find.client, find.cut, find.start, 0]));
+        }
+        for writer in outcome.writers.iter() {
+            if writer.client < find.client {
+                check_pair(writer, find)?;
+            }
+        }
     }
     Ok(())
-}
-
-/// Returns the client of the last transaction that a script issues, 0 if there is none.
-fn newest_of(issues: &[Issue]) -> u64 {
-    match issues.last() {
-        Some(issue) => u64::from(issue.client),
-        None => 0,
-    }
 }
 
 /// Checks what a run prints for a script: the answer to each line, and the points of all clients.
@@ -239,23 +175,23 @@ pub fn check_run(
     issues: &[Issue],
 ) -> Result<Shown, Broken> {
     check_answers(outcome, lines)?;
-    let newest = newest_of(issues);
     check_promises(outcome)?;
+    let newest = issues.last().map_or(0, |issue| u64::from(issue.client));
     let ends = ends_of(alloc, outcome, issues)?;
-    let mut acknowledged = 0u64;
-    let mut continued = false;
+    let mut shown = Shown {
+        acknowledged: 0,
+        recoveries: outcome.finds.len() as u64,
+        continued: false,
+    };
     for writer in outcome.writers.iter() {
-        check_log(outcome, ends.as_slice(), *writer)?;
-        let own = acknowledged_by(ends.as_slice(), *writer);
-        acknowledged = acknowledged.saturating_add(own);
-        continued = own > 0 && writer.client == newest;
+        check_log(outcome, ends.as_slice(), writer)?;
+        let is_kept = |end: &&End| end.client == writer.client && end.last <= writer.durable;
+        let own = ends.iter().filter(is_kept).count() as u64;
+        shown.acknowledged = shown.acknowledged.saturating_add(own);
+        shown.continued = own > 0 && writer.client == newest;
     }
     for find in outcome.finds.iter() {
-        check_cut(ends.as_slice(), *find)?;
+        check_cut(ends.as_slice(), find)?;
     }
-    Ok(Shown {
-        acknowledged,
-        recoveries: outcome.finds.len() as u64,
-        continued,
-    })
+    Ok(shown)
 }

@@ -18,7 +18,6 @@ mod stages;
 mod stragglers;
 mod strays;
 mod tasks;
-mod text;
 mod verdicts;
 mod written;
 

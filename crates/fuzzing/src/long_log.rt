@@ -13,28 +13,11 @@ const CHANGES: u64 = 32;
 const PIECES: u64 = 2;
 
 impl Schedule {
-    /// Appends an issue of the first writer with the records of a transaction.
-    fn issue_many(&mut self) -> u64 {
-        self.written.text.add("issue 1");
-        for _ in 0..CHANGES {
-            self.written.text.add(" 0:0:0:");
-            self.add_random_byte();
-        }
-        let line = self.written.end();
-        self.written.note_issue(line, 1, CHANGES);
-        line
-    }
-
     /// Appends the deliveries of a line's records to a member. Returns the number of the last of these lines.
     fn deliver_many(&mut self, line: u64, member: u8) -> u64 {
         let mut last = line;
         for change in 0..CHANGES {
-            let delivery = Delivery {
-                line,
-                place: change.saturating_add(1),
-                group: 0,
-                member,
-            };
+            let delivery = Delivery::new((line, change.saturating_add(1)), 0, member);
             last = self.written.deliver(delivery, Receiver::Client(1));
         }
         last
@@ -42,7 +25,7 @@ impl Schedule {
 
     /// Appends lines in which the first writer commits the records of a transaction.
     fn commit_many(&mut self) {
-        let line = self.issue_many();
+        let line = self.issue_plain(1, 0, CHANGES);
         for member in self.members(0).as_slice().iter() {
             let last = self.deliver_many(line, *member);
             self.written.take(1, last, 1);

@@ -21,15 +21,6 @@ impl Numbers {
         }
     }
 
-    /// Returns a list of these numbers.
-    pub fn of(numbers: &[u8]) -> Numbers {
-        let mut list = Numbers::new();
-        for number in numbers.iter() {
-            list.push(*number);
-        }
-        list
-    }
-
     /// Returns the members of a set, in growing order.
     pub fn of_set(members: MemberSet) -> Numbers {
         let mut list = Numbers::new();
@@ -55,13 +46,16 @@ impl Numbers {
     }
 
     /// Returns the first numbers, at most so many.
-    pub fn first(&self, count: usize) -> &[u8] {
-        &self.numbers[..count.min(self.length).min(MOST)]
+    pub fn first(&self, count: usize) -> Numbers {
+        Numbers {
+            numbers: self.numbers,
+            length: self.length.min(count),
+        }
     }
 
     /// Returns the numbers.
     pub fn as_slice(&self) -> &[u8] {
-        self.first(MOST)
+        &self.numbers[..self.length.min(MOST)]
     }
 
     /// Returns the numbers, to be changed.

@@ -34,13 +34,6 @@ pub struct Find {
     pub start: u64,
 }
 
-/// One printed line.
-enum Printed {
-    Answer(Answer),
-    Writer(Writer),
-    Find(Find),
-}
-
 /// The whole output.
 #[derive(Drop)]
 pub struct Outcome {
@@ -51,7 +44,7 @@ pub struct Outcome {
     /// The recoveries that have cut.
     pub finds: Vec<Find>,
     /// The number of lines of any other form.
-    pub strange: u64,
+    strange: u64,
 }
 
 /// Returns a line's first three words that aren't numbers and its first three numbers, and how many there are of each.
@@ -75,71 +68,33 @@ fn parts(line: &str) -> ([&str; 3], [u64; 3], (usize, usize)) {
     (words, numbers, (of_words, of_numbers))
 }
 
-/// Reads a line with three words and three numbers.
-fn of_client(words: [&str; 3], numbers: [u64; 3]) -> Option<Printed> {
-    let [client, low, high] = numbers;
-    match words {
-        ["writer", "durable", "next"] => Some(Printed::Writer(Writer {
-            client,
-            durable: low,
-            next: high,
-        })),
-        ["recovery", "cut", "start"] => Some(Printed::Find(Find {
-            client,
-            cut: low,
-            start: high,
-        })),
-        _ => None,
-    }
-}
-
-/// Reads a line.
-fn of_line(line: &str) -> Option<Printed> {
-    let (words, numbers, counts) = parts(line);
-    match (words[0], counts) {
-        (_, (3, 3)) => of_client(words, numbers),
-        ("ok", (1, 2)) => Some(Printed::Answer(Answer {
-            line: numbers[0],
-            made: Some(numbers[1]),
-        })),
-        ("refused", (2, 2)) => Some(Printed::Answer(Answer {
-            line: numbers[0],
-            made: None,
-        })),
-        _ => None,
-    }
-}
-
 impl Outcome {
-    fn new(alloc: Global) -> Outcome {
-        Outcome {
-            answers: Vec::new(alloc),
-            writers: Vec::new(alloc),
-            finds: Vec::new(alloc),
-            strange: 0,
-        }
-    }
-
-    /// Adds a line that was read.
-    fn add(&mut self, line: Option<Printed>) -> Result<(), AllocError> {
-        match line {
-            Some(Printed::Answer(answer)) => self.answers.push(answer)?,
-            Some(Printed::Writer(writer)) => self.writers.push(writer)?,
-            Some(Printed::Find(find)) => self.finds.push(find)?,
-            None => self.strange = self.strange.saturating_add(1),
+    /// Adds a line.
+    fn add(&mut self, text: &str) -> Result<(), AllocError> {
+        let (words, numbers, counts) = parts(text);
+        let [client, low, high] = numbers;
+        match (words, counts) {
+            (["ok", _, _], (1, 2)) => self.answers.push(Answer {
+                line: client,
+                made: Some(low),
+            })?,
+            (["refused", _, _], (2, 2)) => self.answers.push(Answer {
+                line: client,
+                made: None,
+            })?,
+            (["writer", "durable", "next"], (3, 3)) => self.writers.push(Writer {
+                client,
+                durable: low,
+                next: high,
+            })?,
+            (["recovery", "cut", "start"], (3, 3)) => self.finds.push(Find {
+                client,
+                cut: low,
+                start: high,
+            })?,
+            _ => self.strange = self.strange.saturating_add(1),
         }
         Ok(())
-    }
-
-    /// Reads a text, line by line.
-    fn read(alloc: Global, text: &str) -> Result<Outcome, AllocError> {
-        let mut outcome = Outcome::new(alloc);
-        for line in text.split('\n') {
-            if !line.is_empty() {
-                outcome.add(of_line(line))?;
-            }
-        }
-        Ok(outcome)
     }
 
     /// Reads what a run prints.
@@ -147,7 +102,17 @@ impl Outcome {
     /// # Errors
     /// That a line has no known form, or that memory ran out.
     pub fn of_text(alloc: Global, text: &str) -> Result<Outcome, Broken> {
-        let outcome = Outcome::read(alloc, text)?;
+        let mut outcome = Outcome {
+            answers: Vec::new(alloc),
+            writers: Vec::new(alloc),
+            finds: Vec::new(alloc),
+            strange: 0,
+        };
+        for line in text.split('\n') {
+            if !line.is_empty() {
+                outcome.add(line)?;
+            }
+        }
         if outcome.strange != 0 {
             let numbers = [outcome.strange, 0, 0, 0];
             return Err(Broken::new("lines of no known form (lines)", numbers));

@@ -25,10 +25,7 @@ fn enough(expr: &Expr<Global>, given: MemberSet, members: &[u8]) -> usize {
 impl Schedule {
     /// Returns the configuration of a group.
     pub fn place(&self, group: u8) -> u8 {
-        match self.places.get(usize::from(group)) {
-            Some(place) => *place,
-            None => 0,
-        }
+        self.places.get(usize::from(group)).copied().unwrap_or(0)
     }
 
     /// Notes the configuration of a group, and the line of its advance.
@@ -42,10 +39,7 @@ impl Schedule {
 
     /// Returns the line of a group's last advance, 0 if there is none.
     pub fn last_advance(&self, group: u8) -> u64 {
-        match self.advances.get(usize::from(group)) {
-            Some(line) => *line,
-            None => 0,
-        }
+        self.advances.get(usize::from(group)).copied().unwrap_or(0)
     }
 
     /// Returns the members of a configuration of a group.
@@ -108,10 +102,9 @@ impl Schedule {
     }
 
     /// Returns members in a random order.
-    pub fn shuffled(&mut self, members: &[u8]) -> Numbers {
-        let mut list = Numbers::of(members);
-        self.rng.shuffle(list.as_mut_slice());
-        list
+    pub fn shuffled(&mut self, mut members: Numbers) -> Numbers {
+        self.rng.shuffle(members.as_mut_slice());
+        members
     }
 
     /// Returns the members of a group in the order in which writes prefer them.
@@ -130,19 +123,18 @@ impl Schedule {
     fn some_of(&mut self, members: &Numbers, least: usize) -> Numbers {
         let more = members.len().saturating_sub(least);
         let count = self.rng.from(least, more.saturating_add(1));
-        Numbers::of(members.first(count))
+        members.first(count)
     }
 
     /// Returns the members of a group that a write reaches.
     pub fn write_reach(&mut self, group: u8) -> Numbers {
-        let members = self.members(group);
-        let members = self.shuffled(members.as_slice());
+        let members = self.shuffled(self.members(group));
         match self.rng.below(10) {
             0..=4 => members,
             5..=7 => {
                 let members = self.preferred(group);
                 let count = self.writers_in(group, members.as_slice());
-                Numbers::of(members.first(count))
+                members.first(count)
             }
             _ => {
                 let least = self.writers_in(group, members.as_slice());
@@ -153,8 +145,7 @@ impl Schedule {
 
     /// Returns the members of a group that a recovery reads.
     pub fn read_reach(&mut self, group: u8) -> Numbers {
-        let members = self.members(group);
-        let members = self.shuffled(members.as_slice());
+        let members = self.shuffled(self.members(group));
         if self.loss > 0 && self.rng.chance(50) {
             return members;
         }
@@ -165,14 +156,12 @@ impl Schedule {
 
     /// Returns a group that has joined.
     pub fn joined_group(&mut self) -> u8 {
-        let group = self.rng.below(usize::from(self.joined));
-        u8::try_from(group).unwrap_or(0)
+        self.rng.byte_below(usize::from(self.joined))
     }
 
     /// Returns a group.
     pub fn any_group(&mut self) -> u8 {
-        let group = self.rng.below(usize::from(self.plan.groups()));
-        u8::try_from(group).unwrap_or(0)
+        self.rng.byte_below(usize::from(self.plan.groups()))
     }
 
     /// Returns a member of a group.

@@ -31,6 +31,11 @@ impl Rng {
         self.source.random_range(0..bound)
     }
 
+    /// Returns a number below `bound`, of at most 256, or 0 if `bound` is 0.
+    pub fn byte_below(&mut self, bound: usize) -> u8 {
+        u8::try_from(self.below(bound)).unwrap_or(0)
+    }
+
     /// Returns a number from `least` to `least + spread - 1`.
     pub fn from(&mut self, least: usize, spread: usize) -> usize {
         least.saturating_add(self.below(spread))

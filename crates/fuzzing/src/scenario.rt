@@ -5,7 +5,7 @@ use crate::judge::{Shown, check_run};
 use crate::outcome::Outcome;
 use crate::rng::Rng;
 use crate::schedule::{Events, Schedule};
-use crate::written::{Issue, Written};
+use crate::written::Issue;
 use plan::CheckedPlan;
 use std::alloc::{AllocError, Global};
 use std::sync::Arc;
@@ -35,14 +35,7 @@ impl Scenario {
     ) -> Result<Scenario, AllocError> {
         let mut schedule = Schedule::new(alloc, plan, rng, events);
         schedule.fill(alloc);
-        let written = schedule.written;
-        let Written {
-            text,
-            lines,
-            issues,
-            ..
-        } = written;
-        let script = text.finished()?;
+        let (script, lines, issues) = schedule.written.finished()?;
         Ok(Scenario {
             script,
             lines,

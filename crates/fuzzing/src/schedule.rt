@@ -3,7 +3,7 @@
 use crate::numbers::Numbers;
 use crate::rng::Rng;
 use crate::tasks::{Answered, Stage, Task};
-use crate::written::{Delivery, Message, Receiver, Written};
+use crate::written::{Delivery, Message, Named, Receiver, Written, keep};
 use plan::CheckedPlan;
 use quorum_expr::MemberSet;
 use std::alloc::Global;
@@ -108,23 +108,20 @@ impl Schedule {
 
     /// Lets a task deliver a message.
     fn add_delivery(&mut self, task: &mut Task, delivery: Delivery) {
-        let is_kept = task.deliveries.push(delivery).is_ok();
-        self.written.text.note(is_kept);
+        keep(&mut self.written.failed, &mut task.deliveries, delivery);
     }
 
     /// Lets a task send a message to members of a group.
-    pub fn send(&mut self, task: &mut Task, message: (u64, u64), group: u8, members: &[u8]) {
-        let (line, place) = message;
+    pub fn send(&mut self, task: &mut Task, named: Named, group: u8, members: &[u8]) {
         for member in members.iter() {
-            let member = *member;
-            let delivery = Delivery {
-                line,
-                place,
-                group,
-                member,
-            };
-            self.add_delivery(task, delivery);
+            self.add_delivery(task, Delivery::new(named, group, *member));
         }
+    }
+
+    /// Lets a task send a message to all members of a group.
+    pub fn send_all(&mut self, task: &mut Task, named: Named, group: u8) {
+        let members = self.members(group);
+        self.send(task, named, group, members.as_slice());
     }
 
     /// Returns the number of messages of a copy or an install of a group.
@@ -176,14 +173,12 @@ impl Schedule {
             self.add_delivery(task, delivery);
             return;
         }
-        let is_kept = self.late.push(delivery).is_ok();
-        self.written.text.note(is_kept);
+        keep(&mut self.written.failed, &mut self.late, delivery);
     }
 
     /// Delivers a message of a task, unless it is lost.
     fn deliver(&mut self, task: &mut Task, delivery: Delivery) {
-        let loss = self.loss;
-        if self.rng.chance(loss) {
+        if self.rng.chance(self.loss) {
             self.lose(task, delivery);
             return;
         }
@@ -197,23 +192,12 @@ impl Schedule {
         if self.rng.chance(70) {
             task.forget(group, member);
         }
-        let is_kept = task
-            .answers
-            .push(Answered {
-                line,
-                group,
-                member,
-            })
-            .is_ok();
-        self.written.text.note(is_kept);
-    }
-
-    /// Has a task's client take an answer, unless it is lost.
-    fn take(&mut self, client: u32, answer: Answered) {
-        let loss = self.loss / 2;
-        if !self.rng.chance(loss) {
-            self.written.take(client, answer.line, 1);
-        }
+        let answered = Answered {
+            line,
+            group,
+            member,
+        };
+        keep(&mut self.written.failed, &mut task.answers, answered);
     }
 
     /// Writes the next line of a task.
@@ -227,7 +211,9 @@ impl Schedule {
         let chosen = self.rng.below(task.answers.len());
         if task.takes() && chosen < task.answers.len() {
             let answer = task.answers.swap_remove(chosen);
-            self.take(task.client, answer);
+            if !self.rng.chance(self.loss / 2) {
+                self.written.take(task.client, answer.line, 1);
+            }
             return;
         }
         self.next_stage(alloc, task);
@@ -247,9 +233,8 @@ impl Schedule {
 
     /// Keeps a task unless it is done.
     pub fn keep(&mut self, task: Task) {
-        if !task.is_done() {
-            let is_kept = self.tasks.push(task).is_ok();
-            self.written.text.note(is_kept);
+        if !task.is_done() && self.tasks.push(task).is_err() {
+            self.written.failed = true;
         }
     }
 

@@ -1,34 +1,27 @@
 //! Cuts a script that breaks a promise down to the lines that matter.
 
+use crate::simulation::{ScriptRunner, breaks};
 use std::alloc::{AllocError, Global};
-
-/// A test of scripts.
-pub trait ScriptTest {
-    /// Returns whether a run of the script still breaks a promise.
-    fn is_broken(&self, script: &str) -> bool;
-}
 
 /// Returns the lines of a script with those from `first` to `last - 1` empty.
 fn without(alloc: Global, script: &str, first: usize, last: usize) -> Result<String, AllocError> {
     let mut text = String::with_capacity(alloc, script.len())?;
-    let mut number = 0usize;
-    for line in script.split('\n') {
+    for (number, line) in script.split('\n').enumerate() {
         if number > 0 {
             text.push_str("\n")?;
         }
         if number < first || number >= last {
             text.push_str(line)?;
         }
-        number = number.saturating_add(1);
     }
     Ok(text)
 }
 
 /// Empties each run of `size` lines without which the script still breaks a promise.
-fn shorten_by<T: ScriptTest>(
+fn shorten_by<R: ScriptRunner>(
     alloc: Global,
     script: String,
-    test: &T,
+    runner: &R,
     size: usize,
 ) -> Result<String, AllocError> {
     let count = script.split('\n').count();
@@ -40,7 +33,7 @@ fn shorten_by<T: ScriptTest>(
         }
         let last = first.saturating_add(size);
         let tried = without(alloc, shortest.as_str(), first, last)?;
-        if test.is_broken(tried.as_str()) {
+        if breaks(alloc, runner, tried.as_str()) {
             shortest = tried;
         }
         first = last;
@@ -53,16 +46,16 @@ fn shorten_by<T: ScriptTest>(
 ///
 /// # Errors
 /// `AllocError` if memory runs out.
-pub fn shortened<T: ScriptTest>(
+pub fn shortened<R: ScriptRunner>(
     alloc: Global,
     script: String,
-    test: &T,
+    runner: &R,
 ) -> Result<String, AllocError> {
     let mut size = script.split('\n').count();
     let mut shortest = script;
     for _ in 0..32 {
         size = size.div_ceil(2);
-        shortest = shorten_by(alloc, shortest, test, size)?;
+        shortest = shorten_by(alloc, shortest, runner, size)?;
         if size <= 1 {
             break;
         }

@@ -9,9 +9,10 @@ use crate::outcome::Outcome;
 use crate::rng::Rng;
 use crate::scenario::Scenario;
 use crate::schedule::Events;
-use crate::shortening::{ScriptTest, shortened};
+use crate::shortening::shortened;
 use plan::CheckedPlan;
 use std::alloc::{AllocError, Global};
+use std::fmt;
 use std::sync::Arc;
 
 /// Which random runs to make.
@@ -57,28 +58,18 @@ pub struct Verdict {
     ghost few: { status ≤ 1 },
 }
 
-/// A runner whose scripts are tested for broken promises.
-#[derive(Drop)]
-struct Tested<'a, R> {
-    alloc: Global,
-    runner: &'a R,
+/// Checks the promises in a run of a script.
+fn check_script<R: ScriptRunner>(alloc: Global, runner: &R, script: &str) -> Result<(), Broken> {
+    let run = runner.run(alloc, script)?;
+    let outcome = Outcome::of_text(alloc, run.text.as_str())?;
+    check_promises(&outcome)
 }
 
-impl<R: ScriptRunner> Tested<'_, R> {
-    /// Checks the promises in a run of a script.
-    fn promises(&self, script: &str) -> Result<(), Broken> {
-        let run = self.runner.run(self.alloc, script)?;
-        let outcome = Outcome::of_text(self.alloc, run.text.as_str())?;
-        check_promises(&outcome)
-    }
-}
-
-impl<R: ScriptRunner> ScriptTest for Tested<'_, R> {
-    fn is_broken(&self, script: &str) -> bool {
-        match self.promises(script) {
-            Ok(()) => false,
-            Err(broken) => !broken.is_memory(),
-        }
+/// Returns whether a run of a script breaks a promise.
+pub(crate) fn breaks<R: ScriptRunner>(alloc: Global, runner: &R, script: &str) -> bool {
+    match check_script(alloc, runner, script) {
+        Ok(()) => false,
+        Err(broken) => !broken.is_memory(),
     }
 }
 
@@ -103,33 +94,33 @@ fn try_run<R: ScriptRunner>(
     Ok(())
 }
 
-/// Appends a number with a comma between groups of three digits.
-fn add_grouped(text: &mut String, number: u64) -> Result<(), AllocError> {
-    let (millions, rest) = (number / 1_000_000, number % 1_000_000);
-    let (thousands, ones) = (rest / 1000, rest % 1000);
-    if millions > 0 {
-        return write!(text, "{millions},{thousands:03},{ones:03}");
+/// A number, written with a comma between groups of three digits.
+#[derive(Clone, Copy)]
+struct Grouped(u64);
+
+impl fmt::Display for Grouped {
+    fn fmt<W: fmt::Write>(&self, f: &mut fmt::Formatter<W>) -> fmt::Result {
+        let (millions, rest) = (self.0 / 1_000_000, self.0 % 1_000_000);
+        let (thousands, ones) = (rest / 1000, rest % 1000);
+        if millions > 0 {
+            return write!(f, "{millions},{thousands:03},{ones:03}");
+        }
+        if thousands > 0 {
+            return write!(f, "{thousands},{ones:03}");
+        }
+        write!(f, "{ones}")
     }
-    if thousands > 0 {
-        return write!(text, "{thousands},{ones:03}");
-    }
-    write!(text, "{ones}")
 }
 
 /// Returns the lines of runs that all keep the promises.
 fn kept_line(alloc: Global, counts: Counts) -> Result<String, AllocError> {
-    let mut text = String::new(alloc);
-    add_grouped(&mut text, counts.runs)?;
-    text.push_str(" runs, ")?;
-    add_grouped(&mut text, counts.events)?;
-    text.push_str(" events, ")?;
-    add_grouped(&mut text, counts.acknowledged)?;
-    text.push_str(" commits acknowledged, ")?;
-    add_grouped(&mut text, counts.recoveries)?;
-    text.push_str(" recoveries, 0 promises broken\n")?;
-    add_grouped(&mut text, counts.waited)?;
-    text.push_str(" runs whose last advances waited, all led on to a commit\n")?;
-    Ok(text)
+    let (runs, waited) = (Grouped(counts.runs), Grouped(counts.waited));
+    let (events, acknowledged) = (Grouped(counts.events), Grouped(counts.acknowledged));
+    let recoveries = Grouped(counts.recoveries);
+    format!(in alloc;
+        "{runs} runs, {events} events, {acknowledged} commits acknowledged, {recoveries} recoveries, \
+        0 promises broken\n{waited} runs whose last advances waited, all led on to a commit\n"
+    )
 }
 
 /// Returns the line of a run that breaks a promise, and its script with the lines that matter.
@@ -140,16 +131,9 @@ fn broken_text<R: ScriptRunner>(
     scenario: Scenario,
     broken: Broken,
 ) -> Result<String, AllocError> {
-    let script = shortened(alloc, scenario.script, &Tested { alloc, runner })?;
-    let [first, second, third, fourth] = broken.numbers;
-    let mut text = String::new(alloc);
-    write!(
-        text,
-        "seed {seed}: {}: {first} {second} {third} {fourth}\n",
-        broken.what
-    )?;
-    text.push_str(script.as_str())?;
-    Ok(text)
+    let script = shortened(alloc, scenario.script, runner)?;
+    let ([first, second, third, fourth], what) = (broken.numbers, broken.what);
+    format!(in alloc; "seed {seed}: {what}: {first} {second} {third} {fourth}\n{script}")
 }
 
 /// Makes random runs of a plan, one for each seed, and judges each by what it prints: whether each later recovery has
@@ -163,7 +147,7 @@ pub fn simulate<R: ScriptRunner>(
     simulation: Simulation,
     runner: &R,
 ) -> Result<Verdict, AllocError> {
-    let mut counts = Counts::new();
+    let mut counts = Counts::default();
     for run in 0..simulation.runs {
         let seed = simulation.seed.wrapping_add(u64::from(run));
         let scenario = Scenario::new(alloc, plan.clone()?, Rng::new(seed), simulation.events)?;

@@ -3,7 +3,7 @@
 use crate::numbers::Numbers;
 use crate::schedule::Schedule;
 use crate::tasks::{Stage, Task};
-use crate::written::Receiver;
+use crate::written::{Receiver, keep};
 use std::alloc::Global;
 
 impl Schedule {
@@ -12,8 +12,8 @@ impl Schedule {
         let block = self.rng.below(3);
         let offset = self.rng.below(500);
         for number in [u64::from(group), block as u64, offset as u64] {
-            self.written.text.add_number(number);
-            self.written.text.add(":");
+            self.written.add_number(number);
+            self.written.add(":");
         }
         let bytes = self.rng.from(1, 8);
         for _ in 0..bytes {
@@ -23,8 +23,21 @@ impl Schedule {
 
     /// Adds a random byte to a line.
     pub fn add_random_byte(&mut self) {
-        let byte = self.rng.below(256);
-        self.written.text.add_byte(u8::try_from(byte).unwrap_or(0));
+        let byte = self.rng.byte_below(256);
+        self.written.add_byte(byte);
+    }
+
+    /// Lets a writer issue a transaction of this many records of a group, each of one byte. Returns the line.
+    pub fn issue_plain(&mut self, client: u32, group: u8, changes: u64) -> u64 {
+        self.written.begin("issue", &[u64::from(client)]);
+        for _ in 0..changes {
+            self.written.begin("", &[u64::from(group)]);
+            self.written.add(":0:0:");
+            self.add_random_byte();
+        }
+        let line = self.written.end();
+        self.written.note_issue(line, client, changes);
+        line
     }
 
     /// Returns the groups of a transaction's changes.
@@ -32,8 +45,7 @@ impl Schedule {
         let mut groups = Numbers::new();
         let changes = self.rng.from(1, 4);
         for _ in 0..changes {
-            let group = self.rng.below(usize::from(self.viewed));
-            groups.push(u8::try_from(group).unwrap_or(0));
+            groups.push(self.rng.byte_below(usize::from(self.viewed)));
         }
         groups
     }
@@ -45,7 +57,7 @@ impl Schedule {
         let groups = groups.as_slice();
         self.written.begin("issue", &[u64::from(client)]);
         for group in groups.iter() {
-            self.written.text.add(" ");
+            self.written.add(" ");
             self.add_change(*group);
         }
         let line = self.written.end();
@@ -55,13 +67,18 @@ impl Schedule {
         self.keep(task);
     }
 
-    /// Begins a task in which the authority assigns a volume epoch to a recovery.
-    pub fn begin_recovery(&mut self, alloc: Global) {
+    /// Assigns a volume epoch to a recovery. Returns the line, which makes its View, and the epoch.
+    pub fn assign(&mut self) -> (u64, u32) {
         let line = self.written.put("assign", &[]);
         self.clients = self.clients.saturating_add(1);
-        let client = self.clients;
-        self.written.note(line, 1, Receiver::Client(client));
-        self.keep(Task::new(alloc, Stage::View(line), client));
+        self.written.note(line, 1, Receiver::Client(self.clients));
+        (line, self.clients)
+    }
+
+    /// Begins a task in which the authority assigns a volume epoch to a recovery.
+    pub fn begin_recovery(&mut self, alloc: Global) {
+        let (view, client) = self.assign();
+        self.keep(Task::new(alloc, Stage::View(view), client));
     }
 
     /// Begins a task in which a group steps to a child of its configuration.
@@ -77,8 +94,7 @@ impl Schedule {
         self.set_place(group, child, line);
         let mut task = Task::new(alloc, Stage::Ask, self.clients);
         task.group = group;
-        let members = self.members(group);
-        self.send(&mut task, (line, 1), group, members.as_slice());
+        self.send_all(&mut task, (line, 1), group);
         self.keep(task);
     }
 
@@ -116,15 +132,13 @@ impl Schedule {
     /// Lets a recovery open.
     fn open(&mut self, task: &mut Task) {
         self.written.of_client("open", task.client);
-        let is_kept = self.open.push(task.client).is_ok();
-        self.written.text.note(is_kept);
+        keep(&mut self.written.failed, &mut self.open, task.client);
         task.stage = Stage::Finished;
     }
 
     /// Begins a task for each member that a step adds: it asks the members of the group for copies.
     fn ask(&mut self, alloc: Global, task: &mut Task) {
         let group = task.group;
-        let members = self.members(group);
         let fresh = self.fresh(group, self.place(group));
         for _ in 0..task.answers.len() {
             let Some(answer) = task.answers.pop() else {
@@ -134,7 +148,7 @@ impl Schedule {
                 let mut copying = Task::new(alloc, Stage::Send, task.client);
                 copying.group = group;
                 copying.fresh = answer.member;
-                self.send(&mut copying, (answer.line, 1), group, members.as_slice());
+                self.send_all(&mut copying, (answer.line, 1), group);
                 self.keep(copying);
             }
         }
@@ -202,7 +216,6 @@ impl Schedule {
         self.viewed = self.joined;
         self.written.note(line, 1, Receiver::Nodes(group));
         task.stage = Stage::Finished;
-        let members = self.members(group);
-        self.send(task, (line, 1), group, members.as_slice());
+        self.send_all(task, (line, 1), group);
     }
 }

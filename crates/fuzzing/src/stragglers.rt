@@ -3,7 +3,7 @@
 use crate::numbers::Numbers;
 use crate::schedule::Schedule;
 use crate::tasks::{Stage, Task};
-use crate::written::{Delivery, Receiver};
+use crate::written::{Delivery, Named, Receiver};
 use quorum_expr::MemberSet;
 use std::alloc::Global;
 use std::ops::Range;
@@ -29,7 +29,7 @@ impl Schedule {
         let both = self
             .set_of(group, 0)
             .intersection(self.set_of(group, child));
-        let kept = self.shuffled(Numbers::of_set(both).as_slice());
+        let kept = self.shuffled(Numbers::of_set(both));
         let fresh = self.fresh(group, child);
         let of_child = self.readers_in(group, child, fresh, kept.as_slice());
         let of_root = self.readers_in(group, 0, MemberSet::empty(), kept.as_slice());
@@ -50,47 +50,32 @@ impl Schedule {
             group,
             child,
             fresh: Numbers::of_set(self.fresh(group, child)),
-            stepped: Numbers::of(kept.first(count)),
+            stepped: kept.first(count),
             behind,
         })
     }
 
     /// Lets the first writer issue a record of a group.
     fn issue_one(&mut self, group: u8) -> u64 {
-        self.written.begin("issue", &[1, u64::from(group)]);
-        self.written.text.add(":0:0:");
-        self.add_random_byte();
-        let line = self.written.end();
+        let line = self.issue_plain(1, group, 1);
         self.written.note(line, 1, Receiver::Nodes(group));
-        self.written.note_issue(line, 1, 1);
         line
     }
 
-    /// Delivers a message, given by its line and place, to members of a group. Returns the lines.
+    /// Delivers a message to members of a group. Returns the lines.
     pub fn deliver_each(
         &mut self,
-        message: (u64, u64),
+        named: Named,
         group: u8,
         members: &[u8],
         answer: Receiver,
     ) -> Range<u64> {
-        let (line, place) = message;
         let first = self.written.lines.saturating_add(1);
         for member in members.iter() {
-            let delivery = Delivery {
-                line,
-                place,
-                group,
-                member: *member,
-            };
+            let delivery = Delivery::new(named, group, *member);
             self.written.deliver(delivery, answer);
         }
         first..self.written.lines.saturating_add(1)
-    }
-
-    /// Delivers a line's first message to members of a group. Returns the lines.
-    fn deliver_to(&mut self, line: u64, group: u8, members: &[u8], answer: Receiver) -> Range<u64> {
-        self.deliver_each((line, 1), group, members, answer)
     }
 
     /// Lets a client take the first message of each of these lines.
@@ -100,44 +85,19 @@ impl Schedule {
         }
     }
 
-    /// Lets the first writer commit a record of a group.
-    fn commit_one(&mut self, group: u8) {
-        let line = self.issue_one(group);
-        let members = self.members(group);
-        let client = Receiver::Client(1);
-        let acks = self.deliver_to(line, group, members.as_slice(), client);
-        self.take_all(1, acks);
-    }
-
-    /// Sends the request of a fresh member to the members that learn of the step, and their copies to it.
-    fn copy_all(&mut self, parties: &Parties, fresh: u8, ask: u64) {
-        let group = parties.group;
-        let nodes = Receiver::Nodes(group);
-        let copies = self.deliver_to(ask, group, parties.stepped.as_slice(), nodes);
-        for copy in copies {
-            self.deliver_to(copy, group, &[fresh], nodes);
-        }
-    }
-
-    /// Lets a fresh member learn of a step and become whole from the members that learn of it.
-    fn hydrate_from(&mut self, parties: &Parties, step: u64, fresh: u8) {
-        let group = parties.group;
-        let asked = self.deliver_to(step, group, &[fresh], Receiver::Nodes(group));
-        for ask in asked {
-            self.copy_all(parties, fresh, ask);
-        }
-        self.written.of_node("hydrate", group, fresh);
-    }
-
     /// Lets a group step, and the fresh members become whole. Returns the step's line.
     fn step_with(&mut self, parties: &Parties) -> u64 {
         let group = parties.group;
         let nodes = Receiver::Nodes(group);
         let line = self.written.of_node("advance", group, parties.child);
         self.written.note(line, 1, nodes);
-        self.deliver_to(line, group, parties.stepped.as_slice(), nodes);
+        self.deliver_each((line, 1), group, parties.stepped.as_slice(), nodes);
         for fresh in parties.fresh.as_slice().iter() {
-            self.hydrate_from(parties, line, *fresh);
+            let ask = self
+                .written
+                .deliver(Delivery::new((line, 1), group, *fresh), nodes);
+            let copies = self.deliver_each((ask, 1), group, parties.stepped.as_slice(), nodes);
+            self.hydrate_by(copies, group, *fresh);
         }
         self.set_place(group, parties.child, line);
         line
@@ -153,12 +113,12 @@ impl Schedule {
         let (Some(from), Some(to)) = (behind.last(), stepped.first()) else {
             return 0..0;
         };
-        let (from, to) = (*from, *to);
-        self.deliver_to(step, group, &[from], nodes);
-        let numbers = [u64::from(group), u64::from(from), record];
+        self.written
+            .deliver(Delivery::new((step, 1), group, *from), nodes);
+        let numbers = [u64::from(group), u64::from(*from), record];
         let offer = self.written.put("offer", &numbers);
         self.written.note(offer, 1, nodes);
-        self.deliver_to(offer, group, &[to], Receiver::Client(1))
+        self.deliver_each((offer, 1), group, &[*to], Receiver::Client(1))
     }
 
     /// Delivers a record to the members that are behind, and through one of them to another. All their acknowledgements
@@ -166,7 +126,7 @@ impl Schedule {
     fn arrive_late(&mut self, parties: &Parties, issue: u64, step: u64, record: u64) {
         let client = Receiver::Client(1);
         let behind = parties.behind.as_slice();
-        let acks = self.deliver_to(issue, parties.group, behind, client);
+        let acks = self.deliver_each((issue, 1), parties.group, behind, client);
         let early = self.pass_on(parties, step, record);
         self.take_all(1, acks);
         self.take_all(1, early);
@@ -183,19 +143,15 @@ impl Schedule {
                 }
                 self.send(task, (fences, place), group, parties.fresh.as_slice());
             } else {
-                let members = self.members(group);
-                self.send(task, (fences, place), group, members.as_slice());
+                self.send_all(task, (fences, place), group);
             }
         }
     }
 
     /// Lets a recovery read members that the late record hasn't reached, and any members of another group.
     fn recover_without(&mut self, alloc: Global, parties: &Parties) {
-        let line = self.written.put("assign", &[]);
-        self.clients = self.clients.saturating_add(1);
-        let client = self.clients;
-        self.written.note(line, 1, Receiver::Client(client));
-        let fences = self.written.take(client, line, 1);
+        let (view, client) = self.assign();
+        let fences = self.written.take(client, view, 1);
         let mut task = Task::new(alloc, Stage::Cut, client);
         self.fence_without(&mut task, parties, fences);
         self.keep(task);
@@ -209,7 +165,8 @@ impl Schedule {
         };
         let before = self.rng.below(3);
         for _ in 0..before {
-            self.commit_one(group);
+            let line = self.issue_one(group);
+            self.exchange_all(1, (line, 1), group);
         }
         let line = self.issue_one(group);
         let step = self.step_with(&parties);

@@ -14,13 +14,14 @@ impl Schedule {
     /// Writes a line that belongs to no task.
     pub fn stray(&mut self, alloc: Global) {
         match self.rng.below(20) {
-            0..=9 => self.repeat(),
             10..=11 if self.events.restarts => self.restart(),
             12..=13 => self.offer(),
             14..=15 => self.resend(alloc),
             16 => self.read(),
             17 => self.tell(alloc),
-            18 => self.written.wait(),
+            18 => {
+                self.written.put("wait", &[]);
+            }
             19 => self.mistake(),
             _ => self.repeat(),
         }
@@ -33,16 +34,11 @@ impl Schedule {
         };
         match message.to {
             Receiver::Client(client) => {
-                self.written.take(client, message.line, message.place);
+                let (line, place) = message.named;
+                self.written.take(client, line, place);
             }
             Receiver::Nodes(group) => {
-                let member = self.any_member(group);
-                let delivery = Delivery {
-                    line: message.line,
-                    place: message.place,
-                    group,
-                    member,
-                };
+                let delivery = Delivery::new(message.named, group, self.any_member(group));
                 let client = self.newest();
                 self.written.deliver(delivery, Receiver::Client(client));
             }
@@ -73,8 +69,7 @@ impl Schedule {
         let line = self.written.put("resend", &[u64::from(client), record]);
         self.written.note(line, 1, Receiver::Nodes(group));
         let mut task = Task::new(alloc, Stage::Finished, client);
-        let members = self.members(group);
-        self.send(&mut task, (line, 1), group, members.as_slice());
+        self.send_all(&mut task, (line, 1), group);
         self.keep(task);
     }
 
