@@ -5,36 +5,19 @@ use Rattle.std.specs.List.{position_or_len, before_first, after_first}
 use Rattle.std.specs.Ordering.{nat_cmp}
 use Rattle.std.specs.FinSet.{FinSet, contains, contains-empty, empty, insert}
 use Rattle.volume_model.proofs.Sets.{contains-put}
-use Rattle.plan_edit.specs.Words.{AddsNamed, AddsText, AreNamed, IsSpan, IsSpelled, IsWithin, Names, is_comma, is_dash}
+use Rattle.plan_edit.specs.Words.{AddsNamed, AddsText, AreNamed, IsSpelled, IsWithin, Names, is_comma}
 use Rattle.plan_edit.specs.declared.word_reading.WordFault.{WordFault}
-use Rattle.plan_edit.specs.Words.IsSpan.{number, range}
 use Rattle.plan_edit.specs.Words.Names.{first_word, later_word}
 
 -- a text is one number only
 pub same_number : (text : List ℕ) (m n : ℕ) → IsSpelled text m → IsSpelled text n → m ≡ n
 same_number text m n one two = one.1 ∙ sym two.1
 
--- a word is one span only
-pub same_span : (word : List ℕ) (a b c d : ℕ) → IsSpan word a b → IsSpan word c d → (a ≡ c) × (b ≡ d)
-same_span word a b c d (number whole is same) (number whole' is' same') =
-    let first = same_number word a c is is' in (first, same ∙ first ∙ sym same')
-same_span word a b c d (number whole is same) (range within is' last) = absurd (omega (arith, whole, within))
-same_span word a b c d (range within is last) (number whole is' same) = absurd (omega (arith, whole, within))
-same_span word a b c d (range within is last) (range within' is' last') = (same_number (before_first is_dash word) a c is is', same_number (after_first is_dash word) b d last last')
-
 -- the members of the new set are those of the old one and those from the first to the last below a number
 pub record AddsBelow (first last n : ℕ) (old new : FinSet nat_cmp) : Type 0 where
   pub kept : (member : ℕ) → contains old member ≡ true → contains new member ≡ true
   pub all : (member : ℕ) → first ≤ member → member ≤ last → member < n → contains new member ≡ true
   pub only : (member : ℕ) → contains new member ≡ true → (contains old member ≡ true) ⊎ ((first ≤ member) × (member ≤ last) × (member < n))
-
--- no number yet
-pub adds_none : (first last : ℕ) (s : FinSet nat_cmp) → AddsBelow first last first s s
-adds_none first last s = record {
-  kept = λ m is. is;
-  all = λ m least most below. absurd (omega (arith, least, below));
-  only = λ m is. inl is;
-}
 
 -- a set with one member more
 one_more : (s : FinSet nat_cmp) (n m : ℕ) → contains (insert s n) m ≡ true → (m ≡ n) ⊎ (contains s m ≡ true)
@@ -74,21 +57,6 @@ adds_no_more first last n old new above h = record {
   only = λ m is. elim (h.only m is) [
     | inl old_one ↦ inl old_one
     | inr within ↦ inr (within.0, within.1, omega (arith, within.2))
-  ];
-}
-
--- all numbers of a word
-pub adds_word : (word : List ℕ) (first last n : ℕ) (old new : FinSet nat_cmp) → IsSpan word first last → last < n → AddsBelow first last n old new → AddsNamed word old new
-adds_word word first last n old new span below h = record {
-  kept = h.kept;
-  all = λ m within.
-      let same = same_span word within.first within.last first last within.span span in
-      let from = within.least in
-      let to = within.most in
-      h.all m (omega (arith, same.0, from)) (omega (arith, same.1, to)) (omega (arith, same.1, to, below));
-  only = λ m is. elim (h.only m is) [
-    | inl old_one ↦ inl old_one
-    | inr within ↦ inr (record { first = first; last = last; span = span; least = within.0; most = within.1 })
   ];
 }
 

@@ -38,10 +38,8 @@ fn own_certificate(
     };
     match claim.check(alloc, certificate) {
         Ok(()) => Ok(Some(certificate.copy_in(alloc)?)),
-        Err(at) => match at.fault {
-            Fault::NoMemory => Err(Fault::NoMemory),
-            _ => Ok(None),
-        },
+        Err(at) if at.fault == Fault::NoMemory => Err(Fault::NoMemory),
+        Err(_) => Ok(None),
     }
 }
 
@@ -51,12 +49,9 @@ fn keep_own(
     claims: &[ClaimRef<'_>],
     certificates: &mut [Option<Certificate<Global>>],
 ) -> Result<(), Fault> {
-    for i in 0..claims.len() {
-        if i >= certificates.len() {
-            return Ok(());
-        }
-        if certificates[i].is_none() {
-            certificates[i] = own_certificate(alloc, &claims[i])?;
+    for (certificate, claim) in certificates.iter_mut().zip(claims) {
+        if certificate.is_none() {
+            *certificate = own_certificate(alloc, claim)?;
         }
     }
     Ok(())

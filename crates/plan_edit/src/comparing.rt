@@ -21,38 +21,22 @@ pub fn is_same_set(left: MemberSet, right: MemberSet) -> bool
 fn is_kept(old: &Configuration, new: &Configuration) -> bool
     ensures { result ≡ true → bare new.now ≡ bare old.now }
 {
-    if old.parent != new.parent {
-        return false;
-    }
-    if !is_same_set(old.members, new.members) {
-        return false;
-    }
-    if !is_same_set(old.full, new.full) {
-        return false;
-    }
-    if !are_same(&old.read, &new.read) {
-        return false;
-    }
-    are_same(&old.write, &new.write)
+    old.parent == new.parent
+        && is_same_set(old.members, new.members)
+        && is_same_set(old.full, new.full)
+        && are_same(&old.read, &new.read)
+        && are_same(&old.write, &new.write)
 }
 
 /// Returns whether a configuration of a new plan is the draft.
 fn is_drafted(draft: &Draft, new: &Configuration) -> bool
     ensures { result ≡ true → bare new.now ≡ draft_data draft.now }
 {
-    if new.parent != Some(draft.parent) {
-        return false;
-    }
-    if !is_same_set(draft.members, new.members) {
-        return false;
-    }
-    if !is_same_set(draft.full, new.full) {
-        return false;
-    }
-    if !are_same(&draft.read, &new.read) {
-        return false;
-    }
-    are_same(&draft.write, &new.write)
+    new.parent == Some(draft.parent)
+        && is_same_set(draft.members, new.members)
+        && is_same_set(draft.full, new.full)
+        && are_same(&draft.read, &new.read)
+        && are_same(&draft.write, &new.write)
 }
 
 /// Returns whether configurations of a new plan are those of the old plan, certificates aside.
@@ -95,10 +79,7 @@ fn is_extended(old: &[Configuration], new: &[Configuration], drafts: &[Draft]) -
         return false;
     }
     let (front, back) = new.split_at(old.len());
-    if !are_kept(old, front) {
-        return false;
-    }
-    are_drafted(drafts, back)
+    are_kept(old, front) && are_drafted(drafts, back)
 }
 
 /// Returns the drafts if the group is the one that gets them.
@@ -112,13 +93,11 @@ fn drafts_for(drafts: &[Draft], is_edited: bool) -> &[Draft]
 pub fn extends(old: &Plan, new: &Plan, group: u8, drafts: &[Draft]) -> bool
     ensures { result ≡ true → Extends group (map draft_data drafts.now) (plan_data old.now) (plan_data new.now) }
 {
-    if old.format != new.format {
-        return false;
-    }
-    if old.lal != new.lal || old.born != new.born {
-        return false;
-    }
-    if old.groups.len() != new.groups.len() {
+    if old.format != new.format
+        || old.lal != new.lal
+        || old.born != new.born
+        || old.groups.len() != new.groups.len()
+    {
         return false;
     }
     for g in 0..old.groups.len() {

@@ -109,14 +109,8 @@ fn direct_drafts(
     ensures { Gives (λ v. map draft_data v.items) result
         (Ok (swapped replacement replacement.configuration (configuration_data base.now) ∷ [])) }
 {
-    let mut drafts = Vec::new(alloc);
-    drafts.push(swapped(
-        alloc,
-        base,
-        u64::from(replacement.configuration),
-        replacement,
-    )?)?;
-    Ok(drafts)
+    let parent = u64::from(replacement.configuration);
+    Ok(vec![in alloc; swapped(alloc, base, parent, replacement)?]?)
 }
 
 /// Returns the configurations of a replacement with a way back. The joint one gets the number `number`.

@@ -93,10 +93,7 @@ pub fn are_same(left: &Expr<Global>, right: &Expr<Global>) -> bool
             let (of, others) = (of.as_slice(), others.as_slice());
             for i in 0..of.len() {
                 let (here, there) = (&of[i], &others[i]);
-                if here.0 != there.0 {
-                    return false;
-                }
-                if !are_same(&here.1, &there.1) {
+                if here.0 != there.0 || !are_same(&here.1, &there.1) {
                     return false;
                 }
             }

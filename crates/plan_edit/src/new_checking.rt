@@ -85,10 +85,7 @@ fn list_of(alloc: Global, members: MemberSet) -> Result<Vec<u8>, Fault>
 pub(crate) fn weight_of(weights: &[u8], member: u8) -> u8
     ensures { result ≡ get_or weights.now member 1 }
 {
-    match weights.get(usize::from(member)) {
-        Some(weight) => *weight,
-        None => 1,
-    }
+    weights.get(usize::from(member)).copied().unwrap_or(1)
 }
 
 /// Returns whether children are these members with their weights.
@@ -116,12 +113,7 @@ fn is_counted(expr: &Expr<Global>, wanted: u16, weights: &[u8], list: &[u8]) -> 
 {
     match expr {
         Expr::Member(_) => false,
-        Expr::KOf { k, of } => {
-            if *k != wanted {
-                return false;
-            }
-            are_weighing(of, weights, list)
-        }
+        Expr::KOf { k, of } => *k == wanted && are_weighing(of, weights, list),
     }
 }
 
@@ -154,13 +146,10 @@ fn are_two(of: &[(u8, Expr<Global>)], first: u16, all: &[u8], second: u16, full:
         return false;
     }
     let (one, other) = (&of[0], &of[1]);
-    if one.0 != 1 || other.0 != 1 {
-        return false;
-    }
-    if !is_counted(&one.1, first, &[], all) {
-        return false;
-    }
-    is_counted(&other.1, second, &[], full)
+    one.0 == 1
+        && other.0 == 1
+        && is_counted(&one.1, first, &[], all)
+        && is_counted(&other.1, second, &[], full)
 }
 
 /// Returns whether an expression asks for `wanted` of two thresholds over members.
@@ -177,12 +166,7 @@ fn is_pair(
 {
     match expr {
         Expr::Member(_) => false,
-        Expr::KOf { k, of } => {
-            if *k != wanted {
-                return false;
-            }
-            are_two(of, first, all, second, full)
-        }
+        Expr::KOf { k, of } => *k == wanted && are_two(of, first, all, second, full),
     }
 }
 
@@ -278,13 +262,10 @@ fn is_root(
 ) -> Result<bool, Fault>
     ensures { IfOk result (λ b. b ≡ true → IsRoot words.now (configuration_data configuration.now)) }
 {
-    if configuration.parent.is_some() {
-        return Ok(false);
-    }
-    if !is_same_set(configuration.members, words.members) {
-        return Ok(false);
-    }
-    if !is_same_set(configuration.full, words.members.difference(words.tail)) {
+    if configuration.parent.is_some()
+        || !is_same_set(configuration.members, words.members)
+        || !is_same_set(configuration.full, words.members.difference(words.tail))
+    {
         return Ok(false);
     }
     is_asked(alloc, configuration, words)
@@ -308,10 +289,10 @@ fn has_root(
 fn is_wanted(alloc: Global, new: &Plan, words: &PlanWords<'_>) -> Result<bool, Fault>
     ensures { IfOk result (λ b. b ≡ true → IsWanted words.now (plan_data new.now)) }
 {
-    if new.lal != words.lal || new.born != words.born {
-        return Ok(false);
-    }
-    if new.groups.len() != usize::from(words.groups) {
+    if new.lal != words.lal
+        || new.born != words.born
+        || new.groups.len() != usize::from(words.groups)
+    {
         return Ok(false);
     }
     for g in 0..new.groups.len() {

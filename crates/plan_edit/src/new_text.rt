@@ -4,18 +4,13 @@ use crate::new_checking::weight_of;
 use crate::new_refusal::NewRefusal;
 use crate::picking::{Counts, apart_after_losses, check_zones, counts_for, largest, part_of};
 use crate::plan_words::{PlanWords, Quorums};
-use crate::text::{add_comma, add_members};
+use crate::text::add_members;
 use quorum_expr::{MEMBERS, MemberSet};
 use std::alloc::{AllocError, Global};
 
 /// Returns whether a member has another weight than 1.
 fn is_weighted(members: MemberSet, weights: &[u8]) -> bool {
-    for member in 0..MEMBERS {
-        if members.contains(member) && weight_of(weights, member) != 1 {
-            return true;
-        }
-    }
-    false
+    (0..MEMBERS).any(|member| members.contains(member) && weight_of(weights, member) != 1)
 }
 
 /// Returns whether the members of a new plan have weights.
@@ -31,14 +26,13 @@ fn add_weights(text: &mut String, members: MemberSet, weights: &[u8]) -> Result<
     if !is_weighted(members, weights) {
         return Ok(());
     }
-    let mut is_first = true;
+    let mut comma = "";
     text.push_str(",\"weights\":[")?;
     for member in 0..MEMBERS {
         if members.contains(member) {
             let weight = weight_of(weights, member);
-            add_comma(text, is_first)?;
-            write!(text, "{weight}")?;
-            is_first = false;
+            write!(text, "{comma}{weight}")?;
+            comma = ",";
         }
     }
     text.push_str("]")
@@ -64,16 +58,15 @@ fn add_zones(
     is_one_more: bool,
     is_write: bool,
 ) -> Result<(), AllocError> {
-    let mut is_first = true;
+    let mut comma = "";
     write!(text, "{{\"k\":{k},\"of\":[")?;
     for zone in zones {
         let counts = part_of(zone.len(), zones.len(), is_one_more);
         let part = if is_write { counts.write } else { counts.read };
-        add_comma(text, is_first)?;
-        write!(text, "{{\"k\":{part},\"of\":")?;
+        write!(text, "{comma}{{\"k\":{part},\"of\":")?;
         add_members(text, *zone)?;
         text.push_str("}")?;
-        is_first = false;
+        comma = ",";
     }
     text.push_str("]}")
 }
@@ -119,13 +112,8 @@ fn add_zone_quorums(
     text.push_str("\"read\":")?;
     add_zones(text, 2, zones, is_one_more, false)?;
     text.push_str(",\"write\":")?;
-    add_zones(
-        text,
-        zones.len().saturating_sub(1),
-        zones,
-        is_one_more,
-        true,
-    )?;
+    let all_but_one = zones.len().saturating_sub(1);
+    add_zones(text, all_but_one, zones, is_one_more, true)?;
     Ok(())
 }
 
@@ -186,7 +174,7 @@ pub fn plan_text(alloc: Global, words: &PlanWords<'_>) -> Result<String, NewRefu
     let mut text = String::new(alloc);
     add_header(&mut text, words)?;
     for group in 0..words.groups {
-        add_comma(&mut text, group == 0)?;
+        text.push_str(if group == 0 { "" } else { "," })?;
         add_group(&mut text, words)?;
     }
     text.push_str("]}")?;

@@ -36,13 +36,7 @@ pub fn counts_for(count: u8, lost: u8, more: u8) -> Option<Counts> {
 
 /// Returns the size of the largest zone.
 pub fn largest(zones: &[MemberSet]) -> u8 {
-    let mut most = 0;
-    for zone in zones {
-        if zone.len() > most {
-            most = zone.len();
-        }
-    }
-    most
+    zones.iter().map(|zone| zone.len()).max().unwrap_or(0)
 }
 
 /// Returns how many members of a zone of `size` members are a part of it: for a read set, and for a write set.

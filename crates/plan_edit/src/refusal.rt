@@ -31,9 +31,9 @@ impl fmt::Display for EditRefusal {
     fn fmt<W: fmt::Write>(&self, f: &mut fmt::Formatter<W>) -> fmt::Result {
         match self {
             EditRefusal::NotInPlan => f.write_str("the plan has no such configuration"),
-            EditRefusal::NotAMember => {
-                f.write_str("the configuration has no such member to replace")
-            }
+            EditRefusal::NotAMember => f.write_str(
+                "the configuration has no such member to replace",
+            ),
             EditRefusal::NotANumber => f.write_str("a member's number is 0 to 63"),
             EditRefusal::MemberReused => {
                 f.write_str("a configuration on the way from the root has the new member already")

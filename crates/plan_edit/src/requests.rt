@@ -60,11 +60,9 @@ fn zones_of(alloc: Global, request: &PlanRequest<'_>) -> Result<Vec<MemberSet>, 
 
 /// Returns the members of all zones.
 fn union_of(zones: &[MemberSet]) -> MemberSet {
-    let mut members = MemberSet::empty();
-    for zone in zones {
-        members = members.union(*zone);
-    }
-    members
+    zones
+        .iter()
+        .fold(MemberSet::empty(), |members, zone| members.union(*zone))
 }
 
 /// Reads the members of a request: those of its zones, if it has zones.
@@ -176,10 +174,8 @@ fn thresholds(request: &PlanRequest<'_>, total: u16) -> Result<(u16, u16), NewRe
     ensures write { IfOk result (λ both. IfSome request.now.write (λ given. both.1 ≡ given)) }
 {
     let write = request.write.unwrap_or(total / 2 + 1);
-    let read = match request.read {
-        Some(read) => read,
-        None => total.saturating_sub(write).saturating_add(1),
-    };
+    let rest = total.saturating_sub(write).saturating_add(1);
+    let read = request.read.unwrap_or(rest);
     let needed = read.max(write);
     if needed > total {
         return Err(NewRefusal::OverTotal { needed, total });

@@ -7,7 +7,7 @@ use std::alloc::{AllocError, Global};
 const LEVELS: u32 = 4;
 
 /// Where a walk through a plan's text is.
-#[derive(Drop)]
+#[derive(Default, Drop)]
 struct Walk {
     /// The brackets that are open.
     level: u32,
@@ -57,17 +57,13 @@ impl Walk {
     }
 }
 
-/// Returns the place of the bracket that closes the configurations of a group, in the text of a plan.
-fn end_of_group(text: &[u8], group: u8) -> Option<usize> {
-    let mut walk = Walk {
-        level: 0,
-        groups: 0,
-        is_in_string: false,
-        is_escaped: false,
-    };
+/// Returns the text of a plan in two parts, of which the second begins with the bracket that closes the configurations
+/// of a group.
+fn split_at_end(text: &[u8], group: u8) -> Option<(&[u8], &[u8])> {
+    let mut walk = Walk::default();
     for (at, byte) in text.iter().enumerate() {
         if walk.take(*byte) && walk.groups > u32::from(group) {
-            return Some(at);
+            return text.split_at_checked(at);
         }
     }
     None
@@ -80,13 +76,9 @@ pub fn with_configurations(
     group: u8,
     more: &str,
 ) -> Result<Option<Vec<u8>>, AllocError> {
-    let Some(end) = end_of_group(text, group) else {
+    let Some((front, back)) = split_at_end(text, group) else {
         return Ok(None);
     };
-    if end > text.len() {
-        return Ok(None);
-    }
-    let (front, back) = text.split_at(end);
     let mut made = Vec::with_capacity(alloc, text.len().saturating_add(more.len()))?;
     made.extend_from_slice(front)?;
     made.extend_from_slice(more.as_bytes())?;

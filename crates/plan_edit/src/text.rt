@@ -4,23 +4,14 @@ use crate::drafts::Draft;
 use quorum_expr::{Expr, MEMBERS, MemberSet};
 use std::alloc::{AllocError, Global};
 
-/// Appends a comma, except before the first item.
-pub fn add_comma(text: &mut String, is_first: bool) -> Result<(), AllocError> {
-    if is_first {
-        return Ok(());
-    }
-    text.push_str(",")
-}
-
 /// Appends members as an array.
 pub fn add_members(text: &mut String, members: MemberSet) -> Result<(), AllocError> {
-    let mut is_first = true;
+    let mut comma = "";
     text.push_str("[")?;
     for member in 0..MEMBERS {
         if members.contains(member) {
-            add_comma(text, is_first)?;
-            write!(text, "{member}")?;
-            is_first = false;
+            write!(text, "{comma}{member}")?;
+            comma = ",";
         }
     }
     text.push_str("]")
@@ -28,24 +19,13 @@ pub fn add_members(text: &mut String, members: MemberSet) -> Result<(), AllocErr
 
 /// Appends the weights of children as an array.
 fn add_weights(text: &mut String, of: &[(u8, Expr<Global>)]) -> Result<(), AllocError> {
-    let mut is_first = true;
+    let mut comma = "";
     text.push_str(",\"weights\":[")?;
     for (weight, _) in of {
-        add_comma(text, is_first)?;
-        write!(text, "{weight}")?;
-        is_first = false;
+        write!(text, "{comma}{weight}")?;
+        comma = ",";
     }
     text.push_str("]")
-}
-
-/// Returns whether a child has another weight than 1.
-fn has_weights(of: &[(u8, Expr<Global>)]) -> bool {
-    for (weight, _) in of {
-        if *weight != 1 {
-            return true;
-        }
-    }
-    false
 }
 
 /// Appends an expression.
@@ -54,14 +34,14 @@ fn add_expression(text: &mut String, expr: &Expr<Global>) -> Result<(), AllocErr
         Expr::Member(member) => write!(text, "{member}"),
         Expr::KOf { k, of } => {
             write!(text, "{{\"k\":{k},\"of\":[")?;
-            let mut is_first = true;
+            let mut comma = "";
             for (_, child) in of {
-                add_comma(text, is_first)?;
+                text.push_str(comma)?;
                 add_expression(text, child)?;
-                is_first = false;
+                comma = ",";
             }
             text.push_str("]")?;
-            if has_weights(of) {
+            if of.iter().any(|child| child.0 != 1) {
                 add_weights(text, of)?;
             }
             text.push_str("}")

@@ -81,11 +81,7 @@ fn range(word: &str) -> Result<(u8, u8), WordFault>
             let only = member(word)?;
             Ok((only, only))
         }
-        Some((first, last)) => {
-            let first = member(first)?;
-            let last = member(last)?;
-            Ok((first, last))
-        }
+        Some((first, last)) => Ok((member(first)?, member(last)?)),
     }
 }
 
@@ -158,15 +154,13 @@ pub fn read_zones(alloc: Global, text: &str) -> Result<Vec<MemberSet>, WordFault
 pub fn read_survival(text: &str) -> Result<SurvivalWord, WordFault>
     ensures { IfOk result (IsSurvival text.now) }
 {
-    if text == "zone" {
-        return Ok(SurvivalWord::Zone);
-    }
-    if text == "zone+1" {
-        return Ok(SurvivalWord::ZoneAndOne);
-    }
-    match text.parse::<u8>() {
-        Ok(count) => Ok(SurvivalWord::Members(count)),
-        Err(_) => Err(WordFault::Survival),
+    match text {
+        "zone" => Ok(SurvivalWord::Zone),
+        "zone+1" => Ok(SurvivalWord::ZoneAndOne),
+        _ => match text.parse::<u8>() {
+            Ok(count) => Ok(SurvivalWord::Members(count)),
+            Err(_) => Err(WordFault::Survival),
+        },
     }
 }
 

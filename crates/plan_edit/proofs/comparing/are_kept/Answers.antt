@@ -1,13 +1,8 @@
 use Rattle.std.proofs.Common.{◌≤◌, length, sym, ◌∙◌, arith}
-use Rattle.plan.specs.declared.configurations.Configuration.{Configuration}
-use Rattle.plan.specs.PlanData.{ConfigurationData}
 use Rattle.plan.specs.Plan.{configuration_data}
-use Rattle.plan_edit.specs.Drafts.{uncertified}
+use Rattle.plan_edit.specs.Drafts.{bare, uncertified}
 use Rattle.plan_edit.proofs.Behind.{map-twice, same-done}
 use Rattle.plan_edit.proofs.comparing.are_kept.Goals as goal
-
-abbrev bare : Configuration → ConfigurationData
-bare c = uncertified (configuration_data c)
 
 pub returns : goal.returns
 returns c =
