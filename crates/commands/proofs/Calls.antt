@@ -1,10 +1,9 @@
 -- What several reads or writes come to.
-use Rattle.std.proofs.Common.{◌≡◌, ◌∙◌, ◌⊎◌, inl, inr, sym, ap, ℕ, ◌≤◌, List, [], ◌++◌, Option, None, Some, Result, Ok, Err, IfSome, OnErr, IsErr, append_assoc, append-nil, length, take, take_all}
-use Rattle.std.proofs.KnownBytes.{Consumes-trans, Keeps-trans}
-use Rattle.std.proofs.Math.Seq.{take-append_seam}
-use Rattle.std.specs.Io.KnownBytes.{Appends, Consumes, IsAtEnd, Keeps, ReadConsumes, WriteAppends}
+use Rattle.std.proofs.Common.{◌∙◌, sym, ap, ℕ, List, ◌++◌, Option, None, Some, Result, Ok, Err, OnErr, IsErr, take}
+use Rattle.std.proofs.KnownBytes.{Keeps-trans}
+use Rattle.std.specs.Io.KnownBytes.{Appends, Consumes, Keeps, ReadConsumes, WriteAppends}
 use Rattle.std.specs.declared.io.Error.{Error}
-use Rattle.commands.specs.Failures.{GrowsBy, ReadFails}
+use Rattle.commands.specs.Failures.{ReadFails}
 
 -- ---- calls that failed, and one more
 
@@ -38,22 +37,3 @@ read_fails answers reader (Ok n) said = tt
 read_fails answers reader (Err error) said = record { reader = reader; error = error; answered = said }
 
 -- ---- bytes that grow
-
-pub grows_on : (a b c : Option (List ℕ)) (xs ys zs : List ℕ) → GrowsBy a b xs ys → GrowsBy b c ys zs → GrowsBy a c xs zs
-grows_on a b c xs ys zs first next = record {
-  bytes = first.bytes ++ next.bytes;
-  added = next.added ∙ ap (λ l. l ++ next.bytes) first.added ∙ append_assoc xs first.bytes next.bytes;
-  read = Consumes-trans a b c first.bytes next.bytes first.read next.read;
-}
-
-taken : (bytes xs rest : List ℕ) (most : ℕ) → bytes ≡ xs ++ rest → length xs ≤ most → (rest ≡ []) ⊎ (length xs ≡ most) → xs ≡ take most bytes
-taken bytes xs rest most split within (inl none) =
-    let whole : bytes ≡ xs = split ∙ ap (λ l. xs ++ l) none ∙ append-nil xs in
-    sym (rw whole (take_all most xs within))
-taken bytes xs rest most split within (inr full) = rw (split, sym full) (sym (take-append_seam xs rest))
-
--- all that was there, or as much as was asked for
-pub all_or_most : (a b : Option (List ℕ)) (xs : List ℕ) (most : ℕ) → GrowsBy a b [] xs → length xs ≤ most → IsAtEnd b ⊎ (length xs ≡ most) → IfSome a (λ bytes. xs ≡ take most bytes)
-all_or_most None b xs most g within end = tt
-all_or_most (Some bytes) None xs most g within end = absurd g.read
-all_or_most (Some bytes) (Some rest) xs most g within end = taken bytes xs rest most (g.read ∙ ap (λ l. l ++ rest) (sym g.added)) within end

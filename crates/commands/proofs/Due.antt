@@ -69,12 +69,9 @@ reply_says D (Err stop) due out = inr (ap stop_answer out)
 
 -- a stop for a fault, whose answer is due
 pub stop_says : (P : PlanFault → Type 0) (D : Answer → Type 0) (stop : Stop) → ((fault : PlanFault) → P fault → D (fault_answer fault)) → StopsBy P stop → Says D (stop_answer stop)
-stop_says P D (stops.Unreadable name) f bad = absurd bad
 stop_says P D (stops.Plan fault) f is = inl (f fault is)
-stop_says P D (stops.Placed lines fault) f bad = absurd bad
-stop_says P D (stops.Line number) f bad = absurd bad
-stop_says P D (stops.Number number) f bad = absurd bad
 stop_says P D stops.NoMemory f is = inr refl
+stop_says P D stop f bad = absurd bad
 
 -- a reply, or such a stop
 pub plan_says : (P : PlanFault → Type 0) (D : Answer → Type 0) (r : Result Reply Stop) → ((fault : PlanFault) → P fault → D (fault_answer fault)) → IfOk r (λ reply. D (said reply)) → IfErr r (StopsBy P) → Says D (answer_of r)
@@ -83,12 +80,9 @@ plan_says P D (Err stop) f due stopped = stop_says P D stop f stopped
 
 -- a stop for some fault
 pub any_fault : (P : PlanFault → Type 0) (stop : Stop) → StopsBy P stop → StopsBy (λ fault. Unit {0}) stop
-any_fault P (stops.Unreadable name) bad = absurd bad
 any_fault P (stops.Plan fault) is = tt
-any_fault P (stops.Placed lines fault) bad = absurd bad
-any_fault P (stops.Line number) bad = absurd bad
-any_fault P (stops.Number number) bad = absurd bad
 any_fault P stops.NoMemory is = tt
+any_fault P stop bad = absurd bad
 
 -- the text of a file has a fault, or memory ran out
 pub text_stops : (file : File) (items text : List ℕ) (r : Result CheckedPlan Stop) → IsRead file (λ t. items ≡ t) → text ≡ items → IfErr r (StopsBy (λ fault. text_fault text ≡ Some fault))
@@ -106,12 +100,9 @@ line_stops text scripts.NoMemory stop e h = subst (λ (s : Stop). StopsAtLine te
 line_stops text (scripts.Line number) stop e h = subst (λ (s : Stop). StopsAtLine text s) (sym e) h
 
 line_says : (text : List ℕ) (stop : Stop) → StopsAtLine text stop → Says (IsBadScript text) (stop_answer stop)
-line_says text (stops.Unreadable name) bad = absurd bad
-line_says text (stops.Plan fault) bad = absurd bad
-line_says text (stops.Placed lines fault) bad = absurd bad
 line_says text (stops.Line number) is = inl (record { number = number; first = is; answered = refl })
-line_says text (stops.Number number) bad = absurd bad
 line_says text stops.NoMemory is = inr refl
+line_says text stop bad = absurd bad
 
 -- the text of a file has a bad line, or memory ran out
 pub script_stops : (file : File) (items text : List ℕ) (r : Result Script Stop) → IsRead file (λ t. items ≡ t) → text ≡ items → IfErr r (StopsAtLine text) → IfErr r (λ stop. AnswersOf file IsBadScript (stop_answer stop))

@@ -66,11 +66,8 @@ explains_checked text words line shown all plan checked spelled same faultless h
 -- lines, and the line of the plan's first fault
 pub explains_no : (text lines all : List ℕ) (plan : PlanData) (stop : Stop) → plan_of text ≡ Ok plan → StopsBy (λ fault. plan_fault plan ≡ Some fault) stop → is_input_stop stop ≡ false → all ≡ lines ++ stop_line stop
     → ExplainsTo text (printed 1 all)
-explains_no text lines all plan (stops.Unreadable name) spelled bad refused e = absurd bad
-explains_no text lines all plan (stops.Placed place fault) spelled bad refused e = absurd bad
-explains_no text lines all plan (stops.Line number) spelled bad refused e = absurd bad
-explains_no text lines all plan (stops.Number number) spelled bad refused e = absurd bad
-explains_no text lines all plan stops.NoMemory spelled bad refused e = absurd cc
 explains_no text lines all plan (stops.Plan fault) spelled is refused e =
     subst (λ a. ExplainsTo text a) (ap (λ input. line_answer input (lines ++ stop_line (stops.Plan fault))) refused ∙ ap (printed 1) (sym e))
     (explains_fault text lines fault (ap first_fault spelled ∙ is))
+explains_no text lines all plan stops.NoMemory spelled is refused e = absurd cc
+explains_no text lines all plan stop spelled bad refused e = absurd bad

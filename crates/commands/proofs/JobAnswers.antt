@@ -51,18 +51,13 @@ memory_job remaining job old new a (of_number number is due) = of_number number 
 memory_job remaining job old new a (of_file is due) = of_file is (unmade refl)
 
 memory_by : {R : Type 0} (remaining : R → Option (List ℕ)) (job : Job) (old new : Source R) (script : File) (action : Action) (a : Answer) → AnswersBy remaining job old new script action a → AnswersBy remaining job old new script action no_memory
-memory_by remaining job old new script Check a due = unmade refl
-memory_by remaining job old new script Run a due = unmade refl
-memory_by remaining job old new script Fleet a due = unmade refl
-memory_by remaining job old new script Search a due = unmade refl
 memory_by remaining job old new script Explain a due = record {
   alone = λ none. record { explains = memory_job remaining job old new a (due.alone none).explains; of_file = λ is. unmade refl };
   over = λ some. record { explains = as_report job.json (shown_file remaining job old new) no_memory (unmade refl); quiet = λ small. absurd (omega arith) };
 }
-memory_by remaining job old new script (Replace options) a due = unmade refl
-memory_by remaining job old new script (Make making) a due = unmade refl
 memory_by remaining job old new script New a due = unusable (codes "input: 9 NoMemory\n") refl
 memory_by remaining job old new script Draw a due = record { alone = λ none. unmade refl; over = λ some. unmade refl }
+memory_by remaining job old new script action a due = unmade refl
 
 -- what is said where this is the answer
 pub said_job : {R S : Type 0} {of_plan : R → Option (List ℕ)} {of_script : S → Option (List ℕ)} {job : Job} {old new : Source R} {script_old script_new : Source S} {a said : Answer}
@@ -91,12 +86,9 @@ yes_by : {R : Type 0} (remaining : R → Option (List ℕ)) (job : Job) (old new
 yes_by remaining job old new script Check a due other has zero = yes_of ChecksTo (file_of remaining job.plan.now old new) a (λ text. certified_by text a) due zero
 yes_by remaining job old new script Run a due other has zero = yes_of (RunsTo script) (file_of remaining job.plan.now old new) a (λ text. certified_by text a) due zero
 yes_by remaining job old new script Fleet a due other has zero = yes_of (FleetsTo script) (file_of remaining job.plan.now old new) a (λ text. certified_by text a) due zero
-yes_by remaining job old new script Search a due other has zero = absurd cc
 yes_by remaining job old new script Explain a due other has zero = yes_explains remaining job old new job.script a due (has refl) zero
-yes_by remaining job old new script (Replace options) a due other has zero = absurd cc
 yes_by remaining job old new script (Make making) a due other has zero = yes_of MakesTo (file_of remaining job.plan.now old new) a (λ text. certified_by text a) due zero
-yes_by remaining job old new script New a due other has zero = absurd cc
-yes_by remaining job old new script Draw a due other has zero = absurd cc
+yes_by remaining job old new script action a due other has zero = absurd cc
 
 pub job_yes : {R S : Type 0} {of_plan : R → Option (List ℕ)} {of_script : S → Option (List ℕ)} {job : Job} {old new : Source R} {script_old script_new : Source S} {a : Answer}
     → AnswersJob of_plan of_script job old new script_old script_new a → prints_plan job.action ≡ false → HasFile job → a.status ≡ 0 → HoldsCertified of_plan old

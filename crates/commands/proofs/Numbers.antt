@@ -36,17 +36,7 @@ pub no_number_or : (other : ℕ) (o : Option (List ℕ)) → IsNoNumber o → (n
 no_number_or other None bad n small is = bad
 no_number_or other (Some t) bad n small is = bad n small is
 
-pub no_number_in : (o : Option (List ℕ)) → IsNoNumber o → (n : ℕ) → n < 2 ^ 8 → IsNumberIn o n → ⊥
-no_number_in None bad n small is = bad
-no_number_in (Some t) bad n small is = bad n small is
-
 -- where there is no text there is no number in it
 pub none_in : (o : Option (List ℕ)) → IsGiven o None → (n : ℕ) → IsNumberIn o n → ⊥
 none_in None h n is = is
 none_in (Some t) h n is = absurd cc
-
--- a number that is given is below 256 or none is given
-pub no_option : (o : Option (List ℕ)) (x : Option ℕ) → IsNoNumber o → IsGiven o x → ((n : ℕ) → x ≡ Some n → n < 2 ^ 8) → ⊥
-no_option None x bad is small = bad
-no_option (Some t) None bad is small = absurd cc
-no_option (Some t) (Some n) bad is small = bad n (small n refl) is

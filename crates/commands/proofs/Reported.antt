@@ -57,16 +57,13 @@ reports_fault text fault r is made = IfOk-weaker r _ _ (λ reply h. record { che
 
 -- the fault at which a check of the plan stops
 stop_made : (text line : List ℕ) (plan : PlanData) (stop : Stop) (a : Answer) → plan_of text ≡ Ok plan → StopsBy (λ fault. plan_fault plan ≡ Some fault) stop → is_input_stop stop ≡ false → line ≡ stop_line stop → IsReport 1 line a → ReportsTo text a
-stop_made text line plan (stops.Unreadable name) a spelled bad refused e h = absurd bad
-stop_made text line plan (stops.Placed lines fault) a spelled bad refused e h = absurd bad
-stop_made text line plan (stops.Line number) a spelled bad refused e h = absurd bad
-stop_made text line plan (stops.Number number) a spelled bad refused e h = absurd bad
-stop_made text line plan stops.NoMemory a spelled bad refused e h = absurd cc
 stop_made text line plan (stops.Plan fault) a spelled is refused e h = record {
   checked = fault_answer fault;
   due = faulty fault (ap first_fault spelled ∙ is) refl;
   is = subst (λ input. IsReportOf (line_answer input (plan_fault_text fault ++ codes "\n")) a) (sym refused) (line_reports false line (plan_fault_text fault ++ codes "\n") a e h);
 }
+stop_made text line plan stops.NoMemory a spelled is refused e h = absurd cc
+stop_made text line plan stop a spelled bad refused e h = absurd bad
 
 pub reports_no : (text line : List ℕ) (plan : PlanData) (stop : Stop) (r : Result Reply Stop) → plan_of text ≡ Ok plan → StopsBy (λ fault. plan_fault plan ≡ Some fault) stop → is_input_stop stop ≡ false → line ≡ stop_line stop
     → IfOk r (λ reply. IsReport 1 line (said reply)) → IfOk r (λ reply. ReportsTo text (said reply))

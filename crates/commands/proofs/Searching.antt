@@ -1,21 +1,13 @@
 -- What a search says of what was found.
-use Rattle.std.proofs.Common.{◌≡◌, ◌∙◌, ap, sym, refl, ℕ, zero, suc, ◌+◌, ◌<◌, Bool, true, false, List, [], ◌∷◌, ◌++◌, Option, Some, None, Result, Ok, Err, option_map, is_none, if◌then◌else◌, length, drop, get_or, map, replicate, add-one, drop-cons, arith}
+use Rattle.std.proofs.Common.{◌≡◌, ◌∙◌, ap, sym, refl, ℕ, zero, suc, Bool, true, false, List, [], ◌∷◌, Option, Some, None, Result, Ok, Err, option_map, is_none, if◌then◌else◌, map, replicate, arith}
 use mir.Val.{bool_byte}
 use Rattle.std.specs.Prelude.{IsOkAnd}
 use Rattle.std.specs.List.{list_any}
-use Rattle.std.proofs.lemmas.List.{append_assoc, append-nil, length-map}
-use Rattle.std.proofs.Math.Seq.{drop-length}
-use Rattle.std.specs.declared.alloc.Global.{Global}
-use Rattle.refutation.specs.declared.certificate.Certificate.{Certificate}
 use Rattle.refutation.specs.Rule.{Rule}
-use Rattle.plan.specs.declared.lent.ClaimRef.{ClaimRef}
-use Rattle.plan.specs.LentClaims.{all_lent, lent_placed}
 use Rattle.plan.specs.PlanClaims.{PlacedClaim}
-use Rattle.plan.specs.Taped.{HasClaims}
 use Rattle.cert_search.specs.Answers.{rule_in}
-use Rattle.cert_search.specs.Kept.{AreKept}
 use Rattle.commands.specs.Searched.{PrintsSearch}
-use Rattle.commands.specs.Unfound.{found_status, unfound_line, unfound_lines}
+use Rattle.commands.specs.Unfound.{found_status, unfound_lines}
 
 -- an Ok has a value
 pub ok_and : {X E : Type 0} (r : Result X E) (P : X → Type 0) → IsOkAnd r P → (x : X) × (r ≡ Ok x) × P x
@@ -47,43 +39,6 @@ no_one false e = refl
 -- the status 0 says that no claim is without a rule
 pub no_gap : (rules : List (Option Rule)) → found_status rules ≡ 0 → list_any (λ rule. is_none rule) rules ≡ false
 no_gap rules e = no_one (list_any (λ rule. is_none rule) rules) e
-
--- a text has a place for each of its claims, whichever are kept
-pub still_claims : (text : List ℕ) (room : ℕ) (olds news : List (Option (Certificate Global))) → HasClaims text (length olds) → AreKept room (map rule_in olds) (map rule_in news) → HasClaims text (length news)
-still_claims text room olds news has are = record {
-  plan = has.plan;
-  is = has.is;
-  claims = has.claims;
-  listed = has.listed;
-  places = sym (length-map news rule_in) ∙ are.as_many ∙ length-map olds rule_in ∙ has.places;
-}
-
--- one claim more
-pub unfound_more : (claims : List ClaimRef) (left later : List (Option (Certificate Global))) (i : ℕ) (claim : ClaimRef) (certificate : Option (Certificate Global)) (all old new : List ℕ)
-    → all ≡ old ++ unfound_lines (all_lent (drop i claims)) (map rule_in left) → i < length claims → claim ≡ get_or claims i claim → left ≡ certificate ∷ later
-    → new ≡ old ++ unfound_line (lent_placed claim) (rule_in certificate) → all ≡ new ++ unfound_lines (all_lent (drop (i + 1) claims)) (map rule_in later)
-unfound_more claims left later i claim certificate all old new so_far within item split is_new =
-    let front : drop i claims ≡ claim ∷ drop (i + 1) claims = drop-cons claims i claim within ∙ rw (← item, add-one) refl in
-    let line = unfound_line (lent_placed claim) (rule_in certificate) in
-    let rest = unfound_lines (all_lent (drop (i + 1) claims)) (map rule_in later) in
-    let both : unfound_lines (all_lent (drop i claims)) (map rule_in left) ≡ line ++ rest = rw (front, split) refl in
-    so_far ∙ (ap (λ t. old ++ t) both ∙ (sym (append_assoc old line rest) ∙ ap (λ t. t ++ rest) (sym is_new)))
-
-no_lines : (claims : List PlacedClaim) → unfound_lines claims [] ≡ []
-no_lines [] = refl
-no_lines (c ∷ cs) = refl
-
--- no certificate is left
-pub unfound_out : (claims : List PlacedClaim) (left : List (Option (Certificate Global))) (all old : List ℕ) → all ≡ old ++ unfound_lines claims (map rule_in left) → left ≡ [] → old ≡ all
-unfound_out claims left all old so_far empty =
-    let nothing : unfound_lines claims (map rule_in left) ≡ [] = rw empty (no_lines claims) in
-    sym (so_far ∙ (ap (λ t. old ++ t) nothing ∙ append-nil old))
-
--- no claim is left
-pub unfound_all : (claims : List ClaimRef) (left : List (Option (Certificate Global))) (i : ℕ) (all old : List ℕ) → all ≡ old ++ unfound_lines (all_lent (drop i claims)) (map rule_in left) → i ≡ length claims → old ≡ all
-unfound_all claims left i all old so_far end =
-    let nothing : drop i claims ≡ [] = rw end (drop-length claims) in
-    sym (so_far ∙ (ap (λ cs. old ++ unfound_lines (all_lent cs) (map rule_in left)) nothing ∙ append-nil old))
 
 -- where each claim has a certificate, there is no line
 pub all_found : (claims : List PlacedClaim) (rules : List (Option Rule)) → list_any (λ r. is_none r) rules ≡ false → unfound_lines claims rules ≡ []

@@ -1,10 +1,12 @@
 -- The command line, as clap reads it.
 use Rattle.std.specs.Prelude.{◌≡◌, ℕ, [], ◌∷◌, codes, pos, Some, true, false}
-use Rattle.clap.specs.Words.{App, Rule, Text, app_of, new_app, new_rule, with_rule, with_subcommand}
+use Rattle.clap.specs.Words.{App, Rule, Text, app_of, new_app, new_rule, rule_of, with_rule, with_subcommand}
 use Rattle.clap.specs.Simple.{on_top}
+use Rattle.clap.specs.declared.builder.arg.Arg.{Arg}
 use Rattle.clap.specs.declared.builder.command.Command.{Command}
 use Rattle.clap.specs.declared.builder.command.Command.TheViews.{out-Command}
 use Rattle.clap.specs.declared.builder.action.ArgAction.TheVariants.{Set, SetTrue}
+use Rattle.clap.specs.declared.builder.value_parser.ValueParser.{ValueParser}
 use Rattle.clap.specs.declared.builder.value_parser.ValueParser.TheVariants as parsers
 
 abbrev pub file_rule : Text → Rule
@@ -46,6 +48,15 @@ fleet_leaf name = with_rule (script_leaf name) workers_rule
 -- a file that may be left out
 abbrev pub other_file_rule : Text → Rule
 other_file_rule id = record (new_rule id) { action = Some Set }
+
+-- an argument before it is added
+pub record IsArg (r : Rule) (a : Arg) : Type 0 where
+  pub rule : rule_of a ≡ r
+  pub local : a.global ≡ false
+
+-- an option with a value that this parser reads: --ID N
+abbrev pub parsed_rule : Text → ValueParser → Rule
+parsed_rule id range = record (new_rule id) { long = Some id; value_names = 1; parser = Some range }
 
 -- a subcommand before it is added
 pub record IsLeaf (a : App) (c : Command) : Type 0 where

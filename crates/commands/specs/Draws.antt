@@ -4,7 +4,10 @@ use Rattle.plan.specs.PlanData.{PlanData}
 use Rattle.plan.specs.PlanText.{plan_of}
 use Rattle.plan.specs.declared.fault.PlanFault.{PlanFault}
 use Rattle.commands.specs.Answer.{Answer, fault_answer, printed}
-use Rattle.commands.specs.Answers.{BothAnswer, File}
+use Rattle.volume_model.specs.Plan as model
+use Rattle.commands.specs.Answers.{BothAnswer, File, PrintsFleetOf, PrintsScript}
+use Rattle.commands.specs.declared.running.ScriptUse.{ScriptUse}
+use Rattle.commands.specs.declared.running.ScriptUse.TheVariants.{Run, Fleet, Draw}
 
 -- The answer to a plan's text: the text's fault; or, to the text of a plan, a picture or a fault of the plan. The plan
 -- needs no certificates.
@@ -19,3 +22,13 @@ pub data DrawsTo (text : List ℕ) (answer : Answer) : Type 0 where
 -- picture, or a line that says why there is none.
 abbrev pub DrawsRunTo : File → List ℕ → Answer → Type 0
 DrawsRunTo = BothAnswer (λ plan script status text. status ≤ 1)
+
+-- what is printed of a script over a plan
+abbrev pub printing : ScriptUse → model.Plan → List ℕ → ℕ → List ℕ → Type 0
+printing Run = PrintsScript
+printing Fleet = PrintsFleetOf
+printing Draw = λ plan script status text. status ≤ 1
+
+-- the answer to a plan's text and the file of a script that is used in this way
+abbrev pub UsesTo : ScriptUse → File → List ℕ → Answer → Type 0
+UsesTo script_use = BothAnswer (printing script_use)

@@ -56,18 +56,12 @@ script_stop scripts.NoMemory = NoMemory
 
 -- The job stops at the first bad line of its script's text, or memory ran out.
 abbrev pub StopsAtLine : List ℕ → Stop → Type 0
-StopsAtLine text (Unreadable name) = ⊥
-StopsAtLine text (Plan fault) = ⊥
-StopsAtLine text (Placed lines fault) = ⊥
 StopsAtLine text (Line number) = IsFirstBad text number
-StopsAtLine text (Number number) = ⊥
 StopsAtLine text NoMemory = Unit {0}
+StopsAtLine text stop = ⊥
 
 -- The job stops for a fault of its plan with this property, or memory ran out.
 abbrev pub StopsBy : (PlanFault → Type 0) → Stop → Type 0
-StopsBy IsSo (Unreadable name) = ⊥
 StopsBy IsSo (Plan fault) = IsSo fault
-StopsBy IsSo (Placed lines fault) = ⊥
-StopsBy IsSo (Line number) = ⊥
-StopsBy IsSo (Number number) = ⊥
 StopsBy IsSo NoMemory = Unit {0}
+StopsBy IsSo stop = ⊥

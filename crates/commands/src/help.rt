@@ -1,6 +1,15 @@
-//! The text of the help after its lists.
+//! The subcommands with their help.
 
-/// Of the whole program.
+/// What the help says of a subcommand.
+#[derive(Clone, Copy)]
+pub struct Subcommand<'a> {
+    pub name: &'a str,
+    pub about: &'a str,
+    /// What stands below the lists of arguments.
+    pub notes: &'a str,
+}
+
+/// What stands below the list of subcommands.
 pub const PROGRAM: &str = "\
 Exit status: 0 for yes, 1 for a refusal, 2 for words, files or texts that can't be used (told on standard error),
 and for an output that can't be written.
@@ -14,17 +23,24 @@ member, `steps` says what to do for one, and `simulate` tries the plan at random
 
 Example: plan_tool new --members 0-5 -o plan.json && plan_tool explain plan.json";
 
-/// Of `check`.
-pub const CHECK: &str = "\
+/// The subcommand `check`.
+pub const CHECK: Subcommand<'static> = Subcommand {
+    name: "check",
+    about: "Says whether a plan's quorums all meet",
+    notes: "\
 Reads the plan, and prints `yes: G groups, C configurations, K certificates`, or the plan's first fault.
 
 Exit status: 0 for yes; 1 for a fault; 2 where the file can't be read or its text isn't a plan's (told on standard
 error).
 
-Example: plan_tool check examples/six_copies.json";
+Example: plan_tool check examples/six_copies.json",
+};
 
-/// Of `run`.
-pub const RUN: &str = "\
+/// The subcommand `run`.
+pub const RUN: Subcommand<'static> = Subcommand {
+    name: "run",
+    about: "Runs a script over a plan",
+    notes: "\
 Checks the plan, reads the whole script, and makes its events happen over a volume that is just born. Prints a line an
 event, `LINE ok M` with the number of messages that it made or `LINE refused NUMBER NAME`; then the open writers, with
 what is durable, and the recoveries that have cut.
@@ -32,10 +48,14 @@ what is durable, and the recoveries that have cut.
 Exit status: 0 where no event was refused; 1 where one was, or for a fault of the plan; 2 where a file can't be read or
 its text isn't a plan's or a script's (told on standard error).
 
-Example: plan_tool run examples/six_copies.json examples/recovery.script";
+Example: plan_tool run examples/six_copies.json examples/recovery.script",
+};
 
-/// Of `fleet`.
-pub const FLEET: &str = "\
+/// The subcommand `fleet`.
+pub const FLEET: Subcommand<'static> = Subcommand {
+    name: "fleet",
+    about: "Runs a script over a plan on threads",
+    notes: "\
 Checks the plan, reads the whole script, and makes its events happen over a volume that is just born, on threads:
 drivers take its lines in turn, and each node takes its messages on a thread of its own. A line that names a message
 waits for the line that made it, and no line behind a `wait` starts before all lines before it have ended. Other lines
@@ -48,10 +68,14 @@ then `journal yes` where that run refuses nothing and has S steps, else `journal
 Exit status: 0 where no event was refused and the journal says yes; 1 where not, or for a fault of the plan; 2 where a
 file can't be read, its text isn't a plan's or a script's, or memory or a thread is wanting (told on standard error).
 
-Example: plan_tool fleet examples/six_copies.json examples/three_bytes_written.script -w 3";
+Example: plan_tool fleet examples/six_copies.json examples/three_bytes_written.script -w 3",
+};
 
-/// Of `search`.
-pub const SEARCH: &str = "\
+/// The subcommand `search`.
+pub const SEARCH: Subcommand<'static> = Subcommand {
+    name: "search",
+    about: "Writes a plan with certificates for its claims",
+    notes: "\
 Reads the plan, and prints it with the certificates that are found for its claims; tells on standard error of each claim
 for which none is found.
 
@@ -61,10 +85,14 @@ file. If the status isn't 0 what would be printed without -o is printed, and FIL
 Exit status: 0 where each claim has one; 1 where a claim has none, or for a fault of the plan; 2 where the file can't be
 read or its text isn't a plan's (told on standard error), or where FILE can't be written.
 
-Example: plan_tool search examples/uncertified.json -w 4 -o certified.json";
+Example: plan_tool search examples/uncertified.json -w 4 -o certified.json",
+};
 
-/// Of `explain`.
-pub const EXPLAIN: &str = "\
+/// The subcommand `explain`.
+pub const EXPLAIN: Subcommand<'static> = Subcommand {
+    name: "explain",
+    about: "Says what a plan survives, why its claims fail and where a script fails, or what a refusal means",
+    notes: "\
 Reads the plan, and prints of each configuration its members, its expressions with how many members each can lose, the
 step from its parent, and of each claim whether it is certified, or two sets that show why it fails; of a text that
 isn't a plan's, the place of its fault; then the line that `check` prints. With a number below 256 in place of a file
@@ -78,10 +106,14 @@ With --json it prints the same as one line of JSON on standard output.
 Exit status, as of `check`, or of `run` with a script: 0 for yes; 1 for a fault or a refused line; 2 where a file can't
 be read or its text isn't a plan's or a script's, or no refusal has the number (told on standard error).
 
-Example: plan_tool explain examples/write_three.json";
+Example: plan_tool explain examples/write_three.json",
+};
 
-/// Of `replace`.
-pub const REPLACE: &str = "\
+/// The subcommand `replace`.
+pub const REPLACE: Subcommand<'static> = Subcommand {
+    name: "replace",
+    about: "Writes a plan in which a member may be replaced",
+    notes: "\
 Reads the plan, and prints it as one line with new configurations behind those of the group, and with a certificate for
 each claim. The configurations that the plan has stay as they are. -c names the one that the replacement leaves, which
 may be left out if the group has only one.
@@ -104,18 +136,26 @@ Exit status: 0 where the plan is printed; 1 where it isn't and a line says why; 
 text isn't a plan's (told on standard error), or where FILE can't be written. A fault of the plan that would be printed
 is told as `check` does it. What is printed has the status 0 in `check`.
 
-Example: plan_tool replace examples/six_copies.json --out 5 --in 6 -o replaced.json";
+Example: plan_tool replace examples/six_copies.json --out 5 --in 6 -o replaced.json",
+};
 
-/// The notes of `steps`.
-pub const STEPS: &str = "\
+/// The subcommand `steps`.
+pub const STEPS: Subcommand<'static> = Subcommand {
+    name: "steps",
+    about: "Writes the script of a step",
+    notes: "\
 The script has the steps that lead to the parent of the configuration and then the step itself, with comments: the
 authority advances the group, its StepTo goes to the members, each new member asks the whole ones for copies and becomes
 whole, and the writer learns of the step. `run FILE` takes each of its lines. The plan must have no fault.
 
-Example: plan_tool steps plan.json -c 1 > step.script && plan_tool run plan.json step.script";
+Example: plan_tool steps plan.json -c 1 > step.script && plan_tool run plan.json step.script",
+};
 
-/// The notes of `simulate`.
-pub const SIMULATE: &str = "\
+/// The subcommand `simulate`.
+pub const SIMULATE: Subcommand<'static> = Subcommand {
+    name: "simulate",
+    about: "Makes random runs of a plan, and judges what they print",
+    notes: "\
 Each run has a script of its own: transactions of several writers, losses, repetitions, messages that come late and out
 of order, recoveries side by side, and groups that join; with --crash nodes restart too, with --replace groups step
 along the plan. What a run prints is judged: whether each later recovery has all acknowledged commits, and whether no
@@ -123,10 +163,14 @@ LSN is given twice. Status 0: no promise is broken. Status 1: a run breaks one; 
 without the lines that don't matter. The plan must have no fault. Where standard error is a terminal, it shows how many
 runs have ended.
 
-Example: plan_tool simulate plan.json --seed 7 --runs 100 --crash --replace";
+Example: plan_tool simulate plan.json --seed 7 --runs 100 --crash --replace",
+};
 
-/// The notes of `new`.
-pub const NEW: &str = "\
+/// The subcommand `new`.
+pub const NEW: Subcommand<'static> = Subcommand {
+    name: "new",
+    about: "Writes a plan with certificates from words",
+    notes: "\
 Prints a plan as one line, with a certificate for each claim: it has the status 0 in `check`. Each group has one
 configuration with the members of --members or --zones, one of the two: numbers from 0 to 63 and ranges of them with
 commas between them; in --zones a slash ends a zone. N members have N votes, or with --weights the sum of their weights.
@@ -155,10 +199,14 @@ Exit status: 0 where the plan is printed; 1 where it isn't and a line says why, 
 needn't meet a write set; 2 for words that can't be used (told on standard error), or where FILE can't be written.
 
 Examples: plan_tool new --members 0-5 -o plan.json
-          plan_tool new --zones 0,1/2,3/4,5 --survive zone+1 --groups 3 --born 2 -o plan.json";
+          plan_tool new --zones 0,1/2,3/4,5 --survive zone+1 --groups 3 --born 2 -o plan.json",
+};
 
-/// The notes of `draw`.
-pub const DRAW: &str = "\
+/// The subcommand `draw`.
+pub const DRAW: Subcommand<'static> = Subcommand {
+    name: "draw",
+    about: "Draws a plan, or a script's run over it, as SVG",
+    notes: "\
 Prints an SVG picture, which a browser shows: of a plan each group's tree of configurations, each with its members, what
 its expressions ask for and survive, and its claims, in red where they aren't certified. With a script, of its run over
 the plan: a lane for each authority, client and node, a row for each line, messages as arrows with their LSNs, durable
@@ -172,4 +220,5 @@ for a fault of a run's plan; 2 where a file can't be read or its text isn't a pl
 error), or where the file of -o can't be written. If the status isn't 0, that file isn't touched.
 
 Example: plan_tool draw examples/six_copies.json -o plan.svg
-         plan_tool draw examples/six_copies.json examples/recovery.script -o run.svg";
+         plan_tool draw examples/six_copies.json examples/recovery.script -o run.svg",
+};

@@ -82,21 +82,17 @@ fn simulated<G: Progress>(
 
 /// Returns why a step has no script.
 fn no_step(alloc: Global, why: NoStep, group: u8, configuration: u8) -> Result<String, AllocError> {
-    let mut text = String::new(alloc);
     match why {
         NoStep::NotInPlan | NoStep::NoMemory => {
-            write!(
-                text,
-                "no: group {group} has no configuration {configuration}\n"
-            )?;
+            format!(in alloc; "no: group {group} has no configuration {configuration}\n")
         }
-        NoStep::IsRoot => write!(text, "no: no step leads to configuration {configuration}\n")?,
-        NoStep::CannotRead(number) => write!(
-            text,
+        NoStep::IsRoot => {
+            format!(in alloc; "no: no step leads to configuration {configuration}\n")
+        }
+        NoStep::CannotRead(number) => format!(in alloc;
             "no: the members that the step to configuration {number} of group {group} keeps aren't a read set of it\n"
-        )?,
+        ),
     }
-    Ok(text)
 }
 
 /// Returns the answer to a step of a plan.

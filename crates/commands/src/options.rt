@@ -114,10 +114,7 @@ pub fn step_of(matches: &ArgMatches<'_>) -> Making
 
 /// Returns the number that an option gives.
 fn count_of(matches: &ArgMatches<'_>, id: &str) -> u32 {
-    match matches.try_get_one::<u32>(id) {
-        Ok(Some(number)) => number,
-        _ => 0,
-    }
+    matches.try_get_one::<u32>(id).unwrap_or(None).unwrap_or(0)
 }
 
 /// Returns the random runs that are asked for.
@@ -134,14 +131,6 @@ pub fn runs_of(matches: &ArgMatches<'_>) -> Making
     })
 }
 
-/// Returns the number that an option gives, if it is given.
-fn given_number(matches: &ArgMatches<'_>, id: &str) -> Option<u16> {
-    match matches.try_get_one::<u16>(id) {
-        Ok(number) => number,
-        Err(_) => None,
-    }
-}
-
 /// Returns the words of the new plan that is asked for.
 pub fn request_of<'a>(matches: &ArgMatches<'a>) -> PlanRequest<'a>
     ensures { AreWords (rows_of (found_of matches.now)) result }
@@ -152,8 +141,8 @@ pub fn request_of<'a>(matches: &ArgMatches<'a>) -> PlanRequest<'a>
         tail: text_of(matches, "tail"),
         weights: text_of(matches, "weights"),
         survive: text_of(matches, "survive"),
-        read: given_number(matches, "read"),
-        write: given_number(matches, "write"),
+        read: matches.try_get_one::<u16>("read").unwrap_or(None),
+        write: matches.try_get_one::<u16>("write").unwrap_or(None),
         groups: number_or(matches, "groups", 1).unwrap_or(1),
         born: number_of(matches, "born").unwrap_or(None),
         lal: count_of(matches, "lal"),

@@ -27,12 +27,12 @@ use crate::files::Source;
 use crate::finishing::finish;
 use crate::making::make;
 use crate::outputs::Output;
-use crate::pictures::{drawn, drawn_script};
+use crate::pictures::drawn;
 use crate::progress_line::Progress;
 use crate::replacing::replaced;
 use crate::reply::{Reply, Stop};
 use crate::run_explaining::explain_script;
-use crate::running::{fleet, run};
+use crate::running::{ScriptUse, use_script};
 use crate::search::search;
 use crate::{Action, Job};
 use std::alloc::Global;
@@ -55,8 +55,8 @@ pub fn answer<H: Threads + Wait + Sync, P: FallibleRead, S: FallibleRead, G: Pro
 {
     match job.action {
         Action::Check => check(alloc, job.plan, plan),
-        Action::Run => run(alloc, job, plan, script),
-        Action::Fleet => fleet(rt, alloc, job, plan, script),
+        Action::Run => use_script(rt, alloc, job, ScriptUse::Run, plan, script),
+        Action::Fleet => use_script(rt, alloc, job, ScriptUse::Fleet, plan, script),
         Action::Search => search(rt, alloc, job, plan),
         Action::Explain => match job.script {
             Some(name) => explain_script(alloc, job, name, plan, script),
@@ -66,7 +66,7 @@ pub fn answer<H: Threads + Wait + Sync, P: FallibleRead, S: FallibleRead, G: Pro
         Action::Make(making) => make(alloc, job, making, plan, progress),
         Action::New => begun(rt, alloc, &job.request, job.workers),
         Action::Draw => match job.script {
-            Some(_) => drawn_script(alloc, job, plan, script),
+            Some(_) => use_script(rt, alloc, job, ScriptUse::Draw, plan, script),
             None => drawn(alloc, job.plan, plan),
         },
     }

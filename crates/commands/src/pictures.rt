@@ -2,22 +2,22 @@
 
 ghost use Rattle.std.specs.Prelude.{◌≡◌, IfErr, IfOk, List, ℕ};
 ghost use Rattle.commands.specs.Answer.{Says, printed};
-ghost use Rattle.commands.specs.Answers.{AnswersOf, file_of, script_name};
-ghost use Rattle.commands.specs.Draws.{DrawsRunTo, DrawsTo};
+ghost use Rattle.commands.specs.Answers.{AnswersOf, file_of};
+ghost use Rattle.commands.specs.Draws.{DrawsTo};
 ghost use Rattle.commands.specs.Makes.{IsMade};
 ghost use Rattle.commands.specs.Stops.{StopsBy, answer_of, said};
 ghost use Rattle.commands.specs.Streams.{FailsByRead};
 ghost use Rattle.commands.specs.declared.reply.Stop.TheVariants.{NoMemory};
 
-use crate::Job;
 use crate::fallible::FallibleRead;
 use crate::files::Source;
-use crate::inputs::{PlanAndScript, contents, plan_and_script, plan_in};
+use crate::inputs::{PlanAndScript, contents, plan_in};
 use crate::reply::{Reply, Stop};
+use crate::run_state::event_lines;
 use drawing::{MOST_ROWS, draw_plan, draw_run};
-use drivers::{Script, Step};
+use drivers::Script;
 use plan::Plan;
-use std::alloc::{AllocError, Global};
+use std::alloc::Global;
 use volume_model::Fault;
 
 /// Returns the picture of a plan.
@@ -54,19 +54,8 @@ pub fn drawn<P: FallibleRead>(
     drawn_text(alloc, text.as_slice())
 }
 
-/// Returns the numbers of the lines that have an event.
-fn event_lines(alloc: Global, steps: &[Step]) -> Result<Vec<u32>, AllocError> {
-    let mut lines = Vec::new(alloc);
-    for step in steps {
-        if step.has_event {
-            lines.push(step.line)?;
-        }
-    }
-    Ok(lines)
-}
-
 /// Returns the picture of a script's run over a plan, or a line that says why there is none.
-fn drawn_run(alloc: Global, both: PlanAndScript) -> Result<Reply, Stop>
+pub fn drawn_run(alloc: Global, both: PlanAndScript) -> Result<Reply, Stop>
     ensures made { IfOk result (λ reply. IsMade (said reply)) }
     ensures stop { IfErr result (λ stop. stop ≡ NoMemory) }
 {
@@ -83,23 +72,5 @@ fn drawn_run(alloc: Global, both: PlanAndScript) -> Result<Reply, Stop>
             )?;
             Ok(Reply::printed(alloc, 1, text.into_bytes()))
         }
-    }
-}
-
-/// Returns the answer of `draw` to the files of a plan and a script.
-pub fn drawn_script<P: FallibleRead, S: FallibleRead>(
-    alloc: Global,
-    job: &Job<'_>,
-    plan: &mut Source<P>,
-    script: &mut Source<S>,
-) -> Result<Reply, Stop>
-    ensures answers { AnswersOf (file_of P.remaining job.now.plan.now plan.old plan.new)
-        (DrawsRunTo (file_of S.remaining (script_name job.now) script.old script.new)) (answer_of result) }
-    ensures plan_read { FailsByRead P.answers plan.old plan.new }
-    ensures script_read { FailsByRead S.answers script.old script.new }
-{
-    match plan_and_script(alloc, job, plan, script) {
-        Ok(both) => drawn_run(alloc, both),
-        Err(stop) => Err(stop),
     }
 }

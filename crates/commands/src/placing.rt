@@ -13,10 +13,8 @@ use crate::layout::laid_out;
 use crate::outputs::{Output, complain, deliver};
 use crate::reply::{Reply, Stop};
 use crate::whole_file::WholeFile;
+use plan::PLAN_BYTES;
 use std::alloc::{AllocError, Global};
-
-/// The most bytes of a plan's text.
-const PLAN_BYTES: usize = 16_777_216;
 
 /// Returns what is printed in place of a text: a plan over several lines if that is asked for and it has room.
 fn shown(alloc: Global, text: Vec<u8>, pretty: bool) -> Result<Vec<u8>, AllocError>
@@ -26,7 +24,7 @@ fn shown(alloc: Global, text: Vec<u8>, pretty: bool) -> Result<Vec<u8>, AllocErr
         return Ok(text);
     }
     let laid = laid_out(alloc, text.as_slice())?;
-    if laid.len() > PLAN_BYTES {
+    if laid.len() > PLAN_BYTES as usize {
         return Ok(text);
     }
     Ok(laid)

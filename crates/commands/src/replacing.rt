@@ -60,24 +60,6 @@ fn refused(alloc: Global, refusal: EditRefusal, replacement: Replacement) -> Res
     Ok(Reply::printed(alloc, 1, line.into_bytes()))
 }
 
-/// Returns the new plan of a text, or why there is none.
-fn edited<H: Threads + Wait + Sync>(
-    rt: &H,
-    alloc: Global,
-    text: &[u8],
-    replacement: Replacement,
-    workers: u8,
-) -> Result<Reply, Stop>
-    requires { (0 < workers) × (workers ≤ 16) }
-    ensures edit { IfOk result (λ reply. IsEdit replacement text.now (said reply)) }
-    ensures stop { IfErr result (StopsBy (λ _. Unit {0})) }
-{
-    match replace(rt, alloc, text, replacement, workers) {
-        Ok(line) => Ok(Reply::printed(alloc, 0, line)),
-        Err(refusal) => refused(alloc, refusal, replacement),
-    }
-}
-
 /// Returns the new plan of a text, or why there is none. The options must name the configuration that is left, unless
 /// the group has only one.
 fn edited_plan<H: Threads + Wait + Sync>(
@@ -96,7 +78,11 @@ fn edited_plan<H: Threads + Wait + Sync>(
         let question = question(alloc, options.group)?;
         return Ok(Reply::printed(alloc, 1, question.into_bytes()));
     }
-    edited(rt, alloc, text, replacement_of(options), workers)
+    let replacement = replacement_of(options);
+    match replace(rt, alloc, text, replacement, workers) {
+        Ok(line) => Ok(Reply::printed(alloc, 0, line)),
+        Err(refusal) => refused(alloc, refusal, replacement),
+    }
 }
 
 /// Returns the answer to a plan's text.

@@ -63,17 +63,11 @@ fn explained_run(
 fn explained_line(alloc: Global, json: bool, text: &[u8], number: usize) -> Result<Reply, Stop>
     ensures quiet { IfOk result (λ reply. IsQuiet (said reply)) }
 {
-    let mut lines = match bad_line(alloc, text, number)? {
-        Some(lines) => lines,
-        None => String::new(alloc),
-    };
+    let mut lines = bad_line(alloc, text, number)?.unwrap_or(String::new(alloc));
     let verdict = format!(in alloc; "input: line {number}\n")?;
-    let value = if json {
-        refusal_report(alloc, 2, verdict.as_str(), Some(lines.as_str().trim_end()))?
-    } else {
-        String::new(alloc)
-    };
+    let mut value = String::new(alloc);
     if json {
+        value = refusal_report(alloc, 2, verdict.as_str(), Some(lines.as_str().trim_end()))?;
         lines = String::new(alloc);
     }
     lines.push_str(verdict.as_str())?;

@@ -6,15 +6,6 @@ use serde::Serialize;
 use std::alloc::{AllocError, Global};
 use world::NodeState;
 
-/// A line whose event was refused.
-#[derive(Clone, Copy, Serialize)]
-struct RefusalRow {
-    /// The line's number, from 1.
-    line: u32,
-    /// The refusal's number.
-    refusal: u8,
-}
-
 /// A node at the end of a run.
 #[derive(Clone, Copy, Serialize)]
 struct NodeRow {
@@ -37,7 +28,7 @@ struct RunReport<'a> {
     /// What is wrong with the first bad line, in words.
     bad_line: Option<&'a str>,
     /// The lines whose events were refused.
-    refused: Vec<RefusalRow>,
+    refused: Vec<RefusalFacts>,
     /// The nodes at the end.
     nodes: Vec<NodeRow>,
     /// The clients at the end.
@@ -46,18 +37,6 @@ struct RunReport<'a> {
     advances: Vec<AdvanceFacts>,
     /// The groups that no later recovery can read.
     lost: Vec<LostGroup>,
-}
-
-/// Returns the rows of refused lines.
-fn refusal_rows(alloc: Global, refused: &[RefusalFacts]) -> Result<Vec<RefusalRow>, AllocError> {
-    let mut rows = Vec::with_capacity(alloc, refused.len())?;
-    for refusal in refused {
-        rows.push(RefusalRow {
-            line: refusal.line,
-            refusal: refusal.fault.number(),
-        })?;
-    }
-    Ok(rows)
 }
 
 /// Returns the row of a node.
@@ -107,7 +86,7 @@ pub fn run_report(
         status,
         verdict: "",
         bad_line: None,
-        refused: refusal_rows(alloc, facts.refused.as_slice())?,
+        refused: facts.refused,
         nodes: node_rows(alloc, facts.nodes.as_slice())?,
         clients: facts.clients,
         advances: membership.advances,

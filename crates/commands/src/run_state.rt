@@ -4,6 +4,7 @@ ghost use Rattle.std.specs.Prelude.{◌≡◌, IfOk};
 ghost use Rattle.world.specs.Actors.{plan_of, world_of, AreActors};
 ghost use Rattle.world.specs.NodeStates.{nodes_in};
 
+use crate::run_text::next_lsn;
 use drivers::Step;
 use serde::Serialize;
 use std::alloc::{AllocError, Global};
@@ -11,11 +12,15 @@ use volume_model::Fault;
 use world::{NodeState, Outcome, RecoveryOutcome, WriterOutcome};
 
 /// A line whose event was refused.
-#[derive(Clone, Copy, Debug, PartialEq, Eq)]
+#[derive(Clone, Copy, Debug, PartialEq, Eq, Serialize)]
 pub struct RefusalFacts {
     /// The line's number, from 1.
     pub line: u32,
+    /// The refusal's number.
+    #[serde(rename = "refusal")]
+    pub number: u8,
     /// The refusal.
+    #[serde(skip)]
     pub fault: Fault,
 }
 
@@ -59,60 +64,62 @@ pub struct RunFacts {
     pub clients: Vec<ClientFacts>,
 }
 
+/// Returns the lines of a script that have an event.
+pub fn event_lines(alloc: Global, steps: &[Step]) -> Result<Vec<u32>, AllocError> {
+    let mut lines = Vec::new(alloc);
+    for step in steps {
+        if step.has_event {
+            lines.push(step.line)?;
+        }
+    }
+    Ok(lines)
+}
+
 /// Returns the lines whose events were refused.
 fn refusals(
     alloc: Global,
     steps: &[Step],
     results: &[Result<u32, Fault>],
 ) -> Result<Vec<RefusalFacts>, AllocError> {
+    let lines = event_lines(alloc, steps)?;
     let mut refused = Vec::new(alloc);
-    let mut left = results;
-    for step in steps {
-        if step.has_event {
-            if let Some((first, later)) = left.split_first() {
-                if let Err(fault) = first {
-                    refused.push(RefusalFacts {
-                        line: step.line,
-                        fault: *fault,
-                    })?;
-                }
-                left = later;
-            }
+    for (line, result) in lines.iter().zip(results) {
+        if let Err(fault) = result {
+            refused.push(RefusalFacts {
+                line: *line,
+                number: fault.number(),
+                fault: *fault,
+            })?;
         }
     }
     Ok(refused)
 }
 
-/// Returns the facts of a client that has no more than a volume epoch.
-fn recovering(volume_epoch: u32) -> ClientFacts {
-    ClientFacts {
-        volume_epoch,
-        stage: ClientStage::Recovering,
-        durable_point: None,
-        next_lsn: None,
-        cut: None,
-        start: None,
+impl ClientFacts {
+    /// Returns the facts of a client that has no more than a volume epoch.
+    fn new(volume_epoch: u32) -> ClientFacts {
+        ClientFacts {
+            volume_epoch,
+            stage: ClientStage::Recovering,
+            durable_point: None,
+            next_lsn: None,
+            cut: None,
+            start: None,
+        }
     }
-}
 
-/// Returns these facts of a recovery that has cut.
-fn with_cut(facts: ClientFacts, find: &RecoveryOutcome) -> ClientFacts {
-    ClientFacts {
-        stage: ClientStage::Cut,
-        cut: Some(find.found.cut),
-        start: Some(find.found.lineage.last_start()),
-        ..facts
+    /// Adds what a recovery has found.
+    fn add_cut(&mut self, find: &RecoveryOutcome) {
+        self.stage = ClientStage::Cut;
+        self.cut = Some(find.found.cut);
+        self.start = Some(find.found.lineage.last_start());
     }
-}
 
-/// Returns these facts of an opened writer.
-fn with_log(facts: ClientFacts, writer: &WriterOutcome) -> ClientFacts {
-    let last = writer.log.last_lsn().max(writer.start);
-    ClientFacts {
-        stage: ClientStage::Writer,
-        durable_point: Some(writer.durable),
-        next_lsn: Some(last.saturating_add(1)),
-        ..facts
+    /// Adds the points of an opened writer.
+    fn add_log(&mut self, writer: &WriterOutcome) {
+        self.stage = ClientStage::Writer;
+        self.durable_point = Some(writer.durable);
+        self.next_lsn = Some(next_lsn(writer));
     }
 }
 
@@ -127,31 +134,24 @@ struct ClientLists<'a> {
 impl ClientLists<'_> {
     /// Returns the least volume epoch in the lists.
     fn least_volume(&self) -> Option<u32> {
-        let mut least = None;
-        if let Some(writer) = self.writers.first() {
-            least = Some(writer.volume);
-        }
-        if let Some(find) = self.finds.first() {
-            least = Some(least_of(least, find.volume));
-        }
-        if let Some(volume) = self.readers.first() {
-            least = Some(least_of(least, *volume));
-        }
-        least
+        let writer = self.writers.first().map(|writer| writer.volume);
+        let find = self.finds.first().map(|find| find.volume);
+        let reader = self.readers.first().copied();
+        [writer, find, reader].into_iter().flatten().min()
     }
 
     /// Takes the client with a volume epoch from the lists.
     fn take_client(&mut self, volume: u32) -> ClientFacts {
-        let mut facts = recovering(volume);
+        let mut facts = ClientFacts::new(volume);
         if let Some((find, later)) = self.finds.split_first() {
             if find.volume == volume {
-                facts = with_cut(facts, find);
+                facts.add_cut(find);
                 self.finds = later;
             }
         }
         if let Some((writer, later)) = self.writers.split_first() {
             if writer.volume == volume {
-                facts = with_log(facts, writer);
+                facts.add_log(writer);
                 self.writers = later;
             }
         }
@@ -161,14 +161,6 @@ impl ClientLists<'_> {
             }
         }
         facts
-    }
-}
-
-/// Returns the lesser of two volume epochs, of which the first may be missing.
-fn least_of(first: Option<u32>, second: u32) -> u32 {
-    match first {
-        Some(first) => first.min(second),
-        None => second,
     }
 }
 

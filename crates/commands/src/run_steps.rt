@@ -5,6 +5,7 @@
 //! expression of its last configuration. A member can become whole at a membership epoch from members that are whole
 //! and haven't passed that epoch, and from copies that were sent at it.
 
+use crate::run_state::event_lines;
 use drivers::Step;
 use plan::{CheckedPlan, Configuration};
 use quorum_expr::{MEMBERS, MemberSet, holds};
@@ -25,11 +26,11 @@ pub enum StepEvent {
     /// The next group joins.
     Grow,
     /// A group advances to a configuration.
-    Advance { group: u8, configuration: u8 },
-    /// A member becomes whole.
-    Hydrate { group: u8, member: u8 },
-    /// A member takes the first message that the event with this index made.
-    Deliver { group: u8, member: u8, event: u32 },
+    Advance(u8, u8),
+    /// A group's member becomes whole.
+    Hydrate(u8, u8),
+    /// A group's member takes the first message that the event with this index made.
+    Deliver(u8, u8, u32),
     /// Another event, or one that was refused.
     Other,
 }
@@ -117,27 +118,17 @@ fn step_event(order: &Order) -> StepEvent {
             member,
             event,
             place: 1,
-        } => StepEvent::Deliver {
-            group: *group,
-            member: *member,
-            event: *event,
-        },
+        } => StepEvent::Deliver(*group, *member, *event),
         Order::Event(event) => match &**event {
             Event::Grow => StepEvent::Grow,
             Event::Advance {
                 group,
                 configuration,
             } => match u8::try_from(*configuration) {
-                Ok(configuration) => StepEvent::Advance {
-                    group: *group,
-                    configuration,
-                },
+                Ok(configuration) => StepEvent::Advance(*group, configuration),
                 Err(_) => StepEvent::Other,
             },
-            Event::Hydrate { group, member } => StepEvent::Hydrate {
-                group: *group,
-                member: *member,
-            },
+            Event::Hydrate { group, member } => StepEvent::Hydrate(*group, *member),
             _ => StepEvent::Other,
         },
         _ => StepEvent::Other,
@@ -150,16 +141,26 @@ fn step_event(order: &Order) -> StepEvent {
 /// `AllocError` if memory runs out.
 pub fn step_events(alloc: Global, orders: &[Order]) -> Result<Vec<StepEvent>, AllocError> {
     let mut events = Vec::new(alloc);
-    let mut advances = false;
     for order in orders {
-        let event = step_event(order);
-        advances = advances || matches!(event, StepEvent::Advance { .. });
-        events.push(event)?;
+        events.push(step_event(order))?;
     }
-    if !advances {
+    if !events
+        .iter()
+        .any(|event| matches!(event, StepEvent::Advance(..)))
+    {
         events.clear();
     }
     Ok(events)
+}
+
+impl Reached {
+    /// Returns a configuration at whose membership epoch no copies were sent.
+    fn new(configuration: u8) -> Reached {
+        Reached {
+            configuration,
+            copied: MemberSet::empty(),
+        }
+    }
 }
 
 impl GroupSteps {
@@ -169,12 +170,8 @@ impl GroupSteps {
             Some(root) => root.members,
             None => MemberSet::empty(),
         };
-        let root = Reached {
-            configuration: 0,
-            copied: MemberSet::empty(),
-        };
         Ok(GroupSteps {
-            path: vec![in alloc; root]?,
+            path: vec![in alloc; Reached::new(0)]?,
             places: [0; SLOTS],
             whole,
         })
@@ -183,12 +180,10 @@ impl GroupSteps {
     /// Returns the members of a set that haven't passed a place.
     fn up_to(&self, set: MemberSet, place: usize) -> MemberSet {
         let mut found = MemberSet::empty();
-        let mut member = 0u8;
-        for own in self.places {
-            if member < MEMBERS && own <= place && set.contains(member) {
+        for member in 0..MEMBERS {
+            if self.places[usize::from(member)] <= place && set.contains(member) {
                 found = found.with(member);
             }
-            member = member.saturating_add(1);
         }
         found
     }
@@ -197,8 +192,7 @@ impl GroupSteps {
     fn can_be_whole(&self, plan: &CheckedPlan, group: u8) -> MemberSet {
         let mut whole = self.whole;
         let mut hydrated = MemberSet::empty();
-        let mut place = 0usize;
-        for reached in &self.path {
+        for (place, reached) in self.path.iter().enumerate() {
             if let Some(configuration) = plan.configuration(group, reached.configuration) {
                 let sources = self.up_to(self.whole, place).union(hydrated);
                 if holds(&configuration.read, sources.union(reached.copied)) {
@@ -207,7 +201,6 @@ impl GroupSteps {
                     whole = whole.union(fresh);
                 }
             }
-            place = place.saturating_add(1);
         }
         whole
     }
@@ -313,32 +306,21 @@ impl<'p> StepReplay<'p> {
     fn apply(&mut self, event: StepEvent) -> Result<Notice, AllocError> {
         match event {
             StepEvent::Grow => self.joined = self.joined.saturating_add(1),
-            StepEvent::Advance {
-                group,
-                configuration,
-            } => {
+            StepEvent::Advance(group, configuration) => {
                 if let Some(steps) = self.groups.get_mut(usize::from(group)) {
                     let place = steps.path.len();
-                    let copied = MemberSet::empty();
-                    steps.path.push(Reached {
-                        configuration,
-                        copied,
-                    })?;
+                    steps.path.push(Reached::new(configuration))?;
                     return Ok(Notice::StepTo { place });
                 }
             }
-            StepEvent::Hydrate { group, member } => {
+            StepEvent::Hydrate(group, member) => {
                 if let Some(steps) = self.groups.get_mut(usize::from(group)) {
                     if member < MEMBERS {
                         steps.whole = steps.whole.with(member);
                     }
                 }
             }
-            StepEvent::Deliver {
-                group,
-                member,
-                event,
-            } => {
+            StepEvent::Deliver(group, member, event) => {
                 let notice = self.notices.get(event as usize).copied();
                 if let Some(steps) = self.groups.get_mut(usize::from(group)) {
                     return Ok(steps.deliver(member, notice.unwrap_or(Notice::Other)));
@@ -357,26 +339,6 @@ impl<'p> StepReplay<'p> {
     }
 }
 
-/// Returns the line of each event of a script.
-fn lines_of(alloc: Global, steps: &[Step]) -> Result<Vec<u32>, AllocError> {
-    let mut lines = Vec::new(alloc);
-    for step in steps {
-        if step.has_event {
-            lines.push(step.line)?;
-        }
-    }
-    Ok(lines)
-}
-
-/// Makes the refused ones of these events have no effect.
-fn drop_refused(events: &mut [StepEvent], results: &[Result<u32, Fault>]) {
-    for (event, result) in events.iter_mut().zip(results) {
-        if result.is_err() {
-            *event = StepEvent::Other;
-        }
-    }
-}
-
 /// Returns the advances among the events, and the groups at the end.
 fn advances_of<'p>(
     alloc: Global,
@@ -387,11 +349,7 @@ fn advances_of<'p>(
     let mut replay = StepReplay::new(alloc, plan)?;
     let mut advances = Vec::new(alloc);
     for (event, line) in events.iter().zip(lines) {
-        if let StepEvent::Advance {
-            group,
-            configuration,
-        } = *event
-        {
+        if let StepEvent::Advance(group, configuration) = *event {
             advances.push(AdvanceFacts {
                 line: *line,
                 group,
@@ -439,9 +397,13 @@ pub fn steps_facts(
     mut events: Vec<StepEvent>,
     results: &[Result<u32, Fault>],
 ) -> Result<StepsFacts, AllocError> {
-    drop_refused(&mut events, results);
+    for (event, result) in events.iter_mut().zip(results) {
+        if result.is_err() {
+            *event = StepEvent::Other;
+        }
+    }
     let events = events.as_slice();
-    let lines = lines_of(alloc, steps)?;
+    let lines = event_lines(alloc, steps)?;
     let (advances, replay) = advances_of(alloc, plan, events, lines.as_slice())?;
     let mut lost = Vec::new(alloc);
     for group in 0..plan.groups() {

@@ -26,7 +26,7 @@ fn add_refusal(alloc: Global, page: &mut Page, refusal: &RefusalFacts) -> Result
     let (line, fault) = (refusal.line, refusal.fault);
     let text = format!(in alloc; "line {line} refused {fault}")?;
     page.add(0, text.as_str())?;
-    match fault_words(fault.number()) {
+    match fault_words(refusal.number) {
         Some(entry) => add_meaning(alloc, page, entry),
         None => Ok(()),
     }
@@ -34,13 +34,10 @@ fn add_refusal(alloc: Global, page: &mut Page, refusal: &RefusalFacts) -> Result
 
 /// Returns how many of these refusals are for this reason.
 fn count_of(refused: &[RefusalFacts], fault: Fault) -> usize {
-    let mut count = 0usize;
-    for refusal in refused {
-        if refusal.fault == fault {
-            count = count.saturating_add(1);
-        }
-    }
-    count
+    refused
+        .iter()
+        .filter(|refusal| refusal.fault == fault)
+        .count()
 }
 
 /// Appends how many lines were refused for each reason.

@@ -189,7 +189,7 @@ fn add_steps(
 
 /// Returns the LSN of the writer's next record: one above the greater of its log's last LSN (0 if empty) and its
 /// start.
-fn next_lsn(writer: &WriterOutcome) -> u64
+pub fn next_lsn(writer: &WriterOutcome) -> u64
     ensures { result ≡ next_lsn (opened_of writer.now) }
 {
     writer.log.last_lsn().max(writer.start).saturating_add(1)

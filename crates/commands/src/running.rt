@@ -1,9 +1,10 @@
-//! A script over a plan: `run`, and `fleet` on threads.
+//! A script over a plan: `run`, `fleet` on threads, and `draw`.
 
 ghost use Rattle.std.specs.Prelude.{◌≡◌, ◌≤◌, IfErr, IfOk, vec_len};
 ghost use Rattle.std.specs.Arc.{arc_value};
 ghost use Rattle.plan.specs.CheckedModel.{checked_model};
-ghost use Rattle.commands.specs.Answers.{AnswersOf, FleetsTo, IsText, PrintsOrders, RunsTo, file_of, script_name};
+ghost use Rattle.commands.specs.Answers.{AnswersOf, IsText, PrintsOrders, file_of, script_name};
+ghost use Rattle.commands.specs.Draws.{UsesTo};
 ghost use Rattle.commands.specs.Stops.{answer_of, said};
 ghost use Rattle.commands.specs.Streams.{FailsByRead};
 ghost use Rattle.commands.specs.FleetText.{PrintsFleet};
@@ -14,6 +15,7 @@ use crate::fallible::FallibleRead;
 use crate::files::Source;
 use crate::inputs::{PlanAndScript, plan_and_script};
 use crate::leaking::leak;
+use crate::pictures::drawn_run;
 use crate::reply::{Reply, Stop};
 use crate::run_text::{fleet_lines, run_lines, run_status};
 use drivers::{Script, drive};
@@ -44,24 +46,6 @@ fn ran(alloc: Global, both: PlanAndScript) -> Result<Reply, Stop>
     }
 }
 
-/// Returns the answer of `run`: checks the plan, reads the whole script, then runs it.
-pub fn run<P: FallibleRead, S: FallibleRead>(
-    alloc: Global,
-    job: &Job<'_>,
-    plan: &mut Source<P>,
-    script: &mut Source<S>,
-) -> Result<Reply, Stop>
-    ensures answers { AnswersOf (file_of P.remaining job.now.plan.now plan.old plan.new)
-        (RunsTo (file_of S.remaining (script_name job.now) script.old script.new)) (answer_of result) }
-    ensures plan_read { FailsByRead P.answers plan.old plan.new }
-    ensures script_read { FailsByRead S.answers script.old script.new }
-{
-    match plan_and_script(alloc, job, plan, script) {
-        Ok(both) => ran(alloc, both),
-        Err(stop) => Err(stop),
-    }
-}
-
 /// Returns the answer of a script's run on threads by `workers` drivers.
 fn driven<H: Threads + Wait + Sync>(
     rt: &H,
@@ -85,21 +69,37 @@ fn driven<H: Threads + Wait + Sync>(
     }
 }
 
-/// Returns the answer of `fleet`: checks the plan, reads the whole script, then runs it on threads.
-pub fn fleet<H: Threads + Wait + Sync, P: FallibleRead, S: FallibleRead>(
+/// What is done with a script over a plan.
+#[derive(Clone, Copy)]
+pub enum ScriptUse {
+    /// It is run.
+    Run,
+    /// It is run on threads.
+    Fleet,
+    /// A picture of its run is drawn.
+    Draw,
+}
+
+/// Returns the answer of `run`, `fleet`, or `draw` with a script: checks the plan, reads the whole script, then uses it.
+pub fn use_script<H: Threads + Wait + Sync, P: FallibleRead, S: FallibleRead>(
     rt: &H,
     alloc: Global,
     job: &Job<'_>,
+    script_use: ScriptUse,
     plan: &mut Source<P>,
     script: &mut Source<S>,
 ) -> Result<Reply, Stop>
     ensures answers { AnswersOf (file_of P.remaining job.now.plan.now plan.old plan.new)
-        (FleetsTo (file_of S.remaining (script_name job.now) script.old script.new)) (answer_of result) }
+        (UsesTo script_use (file_of S.remaining (script_name job.now) script.old script.new)) (answer_of result) }
     ensures plan_read { FailsByRead P.answers plan.old plan.new }
     ensures script_read { FailsByRead S.answers script.old script.new }
 {
     match plan_and_script(alloc, job, plan, script) {
-        Ok(both) => driven(rt, alloc, &both.plan, &both.script, job.workers),
+        Ok(both) => match script_use {
+            ScriptUse::Run => ran(alloc, both),
+            ScriptUse::Fleet => driven(rt, alloc, &both.plan, &both.script, job.workers),
+            ScriptUse::Draw => drawn_run(alloc, both),
+        },
         Err(stop) => Err(stop),
     }
 }

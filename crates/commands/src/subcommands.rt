@@ -4,17 +4,17 @@ ghost use Rattle.std.specs.Prelude.{◌≡◌, IfOk, false};
 ghost use Rattle.clap.specs.Words.{app_of, with_subcommand};
 ghost use Rattle.clap.specs.declared.builder.command.Command.TheViews.{out-Command as fields_of};
 ghost use Rattle.commands.specs.CommandLine.{IsLeaf, draw_leaf, file_leaf, fleet_leaf, groups_leaf};
-ghost use Rattle.commands.specs.CommandLine.{json_leaf, members_leaf, new_leaf, places_leaf, program};
-ghost use Rattle.commands.specs.CommandLine.{quorums_leaf, replace_leaf, runs_leaf, script_leaf, search_leaf};
-ghost use Rattle.commands.specs.CommandLine.{simulate_leaf, steps_leaf, tool, weights_leaf, with_fleet, with_options, with_replace};
+ghost use Rattle.commands.specs.CommandLine.{json_leaf, new_leaf, places_leaf, program, quorums_leaf};
+ghost use Rattle.commands.specs.CommandLine.{replace_leaf, runs_leaf, script_leaf, search_leaf};
+ghost use Rattle.commands.specs.CommandLine.{simulate_leaf, steps_leaf, tool, with_options};
 ghost use Rattle.commands.specs.CommandLine.{words_leaf, workers_leaf, zones_leaf};
 
 use crate::arguments::{
-    born, configuration, file, flag, group, groups, lal, member, needed, other_file, output,
-    pretty, runs, seed, target, text, workers,
+    configuration, file, flag, group, member, number, other_file, output, text, workers,
 };
 use crate::help;
-use clap::Command;
+use crate::help::Subcommand;
+use clap::{Command, value_parser};
 use std::alloc::{AllocError, Global};
 
 /// Returns the program before its subcommands.
@@ -29,17 +29,12 @@ fn program<'a>(alloc: Global) -> Command<'a>
 }
 
 /// Returns a subcommand of a plan's file.
-fn of_file<'a>(
-    alloc: Global,
-    name: &'a str,
-    about: &'a str,
-    notes: &'a str,
-) -> Result<Command<'a>, AllocError>
-    ensures { IfOk result (IsLeaf (file_leaf name.entry.now)) }
+fn of_file<'a>(alloc: Global, head: Subcommand<'a>) -> Result<Command<'a>, AllocError>
+    ensures { IfOk result (IsLeaf (file_leaf head.entry.name.now)) }
 {
-    Command::new(alloc, name)
-        .about(about)
-        .after_help(notes)
+    Command::new(alloc, head.name)
+        .about(head.about)
+        .after_help(head.notes)
         .arg(file(
             alloc,
             "plan",
@@ -52,77 +47,52 @@ fn with_options<'a>(alloc: Global, command: Command<'a>) -> Result<Command<'a>, 
     requires { (fields_of command).has_globals ≡ false }
     ensures { IfOk result (IsLeaf (with_options (app_of command.entry))) }
 {
-    command.arg(pretty(alloc))?.arg(output(alloc))
+    let about = "Lay the plan out, a line for each value of a configuration";
+    command
+        .arg(flag(alloc, "pretty", about))?
+        .arg(output(alloc))
 }
 
 /// Returns a subcommand of a plan's file and a number of workers.
-fn of_workers<'a>(
-    alloc: Global,
-    name: &'a str,
-    about: &'a str,
-    notes: &'a str,
-) -> Result<Command<'a>, AllocError>
-    ensures { IfOk result (IsLeaf (workers_leaf name.entry.now)) }
+fn of_workers<'a>(alloc: Global, head: Subcommand<'a>) -> Result<Command<'a>, AllocError>
+    ensures { IfOk result (IsLeaf (workers_leaf head.entry.name.now)) }
 {
-    of_file(alloc, name, about, notes)?.arg(workers(alloc, "How many workers search, 1 to 16"))
+    of_file(alloc, head)?.arg(workers(alloc, "How many workers search, 1 to 16"))
 }
 
 /// Returns a subcommand of a plan's file and a number of workers that prints a plan.
-fn of_search<'a>(
-    alloc: Global,
-    name: &'a str,
-    about: &'a str,
-    notes: &'a str,
-) -> Result<Command<'a>, AllocError>
-    ensures { IfOk result (IsLeaf (search_leaf name.entry.now)) }
+fn of_search<'a>(alloc: Global, head: Subcommand<'a>) -> Result<Command<'a>, AllocError>
+    ensures { IfOk result (IsLeaf (search_leaf head.entry.name.now)) }
 {
-    let command = of_workers(alloc, name, about, notes)?;
+    let command = of_workers(alloc, head)?;
     with_options(alloc, command)
 }
 
 /// Returns a subcommand of a plan and a script.
-fn of_script<'a>(
-    alloc: Global,
-    name: &'a str,
-    about: &'a str,
-    notes: &'a str,
-) -> Result<Command<'a>, AllocError>
-    ensures { IfOk result (IsLeaf (script_leaf name.entry.now)) }
+fn of_script<'a>(alloc: Global, head: Subcommand<'a>) -> Result<Command<'a>, AllocError>
+    ensures { IfOk result (IsLeaf (script_leaf head.entry.name.now)) }
 {
     let script = file(
         alloc,
         "script",
         "The script's file: an event a line; - is standard input",
     );
-    of_file(alloc, name, about, notes)?.arg(script)
+    of_file(alloc, head)?.arg(script)
 }
 
 /// Returns a subcommand of a plan, a script and a number of workers.
-fn of_fleet<'a>(
-    alloc: Global,
-    name: &'a str,
-    about: &'a str,
-    notes: &'a str,
-) -> Result<Command<'a>, AllocError>
-    ensures { IfOk result (IsLeaf (fleet_leaf name.entry.now)) }
+fn of_fleet<'a>(alloc: Global, head: Subcommand<'a>) -> Result<Command<'a>, AllocError>
+    ensures { IfOk result (IsLeaf (fleet_leaf head.entry.name.now)) }
 {
-    of_script(alloc, name, about, notes)?.arg(workers(
-        alloc,
-        "How many drivers run the script, 1 to 16",
-    ))
+    of_script(alloc, head)?.arg(workers(alloc, "How many drivers run the script, 1 to 16"))
 }
 
 /// Returns a subcommand of a plan's file, and of a script's if it is named, that may write JSON.
-fn of_json<'a>(
-    alloc: Global,
-    name: &'a str,
-    about: &'a str,
-    notes: &'a str,
-) -> Result<Command<'a>, AllocError>
-    ensures { IfOk result (IsLeaf (json_leaf name.entry.now)) }
+fn of_json<'a>(alloc: Global, head: Subcommand<'a>) -> Result<Command<'a>, AllocError>
+    ensures { IfOk result (IsLeaf (json_leaf head.entry.name.now)) }
 {
     let script = other_file(alloc, "script", "A script's file, whose run is explained");
-    let command = of_file(alloc, name, about, notes)?.arg(script)?;
+    let command = of_file(alloc, head)?.arg(script)?;
     command.arg(flag(
         alloc,
         "json",
@@ -130,44 +100,25 @@ fn of_json<'a>(
     ))
 }
 
-/// Returns a subcommand of a plan's file, a number of workers and two members.
-fn of_members<'a>(
-    alloc: Global,
-    name: &'a str,
-    about: &'a str,
-    notes: &'a str,
-) -> Result<Command<'a>, AllocError>
-    ensures { IfOk result (IsLeaf (members_leaf name.entry.now)) }
+/// Returns a subcommand of a plan's file, a number of workers, two members, a group and a configuration.
+fn of_places<'a>(alloc: Global, head: Subcommand<'a>) -> Result<Command<'a>, AllocError>
+    ensures { IfOk result (IsLeaf (places_leaf head.entry.name.now)) }
 {
-    let command = of_workers(alloc, name, about, notes)?;
+    let command = of_workers(alloc, head)?;
     let command = command.arg(member(alloc, "out", "The member that goes"))?;
-    command.arg(member(alloc, "in", "The member that comes in its place"))
-}
-
-/// Returns such a subcommand with the group and the configuration.
-fn of_places<'a>(
-    alloc: Global,
-    name: &'a str,
-    about: &'a str,
-    notes: &'a str,
-) -> Result<Command<'a>, AllocError>
-    ensures { IfOk result (IsLeaf (places_leaf name.entry.now)) }
-{
-    let command = of_members(alloc, name, about, notes)?;
-    let command = command.arg(group(alloc))?;
-    command.arg(configuration(alloc))
+    let new = member(alloc, "in", "The member that comes in its place");
+    let command = command.arg(new)?.arg(group(alloc))?;
+    command.arg(configuration(
+        alloc,
+        "The configuration that the replacement leaves; may be left out if the group has only one",
+    ))
 }
 
 /// Returns a subcommand with all options of a replacement.
-fn of_replace<'a>(
-    alloc: Global,
-    name: &'a str,
-    about: &'a str,
-    notes: &'a str,
-) -> Result<Command<'a>, AllocError>
-    ensures { IfOk result (IsLeaf (replace_leaf name.entry.now)) }
+fn of_replace<'a>(alloc: Global, head: Subcommand<'a>) -> Result<Command<'a>, AllocError>
+    ensures { IfOk result (IsLeaf (replace_leaf head.entry.name.now)) }
 {
-    let command = of_places(alloc, name, about, notes)?;
+    let command = of_places(alloc, head)?;
     let tail = flag(
         alloc,
         "tail",
@@ -183,53 +134,39 @@ fn of_replace<'a>(
 }
 
 /// Returns a subcommand of a plan's file, a group and a configuration.
-fn of_steps<'a>(
-    alloc: Global,
-    name: &'a str,
-    about: &'a str,
-    notes: &'a str,
-) -> Result<Command<'a>, AllocError>
-    ensures { IfOk result (IsLeaf (steps_leaf name.entry.now)) }
+fn of_steps<'a>(alloc: Global, head: Subcommand<'a>) -> Result<Command<'a>, AllocError>
+    ensures { IfOk result (IsLeaf (steps_leaf head.entry.name.now)) }
 {
-    let command = of_file(alloc, name, about, notes)?.arg(group(alloc))?;
-    command.arg(target(alloc))
+    let command = of_file(alloc, head)?.arg(group(alloc))?;
+    let about = "The configuration to which the step leads";
+    command.arg(configuration(alloc, about).required(true))
 }
 
 /// Returns a subcommand of a plan's file, the first seed and the number of runs.
-fn of_runs<'a>(
-    alloc: Global,
-    name: &'a str,
-    about: &'a str,
-    notes: &'a str,
-) -> Result<Command<'a>, AllocError>
-    ensures { IfOk result (IsLeaf (runs_leaf name.entry.now)) }
+fn of_runs<'a>(alloc: Global, head: Subcommand<'a>) -> Result<Command<'a>, AllocError>
+    ensures { IfOk result (IsLeaf (runs_leaf head.entry.name.now)) }
 {
-    let command = of_file(alloc, name, about, notes)?.arg(seed(alloc))?;
-    command.arg(runs(alloc))
+    let range = value_parser!(u32).range(0..=4_294_967_295);
+    let about = "The seed of the first run; each run has the next one";
+    let seed = number(alloc, "seed", about, range).default_value("1");
+    let command = of_file(alloc, head)?.arg(seed)?;
+    let range = value_parser!(u32).range(1..=1_000_000);
+    let runs = number(alloc, "runs", "How many runs, 1 to 1,000,000", range).default_value("1000");
+    command.arg(runs)
 }
 
-/// Returns a subcommand of random runs.
-fn of_simulate<'a>(
-    alloc: Global,
-    name: &'a str,
-    about: &'a str,
-    notes: &'a str,
-) -> Result<Command<'a>, AllocError>
-    ensures { IfOk result (IsLeaf (simulate_leaf name.entry.now)) }
+/// Returns a subcommand of random runs of a plan.
+fn of_simulate<'a>(alloc: Global, head: Subcommand<'a>) -> Result<Command<'a>, AllocError>
+    ensures { IfOk result (IsLeaf (simulate_leaf head.entry.name.now)) }
 {
-    let command = of_runs(alloc, name, about, notes)?;
+    let command = of_runs(alloc, head)?;
     let command = command.arg(flag(alloc, "crash", "Nodes restart"))?;
     command.arg(flag(alloc, "replace", "Groups step along the plan"))
 }
 
 /// Returns a subcommand with the members of a new plan.
-fn of_zones<'a>(
-    alloc: Global,
-    name: &'a str,
-    about: &'a str,
-    notes: &'a str,
-) -> Result<Command<'a>, AllocError>
-    ensures { IfOk result (IsLeaf (zones_leaf name.entry.now)) }
+fn of_zones<'a>(alloc: Global, head: Subcommand<'a>) -> Result<Command<'a>, AllocError>
+    ensures { IfOk result (IsLeaf (zones_leaf head.entry.name.now)) }
 {
     let members = text(
         alloc,
@@ -237,7 +174,9 @@ fn of_zones<'a>(
         "LIST",
         "The members of each group, such as 0-2,5",
     );
-    let command = Command::new(alloc, name).about(about).after_help(notes);
+    let command = Command::new(alloc, head.name)
+        .about(head.about)
+        .after_help(head.notes);
     let command = command.arg(members)?;
     command.arg(text(
         alloc,
@@ -247,14 +186,9 @@ fn of_zones<'a>(
     ))
 }
 
-/// Returns such a subcommand with the kinds and weights of the members.
-fn of_weights<'a>(
-    alloc: Global,
-    name: &'a str,
-    about: &'a str,
-    notes: &'a str,
-) -> Result<Command<'a>, AllocError>
-    ensures { IfOk result (IsLeaf (weights_leaf name.entry.now)) }
+/// Returns such a subcommand with the kinds and weights of the members, and what they survive.
+fn of_words<'a>(alloc: Global, head: Subcommand<'a>) -> Result<Command<'a>, AllocError>
+    ensures { IfOk result (IsLeaf (words_leaf head.entry.name.now)) }
 {
     let tail = text(
         alloc,
@@ -262,93 +196,65 @@ fn of_weights<'a>(
         "LIST",
         "The members that keep the log alone; the quorums are those of full and tail members",
     );
-    let command = of_zones(alloc, name, about, notes)?.arg(tail)?;
-    command.arg(text(
+    let command = of_zones(alloc, head)?.arg(tail)?;
+    let weights = text(
         alloc,
         "weights",
         "LIST",
         "Weights of members, such as 0=2,1=3; the others weigh 1",
-    ))
-}
-
-/// Returns a subcommand with the words of a new plan that are texts.
-fn of_words<'a>(
-    alloc: Global,
-    name: &'a str,
-    about: &'a str,
-    notes: &'a str,
-) -> Result<Command<'a>, AllocError>
-    ensures { IfOk result (IsLeaf (words_leaf name.entry.now)) }
-{
-    let survive = text(
+    );
+    let command = command.arg(weights)?;
+    command.arg(text(
         alloc,
         "survive",
         "WHAT",
         "Pick quorums that survive the loss of any N members, of a zone (zone), or for reads of one more (zone+1)",
-    );
-    of_weights(alloc, name, about, notes)?.arg(survive)
-}
-
-/// Returns a subcommand with the words of a new plan's quorums.
-fn of_quorums<'a>(
-    alloc: Global,
-    name: &'a str,
-    about: &'a str,
-    notes: &'a str,
-) -> Result<Command<'a>, AllocError>
-    ensures { IfOk result (IsLeaf (quorums_leaf name.entry.now)) }
-{
-    let read = needed(
-        alloc,
-        "read",
-        "How many members read, or their weight; by default as many as meet each write set",
-    );
-    let command = of_words(alloc, name, about, notes)?.arg(read)?;
-    command.arg(needed(
-        alloc,
-        "write",
-        "How many members write, or their weight; by default more than half",
     ))
 }
 
-/// Returns a subcommand with the words of a new plan's quorums and groups.
-fn of_groups<'a>(
-    alloc: Global,
-    name: &'a str,
-    about: &'a str,
-    notes: &'a str,
-) -> Result<Command<'a>, AllocError>
-    ensures { IfOk result (IsLeaf (groups_leaf name.entry.now)) }
+/// Returns a subcommand with the words of a new plan's quorums.
+fn of_quorums<'a>(alloc: Global, head: Subcommand<'a>) -> Result<Command<'a>, AllocError>
+    ensures { IfOk result (IsLeaf (quorums_leaf head.entry.name.now)) }
 {
-    let command = of_quorums(alloc, name, about, notes)?.arg(groups(alloc))?;
-    command.arg(born(alloc))
+    let range = value_parser!(u16).range(1..=16_320);
+    let about = "How many members read, or their weight; by default as many as meet each write set";
+    let command = of_words(alloc, head)?.arg(number(alloc, "read", about, range))?;
+    let range = value_parser!(u16).range(1..=16_320);
+    let about = "How many members write, or their weight; by default more than half";
+    command.arg(number(alloc, "write", about, range))
+}
+
+/// Returns such a subcommand with the groups.
+fn of_groups<'a>(alloc: Global, head: Subcommand<'a>) -> Result<Command<'a>, AllocError>
+    ensures { IfOk result (IsLeaf (groups_leaf head.entry.name.now)) }
+{
+    let range = value_parser!(u8).range(1..=16);
+    let groups = number(alloc, "groups", "How many groups, 1 to 16", range).default_value("1");
+    let command = of_quorums(alloc, head)?.arg(groups)?;
+    let range = value_parser!(u8).range(1..=16);
+    let about =
+        "How many groups exist when the volume is born, the others join later; by default all";
+    command.arg(number(alloc, "born", about, range))
 }
 
 /// Returns a subcommand with all words of a new plan.
-fn of_new<'a>(
-    alloc: Global,
-    name: &'a str,
-    about: &'a str,
-    notes: &'a str,
-) -> Result<Command<'a>, AllocError>
-    ensures { IfOk result (IsLeaf (new_leaf name.entry.now)) }
+fn of_new<'a>(alloc: Global, head: Subcommand<'a>) -> Result<Command<'a>, AllocError>
+    ensures { IfOk result (IsLeaf (new_leaf head.entry.name.now)) }
 {
-    let command = of_groups(alloc, name, about, notes)?.arg(lal(alloc))?;
+    let range = value_parser!(u32).range(1..=10_000_000);
+    let about = "How far LSNs may run ahead of the durable point, 1 to 10,000,000";
+    let lal = number(alloc, "lal", about, range).default_value("10000000");
+    let command = of_groups(alloc, head)?.arg(lal)?;
     let command = command.arg(workers(alloc, "How many workers search, 1 to 16"))?;
     with_options(alloc, command)
 }
 
 /// Returns a subcommand of a plan's file, and of a script's if it is named.
-fn of_draw<'a>(
-    alloc: Global,
-    name: &'a str,
-    about: &'a str,
-    notes: &'a str,
-) -> Result<Command<'a>, AllocError>
-    ensures { IfOk result (IsLeaf (draw_leaf name.entry.now)) }
+fn of_draw<'a>(alloc: Global, head: Subcommand<'a>) -> Result<Command<'a>, AllocError>
+    ensures { IfOk result (IsLeaf (draw_leaf head.entry.name.now)) }
 {
     let script = other_file(alloc, "script", "A script's file, whose run is drawn");
-    let command = of_file(alloc, name, about, notes)?.arg(script)?;
+    let command = of_file(alloc, head)?.arg(script)?;
     command.arg(output(alloc))
 }
 
@@ -361,83 +267,19 @@ fn add<'a>(command: Command<'a>, leaf: Command<'a>) -> Result<Command<'a>, Alloc
     command.subcommand(leaf)
 }
 
-/// Returns the program with the subcommands that check and run.
-fn with_runs<'a>(alloc: Global) -> Result<Command<'a>, AllocError>
-    ensures { IfOk result (λ c. app_of c ≡ with_fleet) }
-{
-    let command = program(alloc);
-    let check = of_file(
-        alloc,
-        "check",
-        "Says whether a plan's quorums all meet",
-        help::CHECK,
-    )?;
-    let command = add(command, check)?;
-    let run = of_script(alloc, "run", "Runs a script over a plan", help::RUN)?;
-    let command = add(command, run)?;
-    let fleet = of_fleet(
-        alloc,
-        "fleet",
-        "Runs a script over a plan on threads",
-        help::FLEET,
-    )?;
-    add(command, fleet)
-}
-
-/// Returns the program with the subcommands above and those that search, explain and replace.
-fn with_edits<'a>(alloc: Global) -> Result<Command<'a>, AllocError>
-    ensures { IfOk result (λ c. app_of c ≡ with_replace) }
-{
-    let command = with_runs(alloc)?;
-    let search = of_search(
-        alloc,
-        "search",
-        "Writes a plan with certificates for its claims",
-        help::SEARCH,
-    )?;
-    let command = add(command, search)?;
-    let explain = of_json(
-        alloc,
-        "explain",
-        "Says what a plan survives, why its claims fail and where a script fails, or what a refusal means",
-        help::EXPLAIN,
-    )?;
-    let command = add(command, explain)?;
-    let replace = of_replace(
-        alloc,
-        "replace",
-        "Writes a plan in which a member may be replaced",
-        help::REPLACE,
-    )?;
-    add(command, replace)
-}
-
 /// Returns the whole command line.
 pub fn command_line<'a>(alloc: Global) -> Result<Command<'a>, AllocError>
     ensures { IfOk result (λ c. app_of c ≡ tool) }
 {
-    let command = with_edits(alloc)?;
-    let steps = of_steps(alloc, "steps", "Writes the script of a step", help::STEPS)?;
-    let command = add(command, steps)?;
-    let simulate = of_simulate(
-        alloc,
-        "simulate",
-        "Makes random runs of a plan, and judges what they print",
-        help::SIMULATE,
-    )?;
-    let command = add(command, simulate)?;
-    let new = of_new(
-        alloc,
-        "new",
-        "Writes a plan with certificates from words",
-        help::NEW,
-    )?;
-    let command = add(command, new)?;
-    let draw = of_draw(
-        alloc,
-        "draw",
-        "Draws a plan, or a script's run over it, as SVG",
-        help::DRAW,
-    )?;
-    add(command, draw)
+    let command = program(alloc);
+    let command = add(command, of_file(alloc, help::CHECK)?)?;
+    let command = add(command, of_script(alloc, help::RUN)?)?;
+    let command = add(command, of_fleet(alloc, help::FLEET)?)?;
+    let command = add(command, of_search(alloc, help::SEARCH)?)?;
+    let command = add(command, of_json(alloc, help::EXPLAIN)?)?;
+    let command = add(command, of_replace(alloc, help::REPLACE)?)?;
+    let command = add(command, of_steps(alloc, help::STEPS)?)?;
+    let command = add(command, of_simulate(alloc, help::SIMULATE)?)?;
+    let command = add(command, of_new(alloc, help::NEW)?)?;
+    add(command, of_draw(alloc, help::DRAW)?)
 }

@@ -45,10 +45,7 @@ impl<R: Files> WholeFile for RenamedFile<'_, R> {
     ghost holds = { λ _. None };
 
     fn write_whole(&mut self, text: &[u8]) -> Result<(), WriteFailed> {
-        match replace_file(self.rt, self.alloc, self.name, text) {
-            Ok(()) => Ok(()),
-            Err(_) => Err(WriteFailed),
-        }
+        replace_file(self.rt, self.alloc, self.name, text).map_err(|_| WriteFailed)
     }
 }
 

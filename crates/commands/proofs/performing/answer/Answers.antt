@@ -7,10 +7,10 @@ pub returns-in-Check-clause-answers : goal.returns-in-Check-clause-answers
 returns-in-Check-clause-answers g c = of_action Check c.in-Check.is c.check.ensures.answers
 
 pub returns-in-Run-clause-answers : goal.returns-in-Run-clause-answers
-returns-in-Run-clause-answers g c = of_action Run c.in-Run.is c.run.ensures.answers
+returns-in-Run-clause-answers g c = of_action Run c.in-Run.is c.use_script.ensures.answers
 
 pub returns-in-Fleet-clause-answers : goal.returns-in-Fleet-clause-answers
-returns-in-Fleet-clause-answers g c = of_action Fleet c.in-Fleet.is c.fleet.ensures.answers
+returns-in-Fleet-clause-answers g c = of_action Fleet c.in-Fleet.is c.use_script-in-Fleet.ensures.answers
 
 pub returns-in-Search-clause-answers : goal.returns-in-Search-clause-answers
 returns-in-Search-clause-answers g c = of_action Search c.in-Search.is c.search.ensures.answers
@@ -32,7 +32,7 @@ pub returns-in-New-clause-answers : goal.returns-in-New-clause-answers
 returns-in-New-clause-answers g c = of_action New c.in-New.is c.begun.ensures
 
 pub returns-in-Some-script-clause-answers : goal.returns-in-Some-script-clause-answers
-returns-in-Some-script-clause-answers g c = of_action Draw c.in-Draw.is (drawn_over c.in-Some-script.is c.drawn_script.ensures.answers)
+returns-in-Some-script-clause-answers g c = of_action Draw c.in-Draw.is (drawn_over c.in-Some-script.is c.use_script-in-Some-script.ensures.answers)
 
 pub returns-in-None-script-clause-answers : goal.returns-in-None-script-clause-answers
 returns-in-None-script-clause-answers g c = of_action Draw c.in-Draw.is (drawn_alone c.in-None-script.is c.drawn.ensures.answers)
