@@ -1,9 +1,9 @@
 -- Of the acknowledgements of one segment under one label the last suffices, if none before it says more.
-use Rattle.std.proofs.Common.{◌≡◌, ℕ, zero, suc, ◌<◌, ◌≤◌, max, Bool, true, false, not, ◌&&◌, ◌||◌, nat_le, eqb, ◌⊎◌, List, [], ◌∷◌, if◌then◌else◌, Ok, refl, sym, ap, ◌∙◌, subst, inl, inr, arith, le_refl}
+use Rattle.std.proofs.Common.{◌≡◌, ℕ, zero, suc, ◌≤◌, max, Bool, true, false, not, ◌&&◌, ◌||◌, nat_le, eqb, ◌⊎◌, List, [], ◌∷◌, if◌then◌else◌, Ok, refl, sym, ap, ◌∙◌, subst, inl, inr, arith, le_refl}
 use Rattle.std.specs.Prelude.{slice_set}
-use Rattle.std.proofs.lemmas.Bool.{cases_Bool, cases_lt, eq-eqb, eqb-true}
+use Rattle.std.proofs.lemmas.Bool.{cases_Bool, eq-eqb, eqb-true, true≢false}
 use Rattle.volume_model.specs.Lists.{IsIn}
-use Rattle.volume_model.specs.Formula.{Formula, sat}
+use Rattle.volume_model.specs.Formula.{Formula, Children, Members, member, at_least, no_child, child, sat, weight_held}
 use Rattle.volume_model.specs.Plan.{Plan}
 use Rattle.volume_model.specs.Message.{Label}
 use Rattle.volume_model.specs.Message.Message.{Ack}
@@ -13,7 +13,8 @@ use Rattle.volume_model.specs.Client.{Client, ClientGroup, Count, group_of, has_
 use Rattle.volume_model.specs.ClientPoints.{best, counted_by, raised, raised_from, raised_group, reaching, with_count}
 use Rattle.volume_model.specs.ClientMessages.{ack_taken, is_for, taken}
 use Rattle.volume_model.proofs.FormulaLaws.{sat_more}
-use Rattle.volume_model.proofs.Points.{reaching-some, reaching-from}
+use Rattle.volume_model.proofs.Filled.{IsFilled}
+use Rattle.volume_model.proofs.Points.{best-greatest, reaching-some, reaching-from}
 use Rattle.volume_c.specs.Replay.{client_after, client_or}
 
 -- ---- counts
@@ -67,54 +68,22 @@ reach-more s u counts n x h =
 
 -- ---- the greatest number that is written
 
--- of the counts that reach n, one that reaches least
-record IsLeast (counts : List Count) (n : ℕ) : Type 0 where
-  count : Count
-  there : IsIn count counts
-  reaches : n ≤ count.reached
-  least : (other : Count) → IsIn other counts → n ≤ other.reached → count.reached ≤ other.reached
+-- an expression holds of a set as it does of the empty one, or the set has a member
+mutual
+  one-or-none : (f : Formula) (s : Members) → ((x : ℕ) × (s x ≡ true)) ⊎ (sat f s ≡ sat f (λ x. false))
+  one-or-none (member x) s = elim (cases_Bool (s x)) [ inl e ↦ inl (x, e) | inr e ↦ inr e ]
+  one-or-none (at_least k of) s = elim (held-or-none of s) [ inl one ↦ inl one | inr e ↦ inr (ap (nat_le k) e) ]
 
-abbrev NoneReaches : List Count → ℕ → Type 0
-NoneReaches counts n = (other : Count) → IsIn other counts → other.reached < n
+  held-or-none : (of : Children) (s : Members) → ((x : ℕ) × (s x ≡ true)) ⊎ (weight_held of s ≡ weight_held of (λ x. false))
+  held-or-none no_child s = inr refl
+  held-or-none (child w f fs) s = elim (one-or-none f s) [
+    | inl one ↦ inl one
+    | inr e ↦ elim (held-or-none fs s) [ inl one ↦ inl one | inr same ↦ inr (rw (e, same) refl) ]
+  ]
 
--- the first of the counts against the least of the others
-none_with : (c : Count) (rest : List Count) (n : ℕ) → c.reached < n → NoneReaches rest n → NoneReaches (c ∷ rest) n
-none_with c rest n low none other (inl p) = let e : other.reached ≡ c.reached = ap (λ z. z.reached) p in omega (arith, low, e)
-none_with c rest n low none other (inr k) = none other k
-
-least_first : (c : Count) (rest : List Count) (n : ℕ) → n ≤ c.reached → ((other : Count) → IsIn other rest → n ≤ other.reached → c.reached ≤ other.reached) → IsLeast (c ∷ rest) n
-least_first c rest n high below = record { count = c; there = inl refl; reaches = high; least = λ other i l. first other i l }
-  where
-    first : (other : Count) → IsIn other (c ∷ rest) → n ≤ other.reached → c.reached ≤ other.reached
-    first other (inl p) l = let e : other.reached ≡ c.reached = ap (λ z. z.reached) p in omega (arith, e)
-    first other (inr k) l = below other k l
-
-least_later : (c : Count) (rest : List Count) (n : ℕ) (h : IsLeast rest n) → (n ≤ c.reached → h.count.reached ≤ c.reached) → IsLeast (c ∷ rest) n
-least_later c rest n h above = record { count = h.count; there = inr h.there; reaches = h.reaches; least = λ other i l. later other i l }
-  where
-    later : (other : Count) → IsIn other (c ∷ rest) → n ≤ other.reached → h.count.reached ≤ other.reached
-    later other (inl p) l =
-        let e : other.reached ≡ c.reached = ap (λ z. z.reached) p in
-        let k : h.count.reached ≤ c.reached = above (omega (arith, l, e)) in
-        omega (arith, k, e)
-    later other (inr k) l = h.least other k l
-
-least_or_none : (counts : List Count) (n : ℕ) → NoneReaches counts n ⊎ IsLeast counts n
-least_or_none [] n = inl (λ other i. absurd i)
-least_or_none (c ∷ rest) n =
-    elim (cases_lt c.reached n) [
-      | inl low ↦ elim (least_or_none rest n) [
-        | inl none ↦ inl (none_with c rest n low none)
-        | inr h ↦ inr (least_later c rest n h (λ l. absurd (omega (arith, low, l))))
-      ]
-      | inr high ↦ elim (least_or_none rest n) [
-        | inl none ↦ inr (least_first c rest n high (λ other k l. absurd (let b : other.reached < n = none other k in omega (arith, b, l))))
-        | inr h ↦ elim (cases_lt c.reached h.count.reached) [
-          | inl lower ↦ inr (least_first c rest n high (λ other k l. let b : h.count.reached ≤ other.reached = h.least other k l in omega (arith, b, lower)))
-          | inr higher ↦ inr (least_later c rest n h (λ l. higher))
-        ]
-      ]
-    ]
+-- what holds of the empty set holds of each set
+any-of : (w : Formula) → sat w (λ x. false) ≡ true → (s : Members) → sat w s ≡ true
+any-of w e s = sat_more w (λ x. false) s (λ x no. absurd cc) e
 
 best-above : (w : Formula) (counts list : List Count) (c : Count) → IsIn c list → sat w (reaching counts c.reached) ≡ true → c.reached ≤ best w counts list
 best-above w counts [] c i h = absurd i
@@ -128,34 +97,29 @@ best-above w counts (d ∷ list) c (inr i) h =
     more : (a b : ℕ) → c.reached ≤ b → c.reached ≤ max a b
     more a b l = omega (arith, l)
 
--- where no fewer reach each number
-module _ (w : Formula) (xs ys : List Count) (more : (n x : ℕ) → reaching xs n x ≡ true → reaching ys n x ≡ true) where
-  written : (c : Count) → IsIn c xs → sat w (reaching xs c.reached) ≡ true → c.reached ≤ best w ys ys
-  written c i h =
-      let n = c.reached in
-      let (some, j, e, l) = reaching-some ys n c.sender (more n c.sender (reaching-from xs n c.sender c i refl (le_refl n))) in
-      let full : sat w (reaching ys n) ≡ true = sat_more w (reaching xs n) (reaching ys n) (λ x. more n x) h in
-      elim (least_or_none ys n) [
-        | inl none ↦ absurd (let b : some.reached < n = none some j in omega (arith, b, l))
-        | inr least ↦ (
-            let m = least.count.reached in
-            let sure : sat w (reaching ys m) ≡ true = sat_more w (reaching ys n) (reaching ys m) (λ y s. (let (other, k, q, r) = reaching-some ys n y s in reaching-from ys m y other k q (least.least other k r))) full in
-            let up : m ≤ best w ys ys = best-above w ys ys least.count least.there sure in
-            let reaches : n ≤ m = least.reaches in
-            omega (arith, up, reaches))
-      ]
+-- where no count says less
+module _ (w : Formula) (s u : ℕ) (xs : List Count) where
+  abbrev ys : List Count
+  ys = with_count s u xs
 
-  best-of : (list : List Count) → ((c : Count) → IsIn c list → IsIn c xs) → best w xs list ≤ best w ys ys
-  best-of [] within = omega arith
-  best-of (c ∷ list) within =
-      let ih : best w xs list ≤ best w ys ys = best-of list (λ d i. within d (inr i)) in
-      elim (cases_Bool (sat w (reaching xs c.reached))) [
-        | inl e ↦ (let k : c.reached ≤ best w ys ys = written c (within c (inl refl)) e in rw e (omega (arith, ih, k)))
-        | inr e ↦ rw e (omega (arith, ih))
-      ]
+  best-any : sat w (λ x. false) ≡ true → (list : List Count) → ((c : Count) → IsIn c list → IsIn c xs) → best w xs list ≤ best w ys ys
+  best-any e [] within = omega arith
+  best-any e (c ∷ list) within =
+      let ih : best w xs list ≤ best w ys ys = best-any e list (λ d i. within d (inr i)) in
+      let k : IsKept c ys = kept_in s u xs c (within c (inl refl)) in
+      let up : k.count.reached ≤ best w ys ys = best-above w ys ys k.count k.there (any-of w e (reaching ys k.count.reached)) in
+      rw (any-of w e (reaching xs c.reached)) (omega (arith, ih, up, k.no_less))
 
   best-more : best w xs xs ≤ best w ys ys
-  best-more = best-of xs (λ c i. i)
+  best-more = elim (cases_Bool (sat w (λ x. false))) [
+    | inl e ↦ best-any e xs (λ c i. i)
+    | inr e ↦ (
+        let filled : IsFilled w = λ t h. elim (one-or-none w t) [ inl one ↦ one | inr same ↦ absurd (true≢false (sym h ∙ same ∙ e)) ] in
+        elim (best-greatest w filled xs).is_one [
+          | inl none ↦ omega (arith, none)
+          | inr is ↦ (best-greatest w filled ys).at_least_each (best w xs xs) (sat_more w (reaching xs (best w xs xs)) (reaching ys (best w xs xs)) (λ x. reach-more s u xs (best w xs xs) x) is)
+        ])
+  ]
 
 -- ---- a group
 
@@ -186,7 +150,7 @@ group-twice plan n s lower upper g le =
     let xs = with_count s lower g.counts in
     let ys = with_count s upper xs in
     let more : (k x : ℕ) → reaching xs k x ≡ true → reaching ys k x ≡ true = reach-more s upper xs in
-    let up : best w xs xs ≤ best w ys ys = best-more w xs ys more in
+    let up : best w xs xs ≤ best w ys ys = best-more w s upper xs in
     let point : max (max g.group_point (best w xs xs)) (best w ys ys) ≡ max g.group_point (best w ys ys) = omega (arith, up) in
     let joins = or-twice g.joined (sat w (counted_by xs)) (sat w (counted_by ys)) (sat_more w (counted_by xs) (counted_by ys) (λ x. more 0 x)) in
     let first : raised_group plan n (acked s upper (raised_group plan n (acked s lower g))) ≡ raised_to plan n g ys = λ i. record g { counts = ys; group_point = point i; joined = joins i } in

@@ -5,7 +5,7 @@ use Rattle.std.proofs.lemmas.List.{append-nil}
 use Rattle.volume_model.specs.Answer.{◌>>=◌}
 use Rattle.volume_model.specs.Plan.{Plan}
 use Rattle.volume_model.specs.Message.{Label, Message}
-use Rattle.volume_model.specs.Message.Message.{View, StepTo, Fence, Report, Install, Write, Gossip, Ack, CopyAsk, CopyReport, PageAsk, Page}
+use Rattle.volume_model.specs.Message.Message.{Ack}
 use Rattle.volume_model.specs.Node.{NodeStep, NodeAnswer, reaction}
 use Rattle.volume_model.specs.Client.{Client}
 use Rattle.volume_model.specs.ClientMessages.{taken}
@@ -25,17 +25,6 @@ record AreAcks (m x : Message) : Type 0 where
   rises : lower ≤ upper
 
 acks_of : (group : ℕ) (label : Label) (from scl : ℕ) (x : Message) → is_covered group label from scl x ≡ true → AreAcks (Ack group label from scl) x
-acks_of group label from scl (View volume places) h = absurd cc
-acks_of group label from scl (StepTo to place) h = absurd cc
-acks_of group label from scl (Fence to of) h = absurd cc
-acks_of group label from scl (Report to of sender contents) h = absurd cc
-acks_of group label from scl (Install to of piece contents) h = absurd cc
-acks_of group label from scl (Write to of r) h = absurd cc
-acks_of group label from scl (Gossip to of r) h = absurd cc
-acks_of group label from scl (CopyAsk to epoch) h = absurd cc
-acks_of group label from scl (CopyReport to epoch sender series piece contents) h = absurd cc
-acks_of group label from scl (PageAsk to of block point) h = absurd cc
-acks_of group label from scl (Page to of sender block point bytes) h = absurd cc
 acks_of group label from scl (Ack to of sender reached) h =
     let p0 = and_parts (eqb to group) _ h in
     let p1 = and_parts (eqb of.volume label.volume) _ p0.1 in
@@ -55,20 +44,11 @@ acks_of group label from scl (Ack to of sender reached) h =
       earlier = λ i. Ack (g i) (record { volume = v i; member = e i }) (s i) reached;
       rises = leb-true reached scl p3.1;
     }
+acks_of group label from scl m h = absurd cc
 
 are_acks : (m x : Message) → covers m x ≡ true → AreAcks m x
 are_acks (Ack group label from scl) x h = acks_of group label from scl x h
-are_acks (View volume places) x h = absurd cc
-are_acks (StepTo to place) x h = absurd cc
-are_acks (Fence to of) x h = absurd cc
-are_acks (Report to of sender contents) x h = absurd cc
-are_acks (Install to of piece contents) x h = absurd cc
-are_acks (Write to of r) x h = absurd cc
-are_acks (Gossip to of r) x h = absurd cc
-are_acks (CopyAsk to epoch) x h = absurd cc
-are_acks (CopyReport to epoch sender series piece contents) x h = absurd cc
-are_acks (PageAsk to of block point) x h = absurd cc
-are_acks (Page to of sender block point bytes) x h = absurd cc
+are_acks m x h = absurd cc
 
 module _ (plan : Plan) (volume : ℕ) where
   -- one message after another

@@ -15,19 +15,16 @@ use Rattle.volume_model.specs.Client as client
 use Rattle.volume_model.specs.Client.{ClientAnswer, unborn}
 use Rattle.volume_model.specs.ClientMessages.{taken}
 use Rattle.wire.specs.declared.message.Message.{Message}
-use Rattle.wire.specs.declared.messages.Messages.{Messages}
-use Rattle.wire.specs.Listed.{listed}
 use Rattle.wire.specs.Message.{messages_of}
-use Rattle.message_bytes.proofs.Handed.{Fails-at}
 use Rattle.epochs.specs.declared.authority.Authority.{Authority}
 use Rattle.epochs.specs.Authority.{authority_of, authority_plan}
 use Rattle.segment_core.specs.declared.segment.Segment.{Segment}
 use Rattle.segment_core.specs.Segment.{node_of, IsSegmentOf}
 use Rattle.writer_core.specs.Writers as writers
 use Rattle.world.specs.declared.client.Client.{Client}
-use Rattle.world.specs.Clients.{client_plan, client_volume, seen_client, IsClientOf, IsSameClient}
+use Rattle.world.specs.Clients.{client_plan, client_volume, seen_client, IsClientOf}
 use Rattle.volume_c.specs.declared.actor.Actor.TheVariants as actor
-use Rattle.volume_c.specs.View.{View, Nothing, APlan, ANode, AClient, AnAuthority, ASnapshot, client_in, held_now, view_of, seen, unsent}
+use Rattle.volume_c.specs.View.{View, ANode, AClient, AnAuthority, client_in, held_now, view_of, seen, unsent}
 use Rattle.volume_c.specs.Calls.{Step, Value, IsRefusal, Refuses, Does, Makes, Reads, client_step, of_client}
 use Rattle.volume_c.specs.Authorities.{authority_made}
 use Rattle.volume_c.specs.Segments.{node_made}
@@ -122,23 +119,10 @@ module _ (plan : Plan) (s : Client) (volume : ℕ) (places : List model.Place) (
   begins : birth_in plan (model.Message.View volume places) ≡ client_step plan volume view-taken
   begins = λ i. client_step plan volume (taken (sym own.plan_is i) (sym own.volume_is i) (sym is i) (model.Message.View volume places))
 
-  pub client-born : (t : Client) (h : Held) (made : Messages) → view-taken ≡ Ok (writers.answered made (seen_client t)) → IsSameClient s t → h.actor ≡ actor.Client t → unsent (Some h) ≡ messages_of (listed made)
-      → birth_in plan (model.Message.View volume places) ≡ Ok (held_now h)
-  client-born t h made step same is_held sent =
-      let of : IsClientOf plan volume t = record { plan_is = same.plan_is ∙ own.plan_is; volume_is = same.volume_is ∙ own.volume_is } in
-      begins ∙ ap (client_step plan volume) step ∙ client-held h t (listed made) plan volume is_held sent of
-
-  pub client-unborn : (fault : Fault) → Fails fault view-taken → Fails fault (birth_in plan (model.Message.View volume places))
-  client-unborn fault refuses = Fails-at fault view-taken (birth_in plan (model.Message.View volume places)) (λ e. begins ∙ ap (client_step plan volume) e) refuses
-
 -- a client that is held is read
 pub client-read : {A : Type 0} (give : client.Client → Result A Fault) (view : View) (c : client.Client) → client_in view ≡ Some c → of_client (λ plan volume now. give now) view ≡ Some (give c)
-client-read give Nothing c is = absurd (none-some c is)
-client-read give (APlan plan) c is = absurd (none-some c is)
-client-read give (ANode plan group member node) c is = absurd (none-some c is)
 client-read give (AClient plan volume now) c is = ap (λ (x : Option client.Client). option_map give x) is
-client-read give (AnAuthority plan authority) c is = absurd (none-some c is)
-client-read give (ASnapshot bytes) c is = absurd (none-some c is)
+client-read give view c is = absurd (none-some c is)
 
 -- a place that is within
 pub not-le : (n m : ℕ) → n < m → nat_le m n ≡ false
@@ -149,20 +133,12 @@ pub gave : {A : Type 0} (defined : Value A) (value : A) (held : Option Held) →
 gave defined value held is = record { ok = λ _. is; refused = λ some _. absurd (some refl); same = (refl, refl) }
 
 no-writer-some : (view : View) (status : ℕ) → IsNoWriter status view → status ≢ 0
-no-writer-some Nothing status is none = absurd (omega (arith, is, none))
-no-writer-some (APlan plan) status is none = absurd (omega (arith, is, none))
-no-writer-some (ANode plan group member node) status is none = absurd (omega (arith, is, none))
 no-writer-some (AClient plan volume now) status is none = let n : status ≡ 70 = is.0 in absurd (omega (arith, n, none))
-no-writer-some (AnAuthority plan authority) status is none = absurd (omega (arith, is, none))
-no-writer-some (ASnapshot bytes) status is none = absurd (omega (arith, is, none))
+no-writer-some view status is none = absurd (omega (arith, is, none))
 
 no-writer : {A : Type 0} (give : client.Client → Result A Fault) (view : View) (status : ℕ) → IsNoWriter status view → Refuses (of_client (λ plan volume now. if_open now (give now)) view) status
-no-writer give Nothing status is some few = absurd (omega (arith, is, few))
-no-writer give (APlan plan) status is some few = absurd (omega (arith, is, few))
-no-writer give (ANode plan group member node) status is some few = absurd (omega (arith, is, few))
 no-writer give (AClient plan volume now) status is some few = (NotOpen, is.0, ap (λ (b : Bool). refuse_if (not b) NotOpen (give now)) is.1)
-no-writer give (AnAuthority plan authority) status is some few = absurd (omega (arith, is, few))
-no-writer give (ASnapshot bytes) status is some few = absurd (omega (arith, is, few))
+no-writer give view status is some few = absurd (omega (arith, is, few))
 
 -- a call that reads where no writer is held
 pub gave-none : {A : Type 0} (give : client.Client → Result A Fault) (view : View) (value : A) (status : ℕ) (held : Option Held) → IsNoWriter status view

@@ -3,7 +3,7 @@ use Rattle.std.proofs.Common.{◌≡◌, ℕ, false, true, List, [], ◌∷◌, 
 use Rattle.std.specs.Prelude.{is_some, slice_get}
 use Rattle.std.proofs.lemmas.Bool.{true≢false}
 use Rattle.std.proofs.lemmas.List.{map-append}
-use Rattle.volume_model.specs.Answer.{Fails, Gives}
+use Rattle.volume_model.specs.Answer.{Gives}
 use Rattle.volume_model.specs.Message as model
 use Rattle.volume_model.specs.Node.{NodeStep}
 use Rattle.volume_model.specs.Plan.{Plan}
@@ -14,8 +14,8 @@ use Rattle.message_bytes.proofs.Fields.{IsBytes}
 use Rattle.segment_core.specs.declared.segment.Segment.{Segment}
 use Rattle.segment_core.specs.Segment.{segment_plan, segment_group, segment_member, IsSameActor}
 use Rattle.volume_c.specs.Joined.{covers, joined}
-use Rattle.volume_c.specs.Frames.{framed, next_in, next_step, TookFront}
-use Rattle.volume_c.specs.Turns.{own_next, TookOwn}
+use Rattle.volume_c.specs.Frames.{framed, next_in, TookFront}
+use Rattle.volume_c.specs.Turns.{TookOwn}
 use Rattle.volume_c.proofs.Turns.{join-apart, join-covers, next-found}
 
 -- what is read stands in front
@@ -62,6 +62,3 @@ module _ (s t : Segment) (same : IsSameActor s t) where
 
   pub own-took : (bytes rest : List ℕ) (before after : NodeStep) → TookOwn t bytes rest before after → TookOwn s bytes rest before after
   own-took bytes rest before after h = moved (λ p g m. TookFront p g m bytes rest before after) h
-
-  pub own-refused : (fault : Fault) (before : NodeStep) (bytes : List ℕ) → Fails fault (own_next t before bytes) → Fails fault (own_next s before bytes)
-  own-refused fault before bytes h = moved (λ p g m. Fails fault (next_step p g m before bytes)) h

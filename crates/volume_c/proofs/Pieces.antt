@@ -14,14 +14,6 @@ head-then v p k l m r f = simp append_assoc
 pub empty_left : (head : List ℕ) (records : List Redo) (taken next : ℕ) → length head ≤ taken → length records ≤ next → drop taken head ++ records_spelled (drop next records) ≡ []
 empty_left head records taken next a b = ap₂ (λ (x : List ℕ) (y : List Redo). x ++ records_spelled y) (drop_all taken head a) (drop_all next records b)
 
--- bytes of what stands before the records are moved
-pub head-moved : (head out rest : List ℕ) (taken count : ℕ) → take count out ≡ take count (drop taken head) → drop taken head ++ rest ≡ take count out ++ (drop (taken + count) head ++ rest)
-head-moved head out rest taken count is =
-    let left = drop taken head in
-    ap (λ (t : List ℕ). t ++ rest)
-    (sym (take-append-drop count left) ∙ ap (λ (t : List ℕ). t ++ drop count left) (sym is) ∙ ap (λ (t : List ℕ). take count out ++ t) (drop-drop count taken head))
-    ∙ append_assoc (take count out) (drop (taken + count) head) rest
-
 -- whole records are moved
 pub records-moved : (records : List Redo) (next n count : ℕ) (out : List ℕ) → take count out ≡ records_spelled (take n (drop next records))
     → records_spelled (drop next records) ≡ take count out ++ records_spelled (drop (next + n) records)

@@ -48,13 +48,6 @@ next-found bytes x fits e =
     t.parts ∙ ap (λ (u : List ℕ). to_be_bytes w32 n ++ u) (sym (take-append-drop n rest)) ∙ sym (append_assoc (to_be_bytes w32 n) (take n rest) (drop n rest)) ∙ (λ i. (to_be_bytes w32 (len i) ++ text i) ++ drop n rest) in
     subst (λ (y : Message × List ℕ). bytes ≡ framed y.0 ++ y.1) (ok_is (b.0, drop n rest) x b.2) own
 
--- so what follows it is shorter
-pub next-shorter : (bytes rest : List ℕ) (m : Message) → bytes ≡ framed m ++ rest → length rest < length bytes
-next-shorter bytes rest m e =
-    let all : length bytes ≡ length (framed m) + length rest = ap length e ∙ length-append (framed m) rest in
-    let front : length (framed m) ≡ 4 + length (message_spelled m) = length-append (to_be_bytes w32 (length (message_spelled m))) (message_spelled m) in
-    omega (arith, all, front)
-
 -- ---- answers that are joined
 
 pub join-covers : (ws : List Message) (x m : Message) (ms : List Message) → covers m x ≡ true → joined (ws ++ x ∷ []) (m ∷ ms) ≡ ws ++ m ∷ ms
@@ -67,15 +60,6 @@ join-apart [] x m ms e = rw e refl
 join-apart (w ∷ []) x m ms e = ap (λ t. w ∷ t) (join-apart [] x m ms e)
 join-apart (w ∷ v ∷ ws) x m ms e = ap (λ t. w ∷ t) (join-apart (v ∷ ws) x m ms e)
 
-pub join-first : (ms : List Message) → joined [] ms ≡ ms
-join-first [] = refl
-join-first (m ∷ ms) = refl
-
-pub join-none : (ws : List Message) → joined ws [] ≡ ws ++ []
-join-none [] = refl
-join-none (w ∷ []) = refl
-join-none (w ∷ v ∷ ws) = sym (append-nil (w ∷ v ∷ ws))
-
 -- ---- turns
 
 module _ (plan : Plan) (group member : ℕ) where
@@ -87,9 +71,6 @@ module _ (plan : Plan) (group member : ℕ) where
   turns-append : (ms ns : List Message) (s : NodeStep) → in_turn plan group member s (ms ++ ns) ≡ (in_turn plan group member s ms >>= λ t. in_turn plan group member t ns)
   turns-append [] ns s = refl
   turns-append (m ∷ ms) ns s = turn-append ms ns (turns-append ms ns) (one_turn plan group member s m)
-
-  pub took-none : (bytes : List ℕ) (s : NodeStep) → TookFront plan group member bytes bytes s s
-  took-none bytes s = record { messages = []; spelled = refl; turns = refl }
 
   pub took-one : (bytes rest : List ℕ) (m : Message) (s t : NodeStep) → bytes ≡ framed m ++ rest → one_turn plan group member s m ≡ Ok t → TookFront plan group member bytes rest s t
   took-one bytes rest m s t e h = record {
@@ -112,21 +93,10 @@ module _ (plan : Plan) (group member : ℕ) where
       ap (λ (r : NodeAnswer). r >>= λ (u : NodeStep). Ok (record { made = joined s.made u.made; node = u.node })) e
       ∙ (λ i. Ok (record { made = sym p i; node = sym q i }))
 
-  -- a turn that is refused
-  pub not-turned : (s : NodeStep) (m : Message) (fault : Fault) → Fails fault (reaction plan group member s.node m) → Fails fault (one_turn plan group member s m)
-  not-turned s m fault h =
-      Fails-at fault (reaction plan group member s.node m) (one_turn plan group member s m)
-      (λ e. ap (λ (r : NodeAnswer). r >>= λ (u : NodeStep). Ok (record { made = joined s.made u.made; node = u.node })) e) h
-
   -- bytes whose first message isn't read, or isn't taken
   pub not-read : (s : NodeStep) (bytes : List ℕ) (fault : Fault) → Fails fault (next_in bytes) → Fails fault (next_step plan group member s bytes)
   not-read s bytes fault h =
       Fails-at fault (next_in bytes) (next_step plan group member s bytes) (λ e. ap (λ (r : Result (Message × List ℕ) Fault). r >>= λ (x : Message × List ℕ). one_turn plan group member s x.0) e) h
-
-  pub not-next : (s : NodeStep) (bytes rest : List ℕ) (m : Message) (fault : Fault) → next_in bytes ≡ Ok (m, rest) → Fails fault (one_turn plan group member s m) → Fails fault (next_step plan group member s bytes)
-  not-next s bytes rest m fault e h =
-      Fails-at fault (one_turn plan group member s m) (next_step plan group member s bytes)
-      (λ f. ap (λ (r : Result (Message × List ℕ) Fault). r >>= λ (x : Message × List ℕ). one_turn plan group member s x.0) e ∙ f) h
 
 -- ---- a handle
 
@@ -142,18 +112,6 @@ status-few status defined refused much =
     let few : number_of r.0 < 90 = number-few r.0 in
     let is : status ≡ number_of r.0 = r.1 in
     omega (arith, few, is, much)
-
--- nothing was taken
-pub frame-stays : (frame : List ℕ) (status : ℕ) (held : Option Held) → 90 ≤ status → TakesFrame frame 0 status held held
-frame-stays frame status held much = record {
-  within = omega arith;
-  messages = [];
-  spelled = refl;
-  does = λ few. absurd (omega (arith, few, much));
-  all = λ none. absurd (omega (arith, none, much));
-  refused = λ _ few. absurd (omega (arith, few, much));
-  unchanged = λ _. (refl, refl, refl);
-}
 
 module _ (plan : Plan) (group member : ℕ) where
   abbrev joins : NodeStep → NodeStep → NodeAnswer

@@ -5,7 +5,9 @@ use crate::snapshot_bytes::SnapshotBytes;
 use epochs::Authority;
 use plan::CheckedPlan;
 use segment_core::Segment;
+use std::alloc::Global;
 use std::sync::Arc;
+use wire::Messages;
 use world::Client;
 
 /// A plan, an actor, or a snapshot.
@@ -28,4 +30,20 @@ pub enum Actor {
 pub struct Held {
     pub actor: Actor,
     pub outbox: Outbox,
+}
+
+impl Held {
+    ghost use Rattle.std.specs.Prelude.{◌≡◌, [], Some};
+    ghost use Rattle.volume_c.specs.View.{unsent};
+
+    /// Returns the contents of a handle for an actor that has made no message.
+    pub fn of(alloc: Global, actor: Actor) -> Held
+        ensures actor { result.actor ≡ actor }
+        ensures nothing { unsent (Some result) ≡ [] }
+    {
+        Held {
+            actor,
+            outbox: Outbox::of(alloc, Messages::Empty),
+        }
+    }
 }

@@ -1,8 +1,8 @@
 //! The authority.
 
-ghost use Rattle.std.specs.Prelude.{◌≡◌, ◌≢◌, Some, [], take};
+ghost use Rattle.std.specs.Prelude.{◌≡◌, ◌≢◌, Some, take};
 ghost use Rattle.volume_model.specs.World.{assigned, advanced, refreshed, grown};
-ghost use Rattle.volume_c.specs.View.{seen, unsent};
+ghost use Rattle.volume_c.specs.View.{seen};
 ghost use Rattle.volume_c.specs.Calls.{authority_does, Does, Makes, Reads};
 ghost use Rattle.volume_c.specs.Authorities.{opening_step, resumed_step, snapshot_value};
 
@@ -11,24 +11,11 @@ use crate::acts::authority_step;
 use crate::buffer::copy_out;
 use crate::constructors::{hold, plan_in};
 use crate::handle::Handle;
-use crate::outbox::Outbox;
 use crate::saved::{authority_bytes, read_authority};
 use crate::status::WRONG_HANDLE;
 use epochs::Authority;
 use std::alloc::Global;
-use wire::Messages;
 use world::AuthorityAction;
-
-/// Returns the contents of a handle for an authority that has made no message.
-fn held_of(alloc: Global, authority: Authority) -> Held
-    ensures actor { result.actor ≡ Actor.Authority authority }
-    ensures nothing { unsent (Some result) ≡ [] }
-{
-    Held {
-        actor: Actor::Authority(authority),
-        outbox: Outbox::of(alloc, Messages::Empty),
-    }
-}
 
 /// Makes the authority of a new volume: volume epoch 1 is assigned, and each group of the volume's birth is at its
 /// first configuration. A volume has one authority; call it once in the life of the volume. `out` must be empty. On
@@ -46,7 +33,7 @@ pub extern "C" fn volume_authority_new(alloc: Global, plan: &mut Handle, out: &m
         Err(status) => return status,
     };
     match Authority::new(alloc, plan) {
-        Ok(authority) => hold(alloc, held_of(alloc, authority), out),
+        Ok(authority) => hold(alloc, Held::of(alloc, Actor::Authority(authority)), out),
         Err(fault) => fault.number(),
     }
 }
@@ -79,7 +66,7 @@ pub extern "C" fn volume_authority_resume(
         Err(status) => return status,
     };
     match Authority::resumed(plan, snapshot) {
-        Ok(authority) => hold(alloc, held_of(alloc, authority), out),
+        Ok(authority) => hold(alloc, Held::of(alloc, Actor::Authority(authority)), out),
         Err(fault) => fault.number(),
     }
 }

@@ -7,10 +7,9 @@ ghost use Rattle.volume_model.specs.ClientMessages.{taken};
 ghost use Rattle.volume_model.specs.ClientRecovery.{cut_client, opened};
 ghost use Rattle.volume_model.specs.ClientWriter.{issued, page_asked, resent};
 ghost use Rattle.plan.specs.CheckedModel.{checked_model};
-ghost use Rattle.wire.specs.Listed.{listed};
-ghost use Rattle.wire.specs.Message.{message_of, messages_of};
+ghost use Rattle.wire.specs.Message.{message_of};
 ghost use Rattle.writer_core.specs.Writers.{client_of};
-ghost use Rattle.volume_c.specs.View.{client_in, held_now, seen, unsent};
+ghost use Rattle.volume_c.specs.View.{client_in, held_now, seen};
 ghost use Rattle.volume_c.specs.Calls.{client_does, with_message, Does, Makes, Reads};
 ghost use Rattle.volume_c.specs.Changes.{given_change};
 ghost use Rattle.volume_c.specs.Clients.{acknowledged_value, birth_in, birth_step, first_step};
@@ -21,14 +20,13 @@ use crate::acts::client_step;
 use crate::changes::{VolumeChange, changes};
 use crate::constructors::{hold, plan_in};
 use crate::handle::Handle;
-use crate::outbox::Outbox;
 use crate::status::WRONG_HANDLE;
 use message_bytes::decode;
 use plan::CheckedPlan;
 use std::alloc::Global;
 use std::sync::Arc;
 use volume_model::Fault;
-use wire::{Message, Messages};
+use wire::Message;
 use world::{Client, ClientAction, ClientState};
 use writer_core::Writer;
 
@@ -49,17 +47,6 @@ pub struct VolumePoints {
     pub last: u64,
 }
 
-/// Returns the contents of a handle for a client that made these messages.
-fn held_of(alloc: Global, client: Client, made: Messages) -> Held
-    ensures actor { result.actor ≡ Actor.Client client }
-    ensures messages { unsent (Some result) ≡ messages_of (listed made) }
-{
-    Held {
-        actor: Actor::Client(client),
-        outbox: Outbox::of(alloc, made),
-    }
-}
-
 /// Makes the first writer of a new volume, with volume epoch 1 and no record. Call it once in the life of the volume;
 /// each later writer comes from a recovery. `out` must be empty. On success it holds the writer.
 #[unsafe(no_mangle)]
@@ -75,7 +62,7 @@ pub extern "C" fn volume_writer_first(alloc: Global, plan: &mut Handle, out: &mu
         Err(status) => return status,
     };
     match Client::first(alloc, plan) {
-        Ok(client) => hold(alloc, held_of(alloc, client, Messages::Empty), out),
+        Ok(client) => hold(alloc, Held::of(alloc, Actor::Client(client)), out),
         Err(fault) => fault.number(),
     }
 }
@@ -89,7 +76,9 @@ fn born(alloc: Global, plan: Arc<CheckedPlan>, message: &Message) -> Result<Held
     };
     let mut client = Client::unborn(plan, view.volume);
     let made = client.act(alloc, TAKE, Some(message))?;
-    Ok(held_of(alloc, client, made))
+    let mut held = Held::of(alloc, Actor::Client(client));
+    held.outbox.fill(made);
+    Ok(held)
 }
 
 /// Makes a recovery from a `View` message of the authority, as `volume_authority_assign` makes it. Its `Fence`

@@ -12,24 +12,11 @@ ghost use Rattle.volume_c.specs.Plans.{ReadsPlan};
 use crate::actor::{Actor, Held};
 use crate::constructors::hold;
 use crate::handle::Handle;
-use crate::outbox::Outbox;
 use crate::status::WRONG_HANDLE;
-use plan::{CheckedPlan, Plan, PlanFault, check_plan, read_plan};
+use plan::{CheckedPlan, PlanFault, check_plan, read_plan};
 use std::alloc::Global;
 use std::sync::Arc;
 use volume_model::Fault;
-use wire::Messages;
-
-/// Checks a plan.
-fn checked_plan(alloc: Global, plan: Plan) -> Result<CheckedPlan, PlanFault>
-    ensures plan { IfOk result (λ checked. checked.plan ≡ plan) }
-    ensures faultless { IfOk result (λ checked. plan_fault (plan_data plan) ≡ None) }
-{
-    match check_plan(alloc, plan) {
-        Ok(plan) => Ok(plan),
-        Err(refused) => Err(refused.0),
-    }
-}
 
 /// Reads and checks the plan of a text.
 fn checked(alloc: Global, text: &[u8]) -> Result<CheckedPlan, PlanFault>
@@ -37,7 +24,10 @@ fn checked(alloc: Global, text: &[u8]) -> Result<CheckedPlan, PlanFault>
     ensures faultless { IfOk result (λ checked. plan_fault (plan_data checked.plan) ≡ None) }
 {
     let plan = read_plan(alloc, text)?;
-    checked_plan(alloc, plan)
+    match check_plan(alloc, plan) {
+        Ok(plan) => Ok(plan),
+        Err(refused) => Err(refused.0),
+    }
 }
 
 /// Copies as much of a text as fits. Returns the text's length.
@@ -66,14 +56,7 @@ fn hold_plan(alloc: Global, plan: CheckedPlan, out: &mut Handle) -> u8
     ensures err { result ≢ 0 → out.new.seal.held ≡ out.old.seal.held }
 {
     match Arc::new(alloc, plan) {
-        Ok(plan) => hold(
-            alloc,
-            Held {
-                actor: Actor::Plan(plan),
-                outbox: Outbox::of(alloc, Messages::Empty),
-            },
-            out,
-        ),
+        Ok(plan) => hold(alloc, Held::of(alloc, Actor::Plan(plan)), out),
         Err(_) => Fault::NoMemory.number(),
     }
 }

@@ -1,8 +1,8 @@
 //! Segments.
 
-ghost use Rattle.std.specs.Prelude.{◌≡◌, ◌≢◌, [], Some, take};
+ghost use Rattle.std.specs.Prelude.{◌≡◌, ◌≢◌, Some, take};
 ghost use Rattle.volume_model.specs.Node.{hydrated, offered, reaction};
-ghost use Rattle.volume_c.specs.View.{seen, unsent};
+ghost use Rattle.volume_c.specs.View.{seen};
 ghost use Rattle.volume_c.specs.Calls.{node_does, with_message, Does, Makes, Reads};
 ghost use Rattle.volume_c.specs.Segments.{born_step, page_value, resumed_step, scl_value, state_of, state_value};
 
@@ -11,13 +11,11 @@ use crate::acts::{deliver_step, segment_step};
 use crate::buffer::copy_out;
 use crate::constructors::{hold, plan_in};
 use crate::handle::Handle;
-use crate::outbox::Outbox;
 use crate::saved::read_segment;
 use crate::status::{TOO_SMALL, WRONG_HANDLE};
 use message_bytes::decode;
 use segment_core::{NodeAction, Segment};
 use std::alloc::Global;
-use wire::Messages;
 
 /// The bytes of a block.
 const BLOCK: usize = 512;
@@ -38,17 +36,6 @@ pub struct VolumeSegmentState {
     pub configuration: u32,
     /// 1 if it is whole, else 0.
     pub is_whole: u32,
-}
-
-/// Returns the contents of a handle for a segment that has made no message.
-fn held_of(alloc: Global, segment: Segment) -> Held
-    ensures actor { result.actor ≡ Actor.Segment segment }
-    ensures nothing { unsent (Some result) ≡ [] }
-{
-    Held {
-        actor: Actor::Segment(segment),
-        outbox: Outbox::of(alloc, Messages::Empty),
-    }
 }
 
 /// Makes the segment of a member of a group as it is when the volume is born: a member of the group's first
@@ -76,7 +63,7 @@ pub extern "C" fn volume_segment_new(
         Err(status) => return status,
     };
     match Segment::new(alloc, plan, group, member) {
-        Ok(segment) => hold(alloc, held_of(alloc, segment), out),
+        Ok(segment) => hold(alloc, Held::of(alloc, Actor::Segment(segment)), out),
         Err(fault) => fault.number(),
     }
 }
@@ -111,7 +98,7 @@ pub extern "C" fn volume_segment_resume(
         Err(status) => return status,
     };
     match Segment::resumed(alloc, plan, group, member, snapshot) {
-        Ok(segment) => hold(alloc, held_of(alloc, segment), out),
+        Ok(segment) => hold(alloc, Held::of(alloc, Actor::Segment(segment)), out),
         Err(fault) => fault.number(),
     }
 }

@@ -12,24 +12,11 @@ ghost use Rattle.volume_c.specs.Snapshots.{ReadsNext};
 use crate::actor::{Actor, Held};
 use crate::constructors::hold;
 use crate::handle::Handle;
-use crate::outbox::Outbox;
 use crate::snapshot_bytes::SnapshotBytes;
 use crate::status::{BAD_LENGTH, NO_MORE, TOO_SMALL, UNSENT, WRONG_HANDLE};
 use segment_core::Segment;
 use std::alloc::Global;
 use volume_model::Fault;
-use wire::Messages;
-
-/// Returns what is held of a snapshot.
-fn held_of(alloc: Global, bytes: SnapshotBytes) -> Held
-    ensures actor { result.actor ≡ Actor.Snapshot bytes }
-    ensures nothing { unsent (Some result) ≡ [] }
-{
-    Held {
-        actor: Actor::Snapshot(bytes),
-        outbox: Outbox::of(alloc, Messages::Empty),
-    }
-}
 
 /// Saves a segment: fills an empty handle with its snapshot, and drops its pieces.
 fn save(alloc: Global, segment: &mut Segment, out: &mut Handle) -> u8
@@ -50,7 +37,7 @@ fn save(alloc: Global, segment: &mut Segment, out: &mut Handle) -> u8
         Err(Fault::NoMemory) => return Fault::NoMemory.number(),
         Err(_) => return BAD_LENGTH,
     };
-    let status = hold(alloc, held_of(alloc, bytes), out);
+    let status = hold(alloc, Held::of(alloc, Actor::Snapshot(bytes)), out);
     if status != 0 {
         return status;
     }

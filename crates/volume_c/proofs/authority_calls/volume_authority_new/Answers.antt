@@ -15,6 +15,6 @@ returns-in-Err-clause-makes c = unmade (opening_step (seen c.args.plan.now.seal.
 pub returns-in-Ok-new-clause-makes : goal.returns-in-Ok-new-clause-makes
 returns-in-Ok-new-clause-makes c =
     let plan : Plan = checked_model (arc_value c.in-Ok.plan) in
-    made (opening_step (seen c.args.plan.now.seal.held)) c.hold.result c.args.out.now.seal.held c.hold.new.out.seal.held c.held_of.result c.is_live.result c.is_live.ensures c.if-is_live.false c.hold.ensures.ok c.hold.ensures.err
+    made (opening_step (seen c.args.plan.now.seal.held)) c.hold.result c.args.out.now.seal.held c.hold.new.out.seal.held c.of.result c.is_live.result c.is_live.ensures c.if-is_live.false c.hold.ensures.ok c.hold.ensures.err
     (ap opening_step c.in-Ok.ensures.plan ∙ ap (λ (r : Result Authority Fault). Some (authority_made plan r)) c.in-Ok-new.ensures.authority
-    ∙ ap (λ r. Some r) (authority-held c.held_of.result c.in-Ok-new.authority plan c.held_of.ensures.actor c.held_of.ensures.nothing c.in-Ok-new.ensures.plan))
+    ∙ ap (λ r. Some r) (authority-held c.of.result c.in-Ok-new.authority plan c.of.ensures.actor c.of.ensures.nothing c.in-Ok-new.ensures.plan))

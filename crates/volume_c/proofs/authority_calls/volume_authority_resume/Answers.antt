@@ -19,8 +19,8 @@ returns-in-Ok-resumed-clause-makes c =
     let plan : Plan = checked_model (arc_value c.in-Ok-plan_in.plan) in
     let view : View = seen c.args.plan.now.seal.held in
     let saved : Authority = snapshot_authority c.in-Ok.snapshot in
-    made (resumed_step c.args.bytes.now view) c.hold.result c.args.out.now.seal.held c.hold.new.out.seal.held c.held_of.result c.is_live.result c.is_live.ensures c.if-is_live.false c.hold.ensures.ok c.hold.ensures.err
+    made (resumed_step c.args.bytes.now view) c.hold.result c.args.out.now.seal.held c.hold.new.out.seal.held c.of.result c.is_live.result c.is_live.ensures c.if-is_live.false c.hold.ensures.ok c.hold.ensures.err
     (ap (λ (r : Result Authority Fault). with_value r (λ authority. of_plan (λ p. authority_made p (resumed p authority)) view)) c.in-Ok.ensures
     ∙ ap (of_plan (λ p. authority_made p (resumed p saved))) c.in-Ok-plan_in.ensures.plan
     ∙ ap (λ (r : Result Authority Fault). Some (authority_made plan r)) c.in-Ok-resumed.ensures.authority
-    ∙ ap (λ r. Some r) (authority-held c.held_of.result c.in-Ok-resumed.authority plan c.held_of.ensures.actor c.held_of.ensures.nothing c.in-Ok-resumed.ensures.plan))
+    ∙ ap (λ r. Some r) (authority-held c.of.result c.in-Ok-resumed.authority plan c.of.ensures.actor c.of.ensures.nothing c.in-Ok-resumed.ensures.plan))

@@ -14,6 +14,6 @@ returns-in-Err-clause-makes c = unmade (first_step (seen c.args.plan.now.seal.he
 pub returns-in-Ok-first-clause-makes : goal.returns-in-Ok-first-clause-makes
 returns-in-Ok-first-clause-makes c =
     let plan : Plan = checked_model (arc_value c.in-Ok.plan) in
-    made (first_step (seen c.args.plan.now.seal.held)) c.hold.result c.args.out.now.seal.held c.hold.new.out.seal.held c.held_of.result c.is_live.result c.is_live.ensures c.if-is_live.false c.hold.ensures.ok c.hold.ensures.err
+    made (first_step (seen c.args.plan.now.seal.held)) c.hold.result c.args.out.now.seal.held c.hold.new.out.seal.held c.of.result c.is_live.result c.is_live.ensures c.if-is_live.false c.hold.ensures.ok c.hold.ensures.err
     (ap first_step c.in-Ok.ensures.plan ∙ first-made plan 1 (client.first_writer plan) c.in-Ok-first.client c.in-Ok-first.ensures.client
-    ∙ ap (λ r. Some r) (client-held c.held_of.result c.in-Ok-first.client [] plan 1 c.held_of.ensures.actor c.held_of.ensures.messages c.in-Ok-first.ensures.own))
+    ∙ ap (λ r. Some r) (client-held c.of.result c.in-Ok-first.client [] plan 1 c.of.ensures.actor c.of.ensures.nothing c.in-Ok-first.ensures.own))

@@ -1,7 +1,6 @@
 use Rattle.std.proofs.Common.{List, ◌∷◌, refl, sym, ap, ◌∙◌}
 use Rattle.wire.specs.declared.message.Message.{Message}
 use Rattle.wire.specs.Message.{message_of, messages_of}
-use Rattle.volume_c.specs.Outbox.{WritesFirst}
 use Rattle.volume_c.proofs.handle_calls.hand_out.Goals as goal
 
 pub returns : goal.returns

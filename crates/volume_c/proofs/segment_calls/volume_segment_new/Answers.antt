@@ -15,6 +15,6 @@ returns-in-Err-clause-makes c = unmade (born_step c.args.group c.args.member (se
 pub returns-in-Ok-new-clause-makes : goal.returns-in-Ok-new-clause-makes
 returns-in-Ok-new-clause-makes c =
     let plan : Plan = checked_model (arc_value c.in-Ok.plan) in
-    made (born_step c.args.group c.args.member (seen c.args.plan.now.seal.held)) c.hold.result c.args.out.now.seal.held c.hold.new.out.seal.held c.held_of.result c.is_live.result c.is_live.ensures c.if-is_live.false c.hold.ensures.ok c.hold.ensures.err
+    made (born_step c.args.group c.args.member (seen c.args.plan.now.seal.held)) c.hold.result c.args.out.now.seal.held c.hold.new.out.seal.held c.of.result c.is_live.result c.is_live.ensures c.if-is_live.false c.hold.ensures.ok c.hold.ensures.err
     (ap (born_step c.args.group c.args.member) c.in-Ok.ensures.plan ∙ ap (λ (r : Result Node Fault). Some (node_made plan c.args.group c.args.member r)) c.in-Ok-new.ensures.born
-    ∙ ap (λ r. Some r) (segment-held c.held_of.result c.in-Ok-new.segment plan c.args.group c.args.member c.held_of.ensures.actor c.held_of.ensures.nothing c.in-Ok-new.ensures.actor))
+    ∙ ap (λ r. Some r) (segment-held c.of.result c.in-Ok-new.segment plan c.args.group c.args.member c.of.ensures.actor c.of.ensures.nothing c.in-Ok-new.ensures.actor))

@@ -21,8 +21,8 @@ returns-in-Ok-resumed-clause-makes c =
     let saved : Node = node_in c.in-Ok.snapshot in
     let group = c.args.group in
     let member = c.args.member in
-    made (resumed_step c.args.bytes.now group member view) c.hold.result c.args.out.now.seal.held c.hold.new.out.seal.held c.held_of.result c.is_live.result c.is_live.ensures c.if-is_live.false c.hold.ensures.ok c.hold.ensures.err
+    made (resumed_step c.args.bytes.now group member view) c.hold.result c.args.out.now.seal.held c.hold.new.out.seal.held c.of.result c.is_live.result c.is_live.ensures c.if-is_live.false c.hold.ensures.ok c.hold.ensures.err
     (ap (λ (r : Result Node Fault). with_value r (λ node. of_plan (λ p. node_made p group member (resumed p group member node)) view)) c.in-Ok.ensures
     ∙ ap (of_plan (λ p. node_made p group member (resumed p group member saved))) c.in-Ok-plan_in.ensures.plan
     ∙ ap (λ (r : Result Node Fault). Some (node_made plan group member r)) c.in-Ok-resumed.ensures.node
-    ∙ ap (λ r. Some r) (segment-held c.held_of.result c.in-Ok-resumed.segment plan group member c.held_of.ensures.actor c.held_of.ensures.nothing c.in-Ok-resumed.ensures.actor))
+    ∙ ap (λ r. Some r) (segment-held c.of.result c.in-Ok-resumed.segment plan group member c.of.ensures.actor c.of.ensures.nothing c.in-Ok-resumed.ensures.actor))

@@ -1,4 +1,4 @@
-use Rattle.std.proofs.Common.{ℕ, List, Bool, true, subst}
+use Rattle.std.proofs.Common.{Bool, true, subst}
 use Rattle.wire.specs.Listed.{listed}
 use Rattle.wire.specs.Message.{message_of}
 use Rattle.message_bytes.specs.Filling.{Fills, Filled}
