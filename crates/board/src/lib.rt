@@ -1,7 +1,7 @@
 //! A number that threads raise and read without a lock.
 #![tactic(auto)]
 
-ghost use Rattle.std.specs.Prelude.{◌≡◌, length};
+ghost use Rattle.std.specs.Prelude.{◌≡◌, length, ◌-◌, [], ◌∷◌, ◌+◌, ◌++◌, ◌<◌, ◌≤◌, ℕ, All, IfOk, map, vec_len};
 
 use atomic_table::{Join, Play, Seat, Split, Table, TableRule};
 use std::alloc::{AllocError, Global};
@@ -24,7 +24,6 @@ type Seats = (u64, LinkedList<LinkedList<BoardStep>>);
 pub struct Durable;
 
 impl TableRule<(), Seats, u64> for Durable {
-    ghost use Rattle.std.specs.Prelude.{◌-◌, [], ◌∷◌};
     ghost use Rattle.board.specs.Board.{Stands};
 
     ghost holds = { λ seats s. Stands seats s.words s.views };
@@ -36,8 +35,6 @@ impl TableRule<(), Seats, u64> for Durable {
 pub struct NewSeat;
 
 impl Split<Seats> for NewSeat {
-    ghost use Rattle.std.specs.Prelude.{◌-◌, [], ◌∷◌};
-
     ghost left = { λ v. (v.0 - 1, v.1) };
 
     ghost right = { λ _. (0, [] ∷ []) };
@@ -47,8 +44,6 @@ impl Split<Seats> for NewSeat {
 pub struct Return;
 
 impl Join<Seats> for Return {
-    ghost use Rattle.std.specs.Prelude.{◌+◌, [], ◌++◌};
-
     ghost both = { λ v w. (v.0 + w.0, w.1 ++ v.1) };
 
     ghost spent = { (0, []) };
@@ -58,7 +53,6 @@ impl Join<Seats> for Return {
 pub struct Raise;
 
 impl Play<(), Seats> for Raise {
-    ghost use Rattle.std.specs.Prelude.{◌≡◌};
     ghost use Rattle.board.specs.Board.{Raises};
 
     ghost then = { λ step before found after. Raises before.0 step.first after.0 × (after.1 ≡ before.1) };
@@ -68,7 +62,6 @@ impl Play<(), Seats> for Raise {
 pub struct Look;
 
 impl Play<(), Seats> for Look {
-    ghost use Rattle.std.specs.Prelude.{◌≡◌};
     ghost use Rattle.board.specs.Board.{Looks};
 
     ghost then = { λ step before found after. Looks before.0 found after.0 × (after.1 ≡ before.1) };
@@ -97,7 +90,6 @@ pub struct ReturnedSeats {
 }
 
 impl BoardSeat {
-    ghost use Rattle.std.specs.Prelude.{[], ◌∷◌};
     ghost use Rattle.board.specs.Seats.{returned, steps_of, AreReturnedTo, IsSeatIn};
 
     /// Turns this seat into a collection of returned seats, which has it alone.
@@ -111,7 +103,6 @@ impl BoardSeat {
 }
 
 impl Board {
-    ghost use Rattle.std.specs.Prelude.{◌<◌, ◌≤◌, ◌++◌, [], ◌∷◌, ℕ, All, IfOk, map, vec_len};
     ghost use Rattle.board.specs.Board.{number_of, IsBoard, IsKept};
     ghost use Rattle.board.specs.Seats.{board_table, returned, seats_of, AreReturnedTo, IsSeatOf, steps_of};
 

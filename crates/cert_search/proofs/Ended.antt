@@ -1,10 +1,9 @@
 -- Hands after their work.
-use Rattle.std.proofs.Common.{◌≡◌, ◌∙◌, ℕ, zero, suc, ◌<◌, ◌%◌, List, [], ◌∷◌, map, length, get_or, Some, IsSome, All, Vec, Global, sym, ap, subst, refl, mod-lt, arith}
-use Rattle.std.specs.Prelude.{slice_get}
+use Rattle.std.proofs.Common.{◌≡◌, ◌∙◌, ℕ, zero, suc, ◌<◌, ◌%◌, List, [], ◌∷◌, map, length, get_or, Some, IsSome, All, Vec, Global, sym, ap, subst, refl, mod-lt, arith, slice_get}
 use Rattle.cert_search.specs.declared.hand.Hand.{Hand}
 use Rattle.cert_search.specs.declared.working.Found.{Found}
 use Rattle.cert_search.specs.declared.working.Worked.{Worked}
-use Rattle.plan.specs.PlanClaims.{PlacedClaim}
+use Rattle.plan.specs.Common.{PlacedClaim}
 use Rattle.cert_search.specs.Hands.{own_deque, deque_at, IsOfDeal, AreDealt, ShareDeques, SameDeal, HasEnded}
 use Rattle.cert_search.specs.NamedViews.{name_at}
 use Rattle.cert_search.specs.Settled.{AreOfDeal, AllHad, HadOnce, EachHad}

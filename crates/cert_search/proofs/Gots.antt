@@ -1,6 +1,5 @@
 -- What stands in the views of one deque.
-use Rattle.std.proofs.Common.{◌≡◌, ◌≢◌, ⊎_elim, ℕ, zero, suc, ◌+◌, ◌-◌, ◌<◌, ◌==◌, List, [], ◌∷◌, ◌++◌, map, length, Bool, Some, refl, sym, ap, ◌∙◌, append_assoc, append-nil, eq-eqb, ne_eqb, arith, true, false, ◌||◌}
-use Rattle.std.specs.Prelude.{slice_get, if◌then◌else◌}
+use Rattle.std.proofs.Common.{◌≡◌, ◌≢◌, ⊎_elim, ℕ, zero, suc, ◌+◌, ◌-◌, ◌<◌, ◌==◌, List, [], ◌∷◌, ◌++◌, map, length, Bool, Some, refl, sym, ap, ◌∙◌, append_assoc, append-nil, eq-eqb, ne_eqb, arith, true, false, ◌||◌, slice_get, if◌then◌else◌}
 use mathlib.Core.Option.{some, some-ne-none}
 use mathlib.Core.Logic.{dite}
 use native.Mathlib.Decide.{ℕ_discrete}

@@ -1,12 +1,11 @@
 -- The shortest certificates are kept.
-use Rattle.std.proofs.Common.{◌≡◌, ℕ, ◌+◌, ◌-◌, ◌<◌, ◌≤◌, List, [], ◌∷◌, ◌++◌, map, length, drop, get_or, refl, ap, sym, ◌∙◌, inl, inr, subst, add-one, drop-cons, arith}
-use Rattle.std.specs.Prelude.{Bool, true, false, None, Option, Some, if◌then◌else◌, nat_le, slice_get, slice_set}
+use Rattle.std.proofs.Common.{◌≡◌, ℕ, ◌+◌, ◌-◌, ◌<◌, ◌≤◌, List, [], ◌∷◌, ◌++◌, map, length, drop, get_or, refl, ap, sym, ◌∙◌, inl, inr, subst, add-one, drop-cons, arith, Bool, true, false, None, Option, Some, if◌then◌else◌, nat_le, slice_get, slice_set}
 use Rattle.std.proofs.lemmas.Bool.{cases_eq}
 use Rattle.std.proofs.lemmas.List.{append_assoc, append-nil, drop_all, length-set}
 use Rattle.std.proofs.lemmas.Option.{get_or_from_slice_get, slice_get_within}
 use Rattle.std.specs.declared.alloc.Global.{Global}
 use Rattle.refutation.specs.declared.certificate.Certificate.{Certificate}
-use Rattle.refutation.specs.Rule.{Rule}
+use Rattle.refutation.specs.Common.{Rule}
 use Rattle.cert_search.specs.Answers.{rule_in}
 use Rattle.cert_search.specs.Kept.{AreKept, kept_at, length_up_to}
 use Rattle.cert_search.specs.Lengths.{length_in}

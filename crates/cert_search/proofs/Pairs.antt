@@ -1,6 +1,5 @@
 -- Lists that are gone through from the front, and the trees that plain claims have.
-use Rattle.std.proofs.Common.{◌≡◌, ℕ, ◌+◌, ◌<◌, ◌≤◌, List, [], ◌∷◌, ◌++◌, length, drop, get_or, map, append_assoc, refl, ap, ◌∙◌, sym, arith, add-one, drop-cons, rules}
-use Rattle.std.specs.Prelude.{None, Option, Some, true, false, nat_le, ◌&&◌, Bool, cond}
+use Rattle.std.proofs.Common.{◌≡◌, ℕ, ◌+◌, ◌<◌, ◌≤◌, List, [], ◌∷◌, ◌++◌, length, drop, get_or, map, append_assoc, refl, ap, ◌∙◌, sym, arith, add-one, drop-cons, rules, None, Option, Some, true, false, nat_le, ◌&&◌, Bool, cond}
 use Rattle.std.specs.List.{position_from}
 use Rattle.refutation.proofs.Loop.{next}
 use Rattle.std.proofs.lemmas.List.{map-append}
@@ -8,9 +7,7 @@ use Rattle.std.proofs.lemmas.Bool.Decides.{nat_tests}
 use Rattle.refutation.specs.declared.Refutation.{Refutation}
 use Rattle.refutation.specs.declared.Refutation.TheVariants.{Clash}
 use Rattle.refutation.specs.declared.Refutation.TheFolds.{the_lemmas}
-use Rattle.refutation.specs.Rule.{clash, pair_up, branches_of, branch_count, branch_depth}
-use Rattle.refutation.specs.Refutation.{rule_of}
-use Rattle.refutation.specs.Limits.{is_certificate, each_keeps_lists, branch_nodes}
+use Rattle.refutation.specs.Common.{clash, pair_up, branches_of, branch_count, branch_depth, rule_of, is_certificate, each_keeps_lists, branch_nodes}
 use Rattle.cert_search.specs.Plain.{clashes, onto}
 
 -- ---- pairs so far, and those of what is left

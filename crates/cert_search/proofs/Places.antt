@@ -1,14 +1,13 @@
 -- Places and the answers that come to them.
-use Rattle.std.proofs.Common.{◌≡◌, ◌≢◌, ℕ, ◌+◌, ◌<◌, List, [], ◌∷◌, ◌++◌, length, get_or, refl, ap, inl, inr, ◌∙◌, sym, subst, arith, All}
-use Rattle.std.specs.Prelude.{None, Option, Some, IfSome, slice_get, slice_set, if◌then◌else◌, Bool, true, false}
+use Rattle.std.proofs.Common.{◌≡◌, ◌≢◌, ℕ, ◌+◌, ◌<◌, List, [], ◌∷◌, ◌++◌, length, get_or, refl, ap, inl, inr, ◌∙◌, sym, subst, arith, All, None, Option, Some, IfSome, slice_get, slice_set, if◌then◌else◌, Bool, true, false}
 use Rattle.std.specs.declared.alloc.Global.{Global}
 use Rattle.std.proofs.lemmas.Bool.{cases_eq}
 use Rattle.std.proofs.lemmas.List.{get_or-set_same, get_or-set_other, get_or_append_left, get_or_push, length-append, length-set}
 use Rattle.std.proofs.lemmas.List.Elements.{All-push}
 use Rattle.std.proofs.lemmas.Option.{get_or_from_slice_get, slice_get-get_or, slice_get_read, slice_get_within}
 use Rattle.refutation.specs.declared.certificate.Certificate.{Certificate}
-use Rattle.refutation.specs.Rule.{Rule}
-use Rattle.plan.specs.PlanClaims.{PlacedClaim}
+use Rattle.refutation.specs.Common.{Rule}
+use Rattle.plan.specs.Common.{PlacedClaim}
 use Rattle.cert_search.specs.Answers.{rule_in, EachAnswers, IsAnswer}
 use Rattle.cert_search.specs.Places.{ArePlaces, IsFound}
 use Rattle.cert_search.specs.declared.working.Found.{Found}

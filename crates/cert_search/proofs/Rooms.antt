@@ -1,12 +1,10 @@
 -- The room behind the texts of rules.
-use Rattle.std.proofs.Common.{◌≡◌, ℕ, ◌+◌, ◌-◌, ◌<◌, ◌≤◌, List, ◌∷◌, length, drop, get_or, map, arith, refl, ap, ap₂, ◌∙◌, sym, add-one, drop-cons}
-use Rattle.std.specs.Prelude.{Box, Vec}
+use Rattle.std.proofs.Common.{◌≡◌, ℕ, ◌+◌, ◌-◌, ◌<◌, ◌≤◌, List, ◌∷◌, length, drop, get_or, map, arith, refl, ap, ap₂, ◌∙◌, sym, add-one, drop-cons, Box, Vec}
 use Rattle.std.proofs.lemmas.List.{drop_all}
 use Rattle.refutation.specs.declared.Side.{Side}
 use Rattle.refutation.specs.declared.Refutation.{Refutation}
 use Rattle.refutation.specs.declared.Refutation.TheVariants.{Open, Pick, Match}
-use Rattle.refutation.specs.Rule.{Rule, open_all, pick, pair_up, branches_of}
-use Rattle.refutation.specs.Refutation.{rule_of}
+use Rattle.refutation.specs.Common.{Rule, open_all, pick, pair_up, branches_of, rule_of}
 use Rattle.refutation.proofs.Rules.{branches_step, rule_of-Open, rule_of-Pick, rule_of-Match}
 use Rattle.cert_search.specs.Lengths.{branches_length, digits, head_length, numbers_length, pairs_length, rule_length}
 

@@ -1,6 +1,5 @@
 -- Lists that are seen through a function, and lists that are made from a range.
-use Rattle.std.proofs.Common.{◌≡◌, ◌≢◌, ℕ, zero, suc, ◌+◌, ◌<◌, ◌≤◌, List, [], ◌∷◌, ◌++◌, map, length, get_or, set, Some, All, Bool, true, false, cond, filter, refl, sym, ap, ◌∙◌, subst, true≢false, add-one, arith}
-use Rattle.std.specs.Prelude.{slice_get}
+use Rattle.std.proofs.Common.{◌≡◌, ◌≢◌, ℕ, zero, suc, ◌+◌, ◌<◌, ◌≤◌, List, [], ◌∷◌, ◌++◌, map, length, get_or, set, Some, All, Bool, true, false, cond, filter, refl, sym, ap, ◌∙◌, subst, true≢false, add-one, arith, slice_get}
 use Rattle.std.specs.List.{range_with_len}
 use mathlib.Core.Option.{some, some-ne-none, some-injective}
 use lib.ListN.{get_elem?}

@@ -1,6 +1,5 @@
 -- Claims are dealt, views are cut, and hands are made.
-use Rattle.std.proofs.Common.{◌≡◌, ◌≢◌, ℕ, zero, suc, ◌+◌, ◌-◌, ◌<◌, ◌≤◌, ◌%◌, ◌==◌, List, [], ◌∷◌, ◌++◌, map, length, set, Bool, true, false, Some, IsSome, All, eqb-true, eq-eqb, get_or, refl, sym, ap, ◌∙◌, subst, zero-add, append_assoc, Vec, Global, arith}
-use Rattle.std.specs.Prelude.{slice_get, if◌then◌else◌}
+use Rattle.std.proofs.Common.{◌≡◌, ◌≢◌, ℕ, zero, suc, ◌+◌, ◌-◌, ◌<◌, ◌≤◌, ◌%◌, ◌==◌, List, [], ◌∷◌, ◌++◌, map, length, set, Bool, true, false, Some, IsSome, All, eqb-true, eq-eqb, get_or, refl, sym, ap, ◌∙◌, subst, zero-add, append_assoc, Vec, Global, arith, slice_get, if◌then◌else◌}
 use Rattle.std.specs.List.{range_with_len}
 use mathlib.Core.Logic.{dite}
 use native.Mathlib.Decide.{ℕ_discrete}

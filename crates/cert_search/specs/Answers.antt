@@ -2,11 +2,10 @@
 use Rattle.std.specs.Prelude.{◌≡◌, ◌≤◌, ℕ, List, length, Option, Some, IfSome, IsSome, Result, Ok, Err, option_map, slice_get}
 use Rattle.std.specs.declared.alloc.Global.{Global}
 use Rattle.refutation.specs.declared.certificate.Certificate.{Certificate}
-use Rattle.refutation.specs.Certificate.{certificate_rule}
-use Rattle.refutation.specs.Rule.{Rule}
+use Rattle.refutation.specs.Common.{certificate_rule, Rule}
 use Rattle.quorum_checker.specs.Refutes.{State, Refutes}
 use Rattle.plan.specs.declared.fault.PlanFault.{PlanFault}
-use Rattle.plan.specs.PlanClaims.{PlacedClaim}
+use Rattle.plan.specs.Common.{PlacedClaim}
 use Rattle.cert_search.specs.Plain.{IsPlain}
 
 -- the rule of a certificate, if there is one

@@ -1,6 +1,6 @@
 -- Which certificates are kept if they are too long together.
 use Rattle.std.specs.Prelude.{◌≡◌, ℕ, ◌+◌, ◌==◌, nat_lt, nat_le, ◌&&◌, ◌||◌, Bool, if◌then◌else◌, List, [], ◌∷◌, length, map, Option, Some, None, slice_get}
-use Rattle.refutation.specs.Rule.{Rule}
+use Rattle.refutation.specs.Common.{Rule}
 use Rattle.cert_search.specs.Lengths.{length_in}
 
 -- whether a certificate of this length at place k comes no later than one of the other length at place i: shorter ones

@@ -2,7 +2,7 @@
 use Rattle.std.specs.Prelude.{ℕ, ◌+◌, ◌-◌, nat_lt, if◌then◌else◌, List, [], ◌∷◌, Option, Some, None}
 use Rattle.refutation.specs.declared.Side.{Side}
 use Rattle.refutation.specs.declared.Side.TheVariants.{Left, Right}
-use Rattle.refutation.specs.Rule.{Rule, Branches, dead, clash, open_all, pick, pair_up, split, no_branch, branch}
+use Rattle.refutation.specs.Common.{Rule, Branches, dead, clash, open_all, pick, pair_up, split, no_branch, branch}
 
 -- the number of digits of a number below 100,000
 abbrev pub digits : ℕ → ℕ

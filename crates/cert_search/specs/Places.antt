@@ -2,7 +2,7 @@
 use Rattle.std.specs.Prelude.{◌≡◌, ℕ, All, List, Vec, length, Option, Some, slice_get}
 use Rattle.std.specs.declared.alloc.Global.{Global}
 use Rattle.refutation.specs.declared.certificate.Certificate.{Certificate}
-use Rattle.plan.specs.PlanClaims.{PlacedClaim}
+use Rattle.plan.specs.Common.{PlacedClaim}
 use Rattle.cert_search.specs.Answers.{rule_in, IsAnswer}
 use Rattle.cert_search.specs.Hands.{HasEnded}
 use Rattle.cert_search.specs.declared.hand.Hand.{Hand}

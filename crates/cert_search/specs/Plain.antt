@@ -1,8 +1,9 @@
 -- Claims that are true because enough members are equal.
 use Rattle.std.specs.Prelude.{ℕ, ◌+◌, ◌==◌, Bool, false, List, [], ◌∷◌, Option, Some, None, map, option_map, slice_index_or}
 use Rattle.std.specs.List.{position_from}
-use Rattle.volume_model.specs.Formula.{Formula, member, at_least}
-use Rattle.refutation.specs.Rule.{Rule, clash, pair_up, branches_of}
+use Rattle.volume_model.specs.Common.{Formula, at_least}
+use Rattle.volume_model.specs.Formula.{member}
+use Rattle.refutation.specs.Common.{Rule, clash, pair_up, branches_of}
 use Rattle.quorum_checker.specs.FirstFault.{children_of}
 use Rattle.quorum_checker.specs.Refutes.{State, Refutes}
 

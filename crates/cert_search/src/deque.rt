@@ -1,5 +1,5 @@
 //! The protocol of a deque of claims.
-ghost use Rattle.std.specs.Prelude.{◌≡◌};
+ghost use Rattle.std.specs.Prelude.{◌≡◌, []};
 
 use crossbeam_deque::protocol::{Join, Lesson, Outcome, Protocol, Split};
 use crossbeam_deque::{Pass, Stealer, Worker};
@@ -36,7 +36,6 @@ pub struct DequeView {
 pub struct Once;
 
 impl Protocol<Task, DequeView> for Once {
-    ghost use Rattle.std.specs.Prelude.{[]};
     ghost use Rattle.cert_search.specs.Deque.{first_view, guest_view, IsDeque};
 
     ghost holds = { IsDeque };

@@ -1,8 +1,7 @@
 //! Collects the answers to claims by their numbers.
 
 ghost use Rattle.std.specs.Prelude.{ℕ, ◌<◌, All, IfOk, IfSome, List, length};
-ghost use Rattle.plan.specs.LentClaims.{all_lent};
-ghost use Rattle.plan.specs.PlanClaims.{PlacedClaim};
+ghost use Rattle.plan.specs.Common.{all_lent, PlacedClaim};
 ghost use Rattle.cert_search.specs.Places.{ArePlaces, IsFound, IsWork};
 
 use crate::working::Found;

@@ -14,7 +14,6 @@ pub struct Hand {
 }
 
 impl Hand {
-    ghost use Rattle.std.specs.Prelude.{◌≡◌, IfSome, IfNone};
     ghost use Rattle.cert_search.specs.Hands.{ComesAfterOwn, IsThrough, SameDeal, TakesClaim};
 
     // Makes the hand of a worker from its own deque and its views of the others.

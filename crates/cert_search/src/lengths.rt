@@ -1,9 +1,7 @@
 //! The length of a certificate's text.
 
-ghost use Rattle.std.specs.Prelude.{◌≡◌, ◌-◌, ◌≤◌, map};
-ghost use Rattle.refutation.specs.Rule.{branches_of};
-ghost use Rattle.refutation.specs.Refutation.{rule_of};
-ghost use Rattle.refutation.specs.Certificate.{certificate_rule};
+ghost use Rattle.std.specs.Prelude.{◌≡◌, ◌-◌, map};
+ghost use Rattle.refutation.specs.Common.{branches_of, rule_of, certificate_rule};
 ghost use Rattle.cert_search.specs.Lengths.{branches_length, digits, head_length, length_of, name_length, numbers_length, pairs_length, rule_length};
 
 use plan::PLAN_BYTES;

@@ -1,10 +1,8 @@
 //! Searches for one claim's certificate.
 
-ghost use Rattle.std.specs.Prelude.{◌≡◌, ◌≤◌, true, IfOk, IfErr, IfSome, IsSome};
+ghost use Rattle.std.specs.Prelude.{◌≡◌, true, IfOk, IfErr, IfSome, IsSome};
 ghost use Rattle.volume_model.specs.declared.fault.Fault.TheVariants.{NoMemory};
-ghost use Rattle.refutation.specs.Certificate.{certificate_rule};
-ghost use Rattle.refutation.specs.Limits.{is_certificate};
-ghost use Rattle.refutation.specs.Refutation.{rule_of};
+ghost use Rattle.refutation.specs.Common.{certificate_rule, is_certificate, rule_of};
 ghost use Rattle.quorum_checker.specs.Claim.{first_state};
 ghost use Rattle.quorum_checker.specs.Refutes.{Refutes};
 ghost use Rattle.cert_search.specs.Answers.{rule_in, IsAnswer};

@@ -1,5 +1,5 @@
 //! A worker's own deque.
-ghost use Rattle.std.specs.Prelude.{◌≡◌, true};
+ghost use Rattle.std.specs.Prelude.{◌≡◌, true, ◌<◌, suc, false, IfOk, MatchOption, All};
 ghost use Rattle.crossbeam_deque.specs.Handles.{worker_flavor, worker_port, worker_view};
 ghost use Rattle.cert_search.specs.Deque.{is_owner};
 
@@ -21,7 +21,6 @@ pub struct Own {
 }
 
 impl Own {
-    ghost use Rattle.std.specs.Prelude.{◌≡◌, ◌<◌, suc, true, false, IfOk, MatchOption, All};
     ghost use Rattle.cert_search.specs.Deque.{first_view, guest_view, dealt_more, both_views, Settles};
     ghost use Rattle.cert_search.specs.NamedViews.{own_named, handle_named, Ends, Gets, SameDeque};
     ghost use Rattle.cert_search.specs.Dealing.{own_plain, own_out, GetsMarks};

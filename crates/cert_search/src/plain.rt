@@ -1,14 +1,9 @@
 //! Finds claims that are true because enough members are equal.
 
 ghost use Rattle.std.specs.Prelude.{◌≡◌, ◌<◌, ◌≤◌, IfOk, IfSome, None, Ok, length, true};
-ghost use Rattle.volume_model.specs.Answer.{Gives};
-ghost use Rattle.quorum_expr.specs.Expr.{formula_of};
-ghost use Rattle.quorum_expr.specs.Forms.{formulas_of};
-ghost use Rattle.quorum_expr.specs.Valid.{expression_fault};
-ghost use Rattle.refutation.specs.Refutation.{rule_of};
-ghost use Rattle.refutation.specs.Forms.{rules_of};
-ghost use Rattle.refutation.specs.Limits.{is_certificate};
-ghost use Rattle.refutation.specs.Rule.{branches_of, pair_up};
+ghost use Rattle.volume_model.specs.Common.{Gives};
+ghost use Rattle.quorum_expr.specs.Common.{formula_of, formulas_of, expression_fault};
+ghost use Rattle.refutation.specs.Common.{rule_of, rules_of, is_certificate, branches_of, pair_up};
 ghost use Rattle.cert_search.specs.Plain.{clashes, equal_pairs, is_member, pair_at, place_of, plain_rule};
 
 use quorum_checker::children;

@@ -2,10 +2,7 @@
 
 ghost use Rattle.std.specs.Prelude.{◌≡◌, ◌≢◌, ◌<◌, ◌≤◌, All, Err, IfOk, IfErr, IsOk, length, map};
 ghost use Rattle.volume_model.specs.declared.fault.Fault.TheVariants.{NoMemory};
-ghost use Rattle.plan.specs.LentClaims.{all_lent};
-ghost use Rattle.plan.specs.Plan.{plan_data};
-ghost use Rattle.plan.specs.PlanClaims.{claims_in};
-ghost use Rattle.plan.specs.FaultKinds.{kind_of};
+ghost use Rattle.plan.specs.Common.{all_lent, plan_data, claims_in, kind_of};
 ghost use Rattle.plan.specs.declared.fault.PlanFault.{PlanFault};
 ghost use Rattle.cert_search.specs.Answers.{rule_in, AreAnswers, AreAnswersOf};
 ghost use Rattle.cert_search.specs.Settled.{AllHad, AreOfOneDeal};

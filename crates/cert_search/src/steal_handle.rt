@@ -1,5 +1,5 @@
 //! A worker's view of another worker's deque.
-ghost use Rattle.std.specs.Prelude.{◌≡◌};
+ghost use Rattle.std.specs.Prelude.{◌≡◌, MatchOption};
 ghost use Rattle.crossbeam_deque.specs.Handles.{IsPassOf, view, stealer_deque, stealer_flavor};
 ghost use Rattle.cert_search.specs.declared.deque.Holder.TheVariants.{Guest};
 
@@ -21,7 +21,6 @@ pub struct StealHandle {
 }
 
 impl StealHandle {
-    ghost use Rattle.std.specs.Prelude.{◌≡◌, MatchOption};
     ghost use Rattle.cert_search.specs.NamedViews.{handle_named, Ends, Gets};
 
     // Steals a claim, or takes an end mark if no claim is left.

@@ -1,5 +1,5 @@
 //! The deques of all workers, before they start.
-ghost use Rattle.std.specs.Prelude.{◌≡◌, ◌<◌, ◌≤◌, length, IfOk};
+ghost use Rattle.std.specs.Prelude.{◌≡◌, ◌<◌, ◌≤◌, length, IfOk, ◌-◌, vec_len};
 ghost use Rattle.cert_search.specs.Dealing.{EachGetsMarks, GetsMarks, IsFilledTo};
 
 use crate::own::Own;
@@ -17,7 +17,6 @@ pub struct Table {
 }
 
 impl Table {
-    ghost use Rattle.std.specs.Prelude.{◌≡◌, ◌<◌, ◌≤◌, ◌-◌, vec_len, IfOk};
     ghost use Rattle.cert_search.specs.Dealing.{AreOut, EachRow, IsFilled, IsRow, LendsOthers, SameDeques};
 
     /// Deals the claims.

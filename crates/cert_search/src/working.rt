@@ -1,7 +1,7 @@
 //! The work of one worker.
 
 ghost use Rattle.std.specs.Prelude.{All, IfOk, IfSome};
-ghost use Rattle.plan.specs.LentClaims.{all_lent, lent_state};
+ghost use Rattle.plan.specs.Common.{all_lent, lent_state};
 ghost use Rattle.cert_search.specs.Answers.{rule_in, IsAnswer};
 ghost use Rattle.cert_search.specs.Places.{IsFound, IsWorked};
 

@@ -2,9 +2,7 @@
 use Rattle.std.proofs.Common.{◌≡◌, ◌∙◌, ap, inl, inr, sym, subst, refl, true, ℕ, List, Some, Result, Ok, Err, IfOk, IfErr, length, vec_len, arith}
 use Rattle.std.proofs.lemmas.List.{length-map}
 use Rattle.volume_model.specs.Plan as model
-use Rattle.plan.specs.CheckedModel.{checked_model}
-use Rattle.plan.specs.Plan.{plan_data}
-use Rattle.plan.specs.PlanData.{PlanData, model_of}
+use Rattle.plan.specs.Common.{checked_model, plan_data, PlanData, model_of}
 use Rattle.plan.specs.declared.checked.CheckedPlan.{CheckedPlan}
 use Rattle.plan.specs.declared.fault.PlanFault.{PlanFault}
 use Rattle.drivers.specs.Script.{ReadsScript}

@@ -1,16 +1,10 @@
 -- What an explanation says of a plan.
 use Rattle.std.proofs.Common.{◌≡◌, ◌∙◌, ap, sym, subst, refl, ℕ, List, [], ◌∷◌, ◌++◌, append_assoc, Bool, true, false, codes, Some, Ok, Err, None}
-use Rattle.plan.specs.CheckedModel.{checked_model}
-use Rattle.plan.specs.FaultKinds.{is_input}
-use Rattle.plan.specs.Plan.{plan_data}
-use Rattle.plan.specs.PlanData.{PlanData}
-use Rattle.plan.specs.PlanFaultText.{plan_fault_text}
-use Rattle.plan.specs.PlanFaults.{plan_fault}
-use Rattle.plan.specs.PlanText.{plan_of}
+use Rattle.plan.specs.Common.{checked_model, is_input, plan_data, PlanData, plan_fault_text, plan_fault, plan_of}
 use Rattle.plan.specs.declared.checked.CheckedPlan.{CheckedPlan}
 use Rattle.plan.specs.declared.configurations.Plan.{Plan}
 use Rattle.plan.specs.declared.fault.PlanFault.{PlanFault}
-use Rattle.volume_model.specs.Plan.{IsCertified}
+use Rattle.volume_model.specs.Common.{IsCertified}
 use Rattle.commands.specs.Answer.{fault_answer, line_answer, printed}
 use Rattle.commands.specs.Answers.PlanAnswers.{faulty, certified}
 use Rattle.commands.specs.Explains.{ExplainsTo, above, below}

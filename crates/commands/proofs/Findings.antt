@@ -1,16 +1,10 @@
 -- What the search answers, and the plan that is written with it.
-use Rattle.std.proofs.Common.{◌≡◌, ◌∙◌, ap, sym, subst, inl, inr, refl, ℕ, suc, ◌<◌, Bool, true, false, List, [], ◌∷◌, Option, Some, None, Ok, is_none, if◌then◌else◌, get_or, length, arith}
-use Rattle.std.specs.Prelude.{slice_get}
+use Rattle.std.proofs.Common.{◌≡◌, ◌∙◌, ap, sym, subst, inl, inr, refl, ℕ, suc, ◌<◌, Bool, true, false, List, [], ◌∷◌, Option, Some, None, Ok, is_none, if◌then◌else◌, get_or, length, arith, slice_get}
 use Rattle.std.proofs.lemmas.Option.{slice_get-get_or, slice_get_within}
 use Rattle.std.specs.List.{list_any}
-use Rattle.refutation.specs.Rule.{Rule}
+use Rattle.refutation.specs.Common.{Rule}
 use Rattle.quorum_checker.specs.Refutes.{Refutes}
-use Rattle.plan.specs.PlanClaims.{PlacedClaim, claims_in}
-use Rattle.plan.specs.PlanData.{PlanData}
-use Rattle.plan.specs.PlanText.{plan_of}
-use Rattle.plan.specs.Shown.{AreShown}
-use Rattle.plan.specs.WithCertificates.{with_certificates}
-use Rattle.plan.specs.Written.{rewritten}
+use Rattle.plan.specs.Common.{PlacedClaim, claims_in, PlanData, plan_of, AreShown, with_certificates, rewritten}
 use Rattle.cert_search.specs.Answers.{AreAnswers}
 use Rattle.cert_search.specs.Kept.{AreKept}
 use Rattle.commands.specs.Searched.{AreFitted}

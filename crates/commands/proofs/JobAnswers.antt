@@ -1,6 +1,5 @@
 -- What follows from the answer of a job.
-use Rattle.std.proofs.Common.{◌≡◌, ◌⊎◌, inl, inr, refl, subst, sym, ℕ, ◌≤◌, List, [], false, Option, Some, None, codes, arith}
-use Rattle.std.specs.Prelude.{◌≢◌}
+use Rattle.std.proofs.Common.{◌≡◌, ◌⊎◌, inl, inr, refl, subst, sym, ℕ, ◌≤◌, List, [], false, Option, Some, None, codes, arith, ◌≢◌}
 use Rattle.commands.specs.Answer.{Answer, IsQuiet, IsSaid, no_memory}
 use Rattle.commands.specs.Answers.{AnswersOf, ChecksTo, File, FleetsTo, PrintsFleetOf, PrintsScript, RunsTo, file_of, script_name}
 use Rattle.commands.specs.Answers.AnswersOf.{unmade}

@@ -1,6 +1,5 @@
 -- JSON with blanks between its tokens.
-use Rattle.std.proofs.Common.{◌≡◌, ◌∙◌, ap, sym, refl, subst, ℕ, ◌+◌, ◌<◌, List, [], ◌∷◌, ◌++◌, Bool, true, false, length, take, get_or, take-suc, add-one, if◌then◌else◌}
-use Rattle.std.proofs.lemmas.List.{append-nil}
+use Rattle.std.proofs.Common.{◌≡◌, ◌∙◌, ap, sym, refl, subst, ℕ, ◌+◌, ◌<◌, List, [], ◌∷◌, ◌++◌, Bool, true, false, length, take, get_or, take-suc, add-one, if◌then◌else◌, append-nil}
 use Rattle.commands.specs.Layout.{is_blank, is_dropped, next_place, place_after, squeezed, squeezed_from}
 use Rattle.commands.specs.declared.layout.Place.{Place}
 use Rattle.commands.specs.declared.layout.Place.TheVariants.{Outside}

@@ -1,6 +1,5 @@
 -- How an answer reaches its places.
-use Rattle.std.proofs.Common.{◌≡◌, ◌⊎◌, inl, inr, refl, ℕ, List, Bool, Option, Result, Ok, Err, OnErr, OnOk}
-use Rattle.std.specs.Prelude.{◌≢◌, ◌++◌, true, IsSome}
+use Rattle.std.proofs.Common.{◌≡◌, ◌⊎◌, inl, inr, refl, ℕ, List, Bool, Option, Result, Ok, Err, OnErr, OnOk, ◌≢◌, ◌++◌, true, IsSome}
 use Rattle.commands.specs.Answer.{Answer, IsSaid, no_memory}
 use Rattle.commands.specs.Places.{EndsIn, IsShown, IsUnsaved, Reaches, SaysUnsaved, Saves}
 use Rattle.commands.specs.Places.IsShown.{same}

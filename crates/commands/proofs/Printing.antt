@@ -1,6 +1,5 @@
 -- A text that grows by lines.
-use Rattle.std.proofs.Common.{◌≡◌, ◌∙◌, ap, sym, ℕ, ◌+◌, ◌<◌, List, [], ◌∷◌, ◌++◌, Option, length, drop, get_or, refl, add-one, drop-cons}
-use Rattle.std.proofs.lemmas.List.{append_assoc, append-nil}
+use Rattle.std.proofs.Common.{◌≡◌, ◌∙◌, ap, sym, ℕ, ◌+◌, ◌<◌, List, [], ◌∷◌, ◌++◌, Option, length, drop, get_or, refl, add-one, drop-cons, append_assoc, append-nil}
 use Rattle.commands.specs.RunText.{AreLinesOf, LineResult, EventResult, counts_line, first_if, rest_if, line_results}
 use Rattle.commands.specs.RunText.AreLinesOf.{none, more}
 use Rattle.commands.specs.RunLines.{AppendsLine}

@@ -1,7 +1,6 @@
 -- Answers with a status below 2, which say nothing to standard error.
 use Rattle.std.proofs.Common.{◌≡◌, ◌∙◌, ap, inl, inr, subst, ℕ, ◌<◌, List, Bool, true, false, Option}
-use Rattle.plan.specs.FaultKinds.{is_input}
-use Rattle.plan.specs.PlanData.{PlanData, model_of}
+use Rattle.plan.specs.Common.{is_input, PlanData, model_of}
 use Rattle.plan_edit.specs.declared.requests.PlanRequest.{PlanRequest}
 use Rattle.commands.specs.Answer.{Answer, IsQuiet, printed}
 use Rattle.commands.specs.Answers.{AnswersOf, BothAnswer, ChecksTo, File, PlanAnswers, ScriptAnswers}

@@ -1,7 +1,6 @@
 -- What an exit status says.
 use Rattle.std.proofs.Common.{◌≡◌, ◌∙◌, ap, inl, inr, subst, sym, ℕ, ◌<◌, List, [], Bool, true, false, Option, Some, None, IfSome, take, arith}
-use Rattle.plan.specs.FaultKinds.{is_input}
-use Rattle.plan.specs.PlanData.{PlanData}
+use Rattle.plan.specs.Common.{is_input, PlanData}
 use Rattle.commands.specs.Answer.{Answer, line_answer}
 use Rattle.commands.specs.Answers.{AnswersOf, ChecksTo, File, PlanAnswers}
 use Rattle.commands.specs.Answers.AnswersOf.{read, unread, unmade}

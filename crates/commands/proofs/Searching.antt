@@ -1,10 +1,9 @@
 -- What a search says of what was found.
-use Rattle.std.proofs.Common.{◌≡◌, ◌∙◌, ap, sym, refl, ℕ, zero, suc, Bool, true, false, List, [], ◌∷◌, Option, Some, None, Result, Ok, Err, option_map, is_none, if◌then◌else◌, map, replicate, arith}
+use Rattle.std.proofs.Common.{◌≡◌, ◌∙◌, ap, sym, refl, ℕ, zero, suc, Bool, true, false, List, [], ◌∷◌, Option, Some, None, Result, Ok, Err, option_map, is_none, if◌then◌else◌, map, replicate, arith, IsOkAnd}
 use mir.Val.{bool_byte}
-use Rattle.std.specs.Prelude.{IsOkAnd}
 use Rattle.std.specs.List.{list_any}
-use Rattle.refutation.specs.Rule.{Rule}
-use Rattle.plan.specs.PlanClaims.{PlacedClaim}
+use Rattle.refutation.specs.Common.{Rule}
+use Rattle.plan.specs.Common.{PlacedClaim}
 use Rattle.cert_search.specs.Answers.{rule_in}
 use Rattle.commands.specs.Searched.{PrintsSearch}
 use Rattle.commands.specs.Unfound.{found_status, unfound_lines}

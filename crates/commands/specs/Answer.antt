@@ -1,8 +1,7 @@
 -- What the program answers.
 use Rattle.std.specs.Prelude.{◌≡◌, ◌⊎◌, ◌<◌, ℕ, List, [], ◌++◌, Bool, true, false, codes}
 use Rattle.std.specs.Fmt.{decimal}
-use Rattle.plan.specs.FaultKinds.{is_input}
-use Rattle.plan.specs.PlanFaultText.{plan_fault_text}
+use Rattle.plan.specs.Common.{is_input, plan_fault_text}
 use Rattle.plan.specs.declared.fault.PlanFault.{PlanFault}
 
 -- an exit status, and what is written to standard output and to standard error

@@ -1,9 +1,8 @@
 -- The answer that belongs to the bytes of a job's files.
 use Rattle.std.specs.Prelude.{◌≡◌, ◌⊎◌, ℕ, List, [], Bool, true, false, Option, Some, map, length, option_map, unwrap_or}
 use Rattle.volume_model.specs.Plan as model
-use Rattle.volume_model.specs.Outcome.{writers_in, finds_in}
-use Rattle.volume_model.specs.World.{opening, results, run}
-use Rattle.plan.specs.PlanData.{PlanData, model_of}
+use Rattle.volume_model.specs.Common.{writers_in, finds_in, opening, results, run}
+use Rattle.plan.specs.Common.{PlanData, model_of}
 use Rattle.plan.specs.declared.fault.PlanFault.{PlanFault}
 use Rattle.world.specs.Events.{events_from}
 use Rattle.world.specs.declared.event.Order.{Order}

@@ -1,7 +1,6 @@
 -- The answers of `draw`.
 use Rattle.std.specs.Prelude.{◌≡◌, ◌≤◌, ℕ, List, Ok, Err}
-use Rattle.plan.specs.PlanData.{PlanData}
-use Rattle.plan.specs.PlanText.{plan_of}
+use Rattle.plan.specs.Common.{PlanData, plan_of}
 use Rattle.plan.specs.declared.fault.PlanFault.{PlanFault}
 use Rattle.commands.specs.Answer.{Answer, fault_answer, printed}
 use Rattle.volume_model.specs.Plan as model

@@ -1,8 +1,7 @@
 -- What is answered where the word behind `explain` is the number of a refusal.
 use Rattle.std.specs.Prelude.{◌≡◌, ◌<◌, ◌^◌, ℕ, List, ◌++◌, true, Option, Some, None, codes}
 use Rattle.std.specs.Fmt.{decimal}
-use Rattle.volume_model.specs.Names.{fault_text}
-use Rattle.volume_model.specs.Numbers.{number_of}
+use Rattle.volume_model.specs.Common.{fault_text, number_of}
 use Rattle.volume_model.specs.declared.fault.Fault.{Fault}
 use Rattle.commands.specs.Answer.{Answer, line_answer, no_memory, printed}
 use Rattle.commands.specs.Answers.{AnswersOf, file_of}

@@ -1,10 +1,8 @@
 -- The printed text of a script's run on threads.
 use Rattle.std.specs.Prelude.{◌≡◌, ℕ, ◌+◌, ◌==◌, ◌&&◌, Bool, true, false, if◌then◌else◌, List, ◌++◌, codes, map}
 use Rattle.std.specs.Fmt.{decimal}
-use Rattle.volume_model.specs.Journal.{Entry, IsRun, events}
-use Rattle.volume_model.specs.Outcome.{Find, Opened, finds_in, writers_in}
-use Rattle.volume_model.specs.Plan.{Plan}
-use Rattle.volume_model.specs.World.{opening, run}
+use Rattle.volume_model.specs.Common.{IsRun, events, Find, Opened, finds_in, writers_in, Plan, opening, run}
+use Rattle.volume_model.specs.Journal.{Entry}
 use Rattle.world.specs.Outcomes.{KeepsPromises, find_of, opened_of}
 use Rattle.drivers.specs.Driven.{replays}
 use Rattle.drivers.specs.declared.driving.Driven.{Driven}

@@ -1,10 +1,7 @@
 -- A program's plan and script, and the texts of their files.
 use Rattle.std.specs.Prelude.{◌≡◌, ℕ, List, false, None, Ok}
-use Rattle.volume_model.specs.Plan.{IsCertified}
-use Rattle.plan.specs.CheckedModel.{checked_model}
-use Rattle.plan.specs.Plan.{plan_data}
-use Rattle.plan.specs.PlanText.{plan_of}
-use Rattle.plan.specs.PlanFaults.{plan_fault}
+use Rattle.volume_model.specs.Common.{IsCertified}
+use Rattle.plan.specs.Common.{checked_model, plan_data, plan_of, plan_fault}
 use Rattle.plan.specs.declared.checked.CheckedPlan.{CheckedPlan}
 use Rattle.drivers.specs.Grammar.{LineAction}
 use Rattle.drivers.specs.Script.{IsScript, Keeps}

@@ -1,7 +1,6 @@
 -- The answer of a replacement of a member.
 use Rattle.std.specs.Prelude.{◌≡◌, ℕ, List, Ok, Err, unwrap_or}
-use Rattle.plan.specs.PlanData.{PlanData}
-use Rattle.plan.specs.PlanText.{plan_of}
+use Rattle.plan.specs.Common.{PlanData, plan_of}
 use Rattle.plan.specs.declared.fault.PlanFault.{PlanFault}
 use Rattle.plan_edit.specs.Edited.{IsReplaced}
 use Rattle.plan_edit.specs.declared.replacement.Replacement.{Replacement}

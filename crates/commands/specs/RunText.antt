@@ -3,13 +3,9 @@ use Rattle.std.specs.Prelude.{◌≡◌, ℕ, ◌+◌, ◌-◌, ◌*◌, Bool, t
 use Rattle.std.specs.Fmt.{decimal}
 use Rattle.std.specs.List.{list_any}
 use Rattle.volume_model.specs.declared.fault.Fault.{Fault}
-use Rattle.volume_model.specs.Names.{fault_text}
-use Rattle.volume_model.specs.Lineage.{last_start}
-use Rattle.volume_model.specs.Outcome.{Opened, Find}
-use Rattle.volume_model.specs.Plan.{Plan}
-use Rattle.volume_model.specs.Redo.{last_lsn}
+use Rattle.volume_model.specs.Common.{fault_text, last_start, Opened, Find, Plan, last_lsn}
 use Rattle.drivers.specs.declared.reading.Step.{Step}
-use Rattle.plan.specs.Sums.{sum_below}
+use Rattle.plan.specs.Common.{sum_below}
 
 -- the result of an event: the number of messages that it made, or its refusal
 abbrev pub EventResult : Type 0

@@ -1,14 +1,8 @@
 -- The printed text of a search.
 use Rattle.std.specs.Prelude.{◌≡◌, ◌⊎◌, ℕ, ◌-◌, ◌<◌, ◌≤◌, List, ◌++◌, length, replicate, Option, None, Result, Ok, Err, codes}
-use Rattle.refutation.specs.Rule.{Rule}
+use Rattle.refutation.specs.Common.{Rule}
 use Rattle.plan.specs.declared.fault.PlanFault.{PlanFault}
-use Rattle.plan.specs.Kept.{KeepsValues}
-use Rattle.plan.specs.PlanData.{PlanData}
-use Rattle.plan.specs.PlanFaults.{plan_fault}
-use Rattle.plan.specs.PlanText.{◌>=>◌, plan_of}
-use Rattle.plan.specs.PlanClaims.{PlacedClaim, claims_in}
-use Rattle.plan.specs.WithCertificates.{with_certificates}
-use Rattle.plan.specs.Written.{IsCompact, rewritten, spelt}
+use Rattle.plan.specs.Common.{KeepsValues, PlanData, plan_fault, ◌>=>◌, plan_of, PlacedClaim, claims_in, with_certificates, IsCompact, rewritten, spelt}
 use Rattle.cert_search.specs.Answers.{AreAnswers}
 use Rattle.cert_search.specs.Kept.{AreKept}
 use Rattle.commands.specs.Answer.{Answer, fault_answer}

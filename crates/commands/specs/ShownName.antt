@@ -1,6 +1,5 @@
 -- A file's name as an explanation prints it.
-use Rattle.std.specs.Prelude.{ℕ, ◌+◌, ◌-◌, ◌/◌, ◌%◌, nat_lt, if◌then◌else◌}
-use Rattle.std.specs.Prelude.{List, ◌++◌, chars, codes, encode_utf8, flat_map}
+use Rattle.std.specs.Prelude.{ℕ, ◌+◌, ◌-◌, ◌/◌, ◌%◌, nat_lt, if◌then◌else◌, List, ◌++◌, chars, codes, encode_utf8, flat_map}
 use Rattle.std.specs.Char.{is_control}
 
 -- the digit of a number's last four bits

@@ -1,8 +1,7 @@
 -- The answer of a job that stops before its own answer.
 use Rattle.std.specs.Prelude.{ℕ, List, ◌++◌, Bool, true, Result, Ok, Err, codes, string_bytes}
 use Rattle.std.specs.Fmt.{decimal}
-use Rattle.plan.specs.FaultKinds.{is_input}
-use Rattle.plan.specs.PlanFaultText.{plan_fault_text}
+use Rattle.plan.specs.Common.{is_input, plan_fault_text}
 use Rattle.volume_model.specs.declared.fault.Fault.TheVariants as faults
 use Rattle.plan.specs.declared.fault.PlanFault.{PlanFault}
 use Rattle.plan.specs.declared.fault.PlanFault.TheVariants.{Text}

@@ -2,9 +2,8 @@
 use Rattle.std.specs.Prelude.{ℕ, List, [], ◌∷◌, ◌++◌, Option, Some, None, codes, if◌then◌else◌, is_none}
 use Rattle.std.specs.Fmt.{decimal}
 use Rattle.std.specs.List.{list_any}
-use Rattle.refutation.specs.Rule.{Rule}
-use Rattle.plan.specs.FaultText.{claim_text}
-use Rattle.plan.specs.PlanClaims.{PlacedClaim}
+use Rattle.refutation.specs.Common.{Rule}
+use Rattle.plan.specs.Common.{claim_text, PlacedClaim}
 
 -- the line of a claim without a certificate
 abbrev pub claim_line : PlacedClaim → List ℕ

@@ -1,10 +1,8 @@
 -- The fault of a plan's text.
 use Rattle.std.specs.Prelude.{◌≡◌, List, ℕ, Option, Some, None, Result, Ok, Err}
-use Rattle.volume_model.specs.Plan.{IsCertified}
+use Rattle.volume_model.specs.Common.{IsCertified}
 use Rattle.plan.specs.declared.fault.PlanFault.{PlanFault}
-use Rattle.plan.specs.PlanData.{PlanData, model_of}
-use Rattle.plan.specs.PlanText.{plan_of}
-use Rattle.plan.specs.PlanFaults.{plan_fault}
+use Rattle.plan.specs.Common.{PlanData, model_of, plan_of, plan_fault}
 
 -- the first fault of what was read as a plan
 abbrev pub first_fault : Result PlanData PlanFault → Option PlanFault

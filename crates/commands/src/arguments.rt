@@ -1,7 +1,6 @@
 //! The arguments and options of subcommands.
 
-ghost use Rattle.commands.specs.CommandLine.{IsArg, configuration_rule, file_rule, flag_rule, group_rule, member_rule};
-ghost use Rattle.commands.specs.CommandLine.{other_file_rule, output_rule, parsed_rule, text_rule, workers_rule};
+ghost use Rattle.commands.specs.CommandLine.{IsArg, configuration_rule, file_rule, flag_rule, group_rule, member_rule, other_file_rule, output_rule, parsed_rule, text_rule, workers_rule};
 
 use clap::builder::ValueParser;
 use clap::{Arg, ArgAction, value_parser};

@@ -1,7 +1,7 @@
 //! The check of a plan: `check`.
 
 ghost use Rattle.std.specs.Prelude.{◌≡◌, IfErr, IfOk};
-ghost use Rattle.plan.specs.CheckedModel.{checked_model};
+ghost use Rattle.plan.specs.Common.{checked_model};
 ghost use Rattle.commands.specs.Answer.{printed};
 ghost use Rattle.commands.specs.Answers.{AnswersOf, ChecksTo, file_of};
 ghost use Rattle.commands.specs.RunText.{plan_line};

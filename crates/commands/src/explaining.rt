@@ -1,9 +1,7 @@
 //! A plan in words or as JSON: `explain`.
 
 ghost use Rattle.std.specs.Prelude.{◌≡◌, Err, IfErr, IfOk, Ok, Some};
-ghost use Rattle.plan.specs.Plan.{plan_data};
-ghost use Rattle.plan.specs.PlanFaults.{plan_fault};
-ghost use Rattle.plan.specs.PlanText.{plan_of};
+ghost use Rattle.plan.specs.Common.{plan_data, plan_fault, plan_of};
 ghost use Rattle.commands.specs.Answer.{Says};
 ghost use Rattle.commands.specs.Answers.{AnswersOf, file_of};
 ghost use Rattle.commands.specs.Explains.{ExplainsTo};

@@ -2,11 +2,8 @@
 
 ghost use Rattle.std.specs.Prelude.{◌≡◌, Err, IfErr, IfOk, None, Ok, Some};
 ghost use Rattle.std.specs.Arc.{arc_value};
-ghost use Rattle.volume_model.specs.Plan.{IsCertified};
-ghost use Rattle.plan.specs.CheckedModel.{checked_model};
-ghost use Rattle.plan.specs.Plan.{plan_data};
-ghost use Rattle.plan.specs.PlanFaults.{plan_fault};
-ghost use Rattle.plan.specs.PlanText.{plan_of};
+ghost use Rattle.volume_model.specs.Common.{IsCertified};
+ghost use Rattle.plan.specs.Common.{checked_model, plan_data, plan_fault, plan_of};
 ghost use Rattle.commands.specs.Answer.{IsSaid, unreadable};
 ghost use Rattle.commands.specs.Answers.{AnswersOf, BothAnswer, IsBadScript, PlanAnswers, file_of, script_name};
 ghost use Rattle.commands.specs.Read.{IsPlanOf, IsRead, IsScriptOf};

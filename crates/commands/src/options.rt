@@ -2,8 +2,7 @@
 
 ghost use Rattle.std.specs.Prelude.{◌≡◌, ◌≤◌, ◌<◌, ◌^◌, ℕ, IfErr, IfNone, IfOk, IfSome, codes, option_map};
 ghost use Rattle.clap.specs.Words.{first_of, found_of, one_of, rows_of};
-ghost use Rattle.commands.specs.Jobs.{AreOptions, IsGiven, IsNoNumber, IsNumberIn, IsNumberOf, IsNumberOr, is_asked};
-ghost use Rattle.commands.specs.Jobs.{AreWords, making_name};
+ghost use Rattle.commands.specs.Jobs.{AreOptions, IsGiven, IsNoNumber, IsNumberIn, IsNumberOf, IsNumberOr, is_asked, AreWords, making_name};
 ghost use Rattle.commands.specs.declared.action.ReplaceOptions.{ReplaceOptions as Options};
 
 use crate::action::{Making, ReplaceOptions};

@@ -1,6 +1,6 @@
 //! Outputs.
 
-ghost use Rattle.std.specs.Prelude.{◌≡◌, ◌⊎◌, ◌<◌, ◌≤◌, true, IfOk, OnErr, OnOk, length, take};
+ghost use Rattle.std.specs.Prelude.{◌≡◌, ◌⊎◌, ◌<◌, ◌≤◌, true, IfOk, OnErr, OnOk, length, take, false};
 ghost use Rattle.std.specs.Io.{WritesAtMost};
 ghost use Rattle.std.specs.Io.KnownBytes.{Appends, WriteAppends};
 ghost use Rattle.commands.specs.Failures.{WasAnswered, WriteFails};
@@ -22,8 +22,6 @@ pub struct Output<W> {
 pub struct WriteFailed;
 
 impl<W> Output<W> {
-    ghost use Rattle.std.specs.Prelude.{false};
-
     /// Makes the output of a writer.
     pub fn new(writer: W) -> Output<W>
         ensures writer { writer_of result ≡ writer }

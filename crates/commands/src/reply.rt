@@ -1,6 +1,6 @@
 //! The answers of the program.
 
-ghost use Rattle.std.specs.Prelude.{◌≤◌};
+ghost use Rattle.std.specs.Prelude.{◌≤◌, ◌≡◌, Some, ◌≢◌};
 
 use drivers::ScriptFault;
 use plan::PlanFault;
@@ -18,7 +18,6 @@ pub struct Reply {
 }
 
 impl Reply {
-    ghost use Rattle.std.specs.Prelude.{◌≡◌};
     ghost use Rattle.commands.specs.Answer.{printed};
     ghost use Rattle.commands.specs.Stops.{said};
 
@@ -54,7 +53,6 @@ pub enum Stop {
 
 /// Writes its line, and above it those of the place.
 impl fmt::Display for Stop {
-    ghost use Rattle.std.specs.Prelude.{Some};
     ghost use Rattle.commands.specs.Stops.{stop_line};
 
     ghost output = { λ stop. Some (stop_line stop) };
@@ -72,7 +70,6 @@ impl fmt::Display for Stop {
 }
 
 impl From<AllocError> for Stop {
-    ghost use Rattle.std.specs.Prelude.{◌≡◌};
     ghost use Rattle.commands.specs.declared.reply.Stop.TheVariants.{NoMemory};
 
     ghost from_gives = { λ _ e. e ≡ NoMemory };
@@ -83,7 +80,6 @@ impl From<AllocError> for Stop {
 }
 
 impl<T: Drop> From<AllocFailed<T>> for Stop {
-    ghost use Rattle.std.specs.Prelude.{◌≡◌};
     ghost use Rattle.commands.specs.declared.reply.Stop.TheVariants.{NoMemory};
 
     ghost from_gives = { λ _ e. e ≡ NoMemory };
@@ -94,7 +90,6 @@ impl<T: Drop> From<AllocFailed<T>> for Stop {
 }
 
 impl Stop {
-    ghost use Rattle.std.specs.Prelude.{◌≡◌, ◌≢◌};
     ghost use Rattle.volume_model.specs.declared.fault.Fault.TheVariants.{NoMemory};
     ghost use Rattle.plan.specs.declared.fault.PlanFault.TheVariants.{Text};
     ghost use Rattle.commands.specs.Stops.{StopsBy, is_input_stop, plan_stop, script_stop};

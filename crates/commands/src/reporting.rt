@@ -1,10 +1,7 @@
 //! A plan as JSON: `explain --json`.
 
 ghost use Rattle.std.specs.Prelude.{◌≡◌, ◌≤◌, Err, IfErr, IfOk, Ok, Some};
-ghost use Rattle.plan.specs.FaultKinds.{is_input};
-ghost use Rattle.plan.specs.Plan.{plan_data};
-ghost use Rattle.plan.specs.PlanFaults.{plan_fault};
-ghost use Rattle.plan.specs.PlanText.{plan_of};
+ghost use Rattle.plan.specs.Common.{is_input, plan_data, plan_fault, plan_of};
 ghost use Rattle.commands.specs.Answer.{Says};
 ghost use Rattle.commands.specs.Reports.{IsReport, ReportsTo, status_of};
 ghost use Rattle.commands.specs.Stops.{StopsBy, answer_of, said};

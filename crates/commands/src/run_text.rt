@@ -3,9 +3,8 @@
 ghost use Rattle.std.specs.Prelude.{◌≡◌, ◌≤◌, ◌++◌, IfOk, OnOk, codes, decimal, is_err, map, string_bytes};
 ghost use Rattle.std.specs.List.{list_any};
 ghost use Rattle.std.specs.Option.{option_copied};
-ghost use Rattle.plan.specs.CheckedModel.{checked_model};
+ghost use Rattle.plan.specs.Common.{checked_model, sum_below};
 ghost use Rattle.world.specs.Outcomes.{find_of, opened_of};
-ghost use Rattle.plan.specs.Sums.{sum_below};
 ghost use Rattle.commands.specs.Answers.{IsText};
 ghost use Rattle.commands.specs.Stops.{said};
 ghost use Rattle.commands.specs.RunText.{PrintsRun, counts_line, each_line, find_line, first_if, next_lsn, plan_line, refused_line, rest_if, status_of, writer_line};

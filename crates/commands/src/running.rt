@@ -2,7 +2,7 @@
 
 ghost use Rattle.std.specs.Prelude.{◌≡◌, ◌≤◌, IfErr, IfOk, vec_len};
 ghost use Rattle.std.specs.Arc.{arc_value};
-ghost use Rattle.plan.specs.CheckedModel.{checked_model};
+ghost use Rattle.plan.specs.Common.{checked_model};
 ghost use Rattle.commands.specs.Answers.{AnswersOf, IsText, PrintsOrders, file_of, script_name};
 ghost use Rattle.commands.specs.Draws.{UsesTo};
 ghost use Rattle.commands.specs.Stops.{answer_of, said};

@@ -2,11 +2,8 @@
 
 ghost use Rattle.std.specs.Prelude.{◌≡◌, ◌<◌, ◌≤◌, ◌++◌, Err, IfErr, IfOk, None, Ok, OnOk, is_none, length, map, option_map, replicate, string_bytes};
 ghost use Rattle.std.specs.List.{list_any};
-ghost use Rattle.refutation.specs.Certificate.{certificate_rule};
-ghost use Rattle.plan.specs.LentClaims.{all_lent, lent_placed};
-ghost use Rattle.plan.specs.Plan.{plan_data};
-ghost use Rattle.plan.specs.PlanClaims.{claims_in};
-ghost use Rattle.plan.specs.Taped.{HasClaims};
+ghost use Rattle.refutation.specs.Common.{certificate_rule};
+ghost use Rattle.plan.specs.Common.{all_lent, lent_placed, plan_data, claims_in, HasClaims};
 ghost use Rattle.cert_search.specs.Answers.{rule_in, AreAnswersOf};
 ghost use Rattle.commands.specs.Answers.{AnswersOf, file_of};
 ghost use Rattle.commands.specs.Searched.{AreFitted, IsLineWith, IsRoom, SearchesTo, PrintsSearch, claims_of};

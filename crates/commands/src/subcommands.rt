@@ -3,11 +3,7 @@
 ghost use Rattle.std.specs.Prelude.{◌≡◌, IfOk, false};
 ghost use Rattle.clap.specs.Words.{app_of, with_subcommand};
 ghost use Rattle.clap.specs.declared.builder.command.Command.TheViews.{out-Command as fields_of};
-ghost use Rattle.commands.specs.CommandLine.{IsLeaf, draw_leaf, file_leaf, fleet_leaf, groups_leaf};
-ghost use Rattle.commands.specs.CommandLine.{json_leaf, new_leaf, places_leaf, program, quorums_leaf};
-ghost use Rattle.commands.specs.CommandLine.{replace_leaf, runs_leaf, script_leaf, search_leaf};
-ghost use Rattle.commands.specs.CommandLine.{simulate_leaf, steps_leaf, tool, with_options};
-ghost use Rattle.commands.specs.CommandLine.{words_leaf, workers_leaf, zones_leaf};
+ghost use Rattle.commands.specs.CommandLine.{IsLeaf, draw_leaf, file_leaf, fleet_leaf, groups_leaf, json_leaf, new_leaf, places_leaf, program, quorums_leaf, replace_leaf, runs_leaf, script_leaf, search_leaf, simulate_leaf, steps_leaf, tool, with_options, words_leaf, workers_leaf, zones_leaf};
 
 use crate::arguments::{
     configuration, file, flag, group, member, number, other_file, output, text, workers,

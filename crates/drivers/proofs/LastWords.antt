@@ -1,8 +1,7 @@
 -- A message's name, the last word of a line.
-use Rattle.std.proofs.Common.{◌≡◌, ◌∙◌, ap, sym, subst, ℕ, ◌&&◌, Bool, true, false, List, [], ◌∷◌, ◌++◌, Option, Some, None, All, get_or, refl, eqb, arith}
+use Rattle.std.proofs.Common.{◌≡◌, ◌∙◌, ap, sym, subst, ℕ, ◌&&◌, Bool, true, false, List, [], ◌∷◌, ◌++◌, Option, Some, None, All, get_or, refl, eqb, arith, eqb-true}
 use Rattle.std.specs.Char.{is_ascii_digit}
 use Rattle.std.specs.List.{join_with_byte, list_all}
-use Rattle.std.proofs.lemmas.Bool.{eqb-true}
 use Rattle.std.proofs.lemmas.List.Elements.{All-append}
 use Rattle.std.proofs.lemmas.List.Folds.{list_all_at}
 use Rattle.std.proofs.lemmas.List.Splits.{join_with_byte-slice_split, slice_split_none}

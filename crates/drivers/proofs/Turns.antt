@@ -1,11 +1,10 @@
 -- Words that are read in turn.
-use Rattle.std.proofs.Common.{◌≡◌, ◌∙◌, ◌&&◌, ap, sym, subst, ℕ, Bool, true, false, if◌then◌else◌, List, [], ◌∷◌, Option, Some, None, Result, Ok, Err, All, eqb, leb, length, refl, option_map}
+use Rattle.std.proofs.Common.{◌≡◌, ◌∙◌, ◌&&◌, ap, sym, subst, ℕ, Bool, true, false, if◌then◌else◌, List, [], ◌∷◌, Option, Some, None, Result, Ok, Err, All, eqb, leb, length, refl, option_map, ne_eqb}
 use Rattle.std.specs.List.{join_with_byte}
 use Rattle.std.specs.Result.{IsErrAnd}
-use Rattle.std.proofs.lemmas.Bool.{ne_eqb}
 use Rattle.std.proofs.lemmas.List.Elements.{All-cons, All-nil}
 use Rattle.std.proofs.lemmas.List.Splits.{join_with_byte-slice_split, slice_split_none}
-use Rattle.volume_model.specs.World.{Event}
+use Rattle.volume_model.specs.Common.{Event}
 use Rattle.volume_model.specs.declared.fault.Fault.{Fault}
 use Rattle.volume_model.specs.declared.fault.Fault.TheVariants.{Malformed, NoMemory}
 use Rattle.drivers.specs.Grammar.{change_by, deliver_in, most_blocks, most_ids, most_numbers, most_offsets, offer_in, read_in}

@@ -1,10 +1,8 @@
 -- The result of a script's run on threads.
 use Rattle.std.specs.Prelude.{◌≡◌, ℕ, Bool, ◌+◌, ◌==◌, ◌&&◌, not, length, List, is_err}
 use Rattle.std.specs.List.{list_any}
-use Rattle.volume_model.specs.Plan.{Plan}
-use Rattle.volume_model.specs.World.{Event}
-use Rattle.volume_model.specs.Journal.{Entry, IsRun, events}
-use Rattle.volume_model.specs.World.{opening, results}
+use Rattle.volume_model.specs.Common.{Plan, Event, IsRun, events, opening, results}
+use Rattle.volume_model.specs.Journal.{Entry}
 use Rattle.world.specs.Outcomes.{KeepsPromises, IsOutcomeOfRun}
 use Rattle.drivers.specs.declared.driving.Driven.{Driven}
 

@@ -1,7 +1,6 @@
 -- The meaning of some lines.
 use Rattle.std.specs.Prelude.{◌≡◌, [], ◌∷◌, ℕ, Some, None, codes}
-use Rattle.volume_model.specs.ClientWriter.{Change}
-use Rattle.volume_model.specs.World.{Event}
+use Rattle.volume_model.specs.Common.{Change, Event}
 use Rattle.drivers.specs.Grammar.{action_of}
 use Rattle.drivers.specs.Grammar.LineAction.{Nothing, Pauses, Makes, Delivers, Takes}
 

@@ -1,8 +1,7 @@
 -- The grammar of a script's lines.
 use Rattle.std.specs.Prelude.{ℕ, ◌==◌, ◌&&◌, nat_le, if◌then◌else◌, Bool, true, List, [], ◌∷◌, Option, Some, None, codes, find, option_and_then, option_map}
 use Rattle.std.specs.Str.{bytes_eq}
-use Rattle.volume_model.specs.ClientWriter.{Change}
-use Rattle.volume_model.specs.World.{Event}
+use Rattle.volume_model.specs.Common.{Change, Event}
 use Rattle.drivers.specs.Words.{words_in, fields_in, sides_in, number_in, bytes_in}
 use Rattle.drivers.specs.declared.line.Verb.{Verb}
 use Rattle.drivers.specs.declared.line.Verb.TheVariants as verb

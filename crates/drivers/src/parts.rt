@@ -1,6 +1,6 @@
 //! Parts of a text between separators, which are taken one by one.
 
-ghost use Rattle.std.specs.Prelude.{◌≡◌, ◌≢◌, ◌==◌, ◌↔◌, ◌∷◌, [], IsTrue, MatchOption, length};
+ghost use Rattle.std.specs.Prelude.{◌≡◌, ◌==◌, ◌↔◌, ◌∷◌, [], IsTrue, MatchOption, length};
 ghost use Rattle.std.specs.List.{slice_split};
 ghost use Rattle.drivers.specs.Parts.{ended, first_number, left_of, parts_left};
 ghost use Rattle.drivers.specs.Reads.{Reads, ReadsBy};

@@ -1,8 +1,7 @@
 //! Reads the bytes of a change from hexadecimal digits.
 
-ghost use Rattle.std.specs.Prelude.{◌≡◌};
-ghost use Rattle.redo_record.specs.Payload.{payload_bytes};
-ghost use Rattle.drivers.specs.Words.{digit_in, byte_in, bytes_in, all_bytes_in};
+ghost use Rattle.redo_record.specs.Common.{payload_bytes};
+ghost use Rattle.drivers.specs.Words.{digit_in, byte_in, bytes_in};
 ghost use Rattle.drivers.specs.Reads.{Reads, ReadsBy};
 
 use redo_record::{MOST_BYTES, Payload};

@@ -1,7 +1,7 @@
 //! A fast path for the most frequent form of changes. Other forms are read word by word.
 
 ghost use Rattle.std.specs.Prelude.{◌≡◌, IfOk, IfSome, Some, take};
-ghost use Rattle.redo_record.specs.Payload.{HasRoom};
+ghost use Rattle.redo_record.specs.Common.{HasRoom};
 ghost use Rattle.writer_core.specs.Changes.{changes_of};
 ghost use Rattle.drivers.specs.Grammar.{changes_in};
 ghost use Rattle.drivers.specs.Plain.{AreBytesAt, IsPlaceAt};

@@ -50,7 +50,6 @@ pub enum ScriptFault {
 }
 
 impl From<AllocError> for ScriptFault {
-    ghost use Rattle.std.specs.Prelude.{◌≡◌};
     ghost use Rattle.drivers.specs.declared.reading.ScriptFault.TheVariants.{NoMemory};
 
     ghost from_gives = { λ _ e. e ≡ NoMemory };

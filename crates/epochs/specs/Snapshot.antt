@@ -1,8 +1,7 @@
 -- The state of an authority that survives a restart.
 use Rattle.std.specs.Prelude.{◌==◌, ◌||◌, nat_lt, length, Result, Ok}
-use Rattle.volume_model.specs.Plan.{Plan}
+use Rattle.volume_model.specs.Common.{Plan, refuse_if}
 use Rattle.volume_model.specs.World as model
-use Rattle.volume_model.specs.Refusal.{refuse_if}
 use Rattle.volume_model.specs.declared.fault.Fault.{Fault}
 use Rattle.volume_model.specs.declared.fault.Fault.TheVariants.{BadField, NoGroup}
 use Rattle.epochs.specs.declared.snapshot.AuthoritySnapshot.{AuthoritySnapshot}

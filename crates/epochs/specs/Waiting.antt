@@ -1,10 +1,7 @@
 -- What the whole members of a group allow after an advance.
 use Rattle.std.specs.Prelude.{ℕ, Bool, Result, Ok}
-use Rattle.volume_model.specs.Plan.{Plan}
-use Rattle.volume_model.specs.Formula.{Members, sat}
-use Rattle.volume_model.specs.Answer.{◌>>=◌}
+use Rattle.volume_model.specs.Common.{Plan, Members, sat, ◌>>=◌, advanced}
 use Rattle.volume_model.specs.World as model
-use Rattle.volume_model.specs.World.{advanced}
 use Rattle.volume_model.specs.declared.fault.Fault.{Fault}
 use Rattle.epochs.specs.declared.authority.waiting.Readiness.{Readiness}
 

@@ -1,5 +1,5 @@
 -- The answers about claims.
-use Rattle.refutation.specs.Rule.{Rule}
+use Rattle.refutation.specs.Common.{Rule}
 use Rattle.quorum_checker.specs.Refutes.{Refutes, State}
 use Rattle.explain.specs.declared.claims.ClaimAnswer.{ClaimAnswer}
 use Rattle.explain.specs.declared.claims.ClaimAnswer.TheVariants.{Certified, Uncertified, Fails, Unknown}

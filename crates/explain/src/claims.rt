@@ -1,7 +1,7 @@
 //! Decides whether a claim holds, and why it fails.
 
 ghost use Rattle.std.specs.Prelude.{IfOk};
-ghost use Rattle.plan.specs.LentClaims.{lent_state};
+ghost use Rattle.plan.specs.Common.{lent_state};
 ghost use Rattle.quorum_checker.specs.Claim.{first_state};
 ghost use Rattle.explain.specs.Answers.{IsClaimAnswer};
 

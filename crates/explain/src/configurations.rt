@@ -2,8 +2,8 @@
 
 ghost use Rattle.std.specs.Prelude.{◌≡◌};
 ghost use Rattle.std.specs.FinSet.{contains, intersection};
-ghost use Rattle.volume_model.specs.Formula.{sat};
-ghost use Rattle.quorum_expr.specs.Expr.{formula_of};
+ghost use Rattle.volume_model.specs.Common.{sat};
+ghost use Rattle.quorum_expr.specs.Common.{formula_of};
 
 use crate::claims::{answer_claim, claim_facts};
 use crate::facts::{ClaimFacts, ConfigurationFacts, Members, StepFacts};

@@ -1,8 +1,7 @@
 //! The refusals in words. docs/FAULTS.md has the same words, which `scripts/faults.py` checks.
 
 ghost use Rattle.std.specs.Prelude.{◌≡◌, ◌++◌, ℕ, IfOk, IfSome, List, codes, string_bytes};
-ghost use Rattle.volume_model.specs.Names.{fault_text};
-ghost use Rattle.volume_model.specs.Numbers.{number_of};
+ghost use Rattle.volume_model.specs.Common.{fault_text, number_of};
 
 use crate::page::Page;
 use std::alloc::{AllocError, Global};

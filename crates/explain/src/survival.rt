@@ -2,7 +2,7 @@
 
 ghost use Rattle.std.specs.Prelude.{◌≡◌, ℕ, IfOk, IfSome};
 ghost use Rattle.std.specs.FinSet.{contains};
-ghost use Rattle.quorum_expr.specs.Expr.{formula_of};
+ghost use Rattle.quorum_expr.specs.Common.{formula_of};
 ghost use Rattle.quorum_checker.specs.Tolerance.{IsLeastLoss, is_stopping};
 
 use crate::facts::{BlockFacts, Members, QuorumFacts};

@@ -1,6 +1,6 @@
 //! Random numbers from a seed.
 
-ghost use Rattle.std.specs.Prelude.{◌<◌, length};
+ghost use Rattle.std.specs.Prelude.{◌<◌};
 
 use rand::RngExt;
 use rand::seq::SliceRandom;

@@ -1,24 +1,18 @@
 -- What complete copies bring.
-use Rattle.std.proofs.Common.{◌≡◌, ℕ, ◌+◌, ◌-◌, ◌<◌, Bool, true, false, ◌&&◌, ◌||◌, if◌then◌else◌, List, [], ◌∷◌, ◌++◌, length, get_or, take, drop, map, nat_eq, refl, sym, ap, ◌∙◌, arith}
+use Rattle.std.proofs.Common.{◌≡◌, ℕ, ◌+◌, ◌-◌, ◌<◌, Bool, true, false, ◌&&◌, ◌||◌, if◌then◌else◌, List, [], ◌∷◌, ◌++◌, length, get_or, take, drop, map, nat_eq, refl, sym, ap, ◌∙◌, arith, Option, Some, None, Result, Ok, Err, IfOk}
 use Rattle.std.proofs.lemmas.Bool.Decides.{nat_tests}
 use Rattle.std.proofs.lemmas.List.{drop_more, take_all, map-append}
-use Rattle.std.specs.Prelude.{Option, Some, None, Result, Ok, Err, IfOk}
 use Rattle.std.proofs.lemmas.List.Sorted.{IsPermutation-map}
 use Rattle.std.specs.FinSet.{FinSet, contains, insert}
 use Rattle.std.specs.List.Sorted.{IsPermutation}
 use Rattle.std.specs.Ordering.{nat_cmp}
 use Rattle.volume_model.specs.Lineage as model
-use Rattle.volume_model.specs.Formula.{Formula, sat}
-use Rattle.volume_model.specs.Lineage.{found_in, last_epoch, newer, newest, newest_with}
-use Rattle.volume_model.specs.Node.{Hydrated, finished}
-use Rattle.volume_model.specs.PieceLaws.{united_copy}
+use Rattle.volume_model.specs.Common.{Formula, sat, last_epoch, newer, newest, newest_with, Hydrated, finished, united_copy, KeptPiece, Copy, is_complete, united, brought, brought_by, contents_in, copied_by, Redo, with_records}
+use Rattle.volume_model.specs.Lineage.{found_in}
 use Rattle.volume_model.proofs.PieceLaws.{pieces_unite}
-use Rattle.volume_model.specs.Pieces.{KeptPiece, Copy, is_complete, united, brought, brought_by, contents_in, copied_by}
-use Rattle.volume_model.specs.Redo.{Redo, with_records}
 use Rattle.volume_model.proofs.Sets.{contains-put}
 use Rattle.redo_record.specs.declared.record_set.RecordSet.{RecordSet}
-use Rattle.redo_record.specs.RecordSet.{records_of}
-use Rattle.redo_record.specs.Union.{all_records}
+use Rattle.redo_record.specs.Common.{records_of, all_records}
 use Rattle.redo_record.proofs.Rows.{all_records-permuted}
 use Rattle.hydration.specs.declared.kept_copy.KeptCopy.{KeptCopy}
 use Rattle.hydration.specs.declared.kept.Kept.{Kept}

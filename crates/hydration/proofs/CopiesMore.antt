@@ -1,12 +1,11 @@
 -- Copies, one after the other.
-use Rattle.std.proofs.Common.{◌≡◌, ℕ, ◌+◌, ◌<◌, Bool, List, ◌∷◌, length, drop, get_or, nat_eq, sym, ap, ap₂, ◌∙◌, arith, drop-cons, add-one}
-use Rattle.std.specs.Prelude.{◌||◌, Result, Ok, Err, IfOk, MatchResult}
+use Rattle.std.proofs.Common.{◌≡◌, ℕ, ◌+◌, ◌<◌, Bool, List, ◌∷◌, length, drop, get_or, nat_eq, sym, ap, ap₂, ◌∙◌, arith, drop-cons, add-one, ◌||◌, Result, Ok, Err, IfOk, MatchResult}
 use Rattle.std.proofs.lemmas.Bool.Decides.{nat_tests}
 use Rattle.std.specs.Ordering.{nat_cmp}
 use Rattle.std.specs.FinSet.{FinSet, contains, insert}
 use Rattle.volume_model.proofs.Sets.{contains-put}
 use Rattle.volume_model.specs.Lineage as model
-use Rattle.volume_model.specs.Node.{senders}
+use Rattle.volume_model.specs.Common.{senders}
 use Rattle.lineage.specs.declared.lineage.Lineage.{Lineage}
 use Rattle.lineage.specs.Lineage.{lineage_of}
 use Rattle.hydration.specs.declared.copied.Copied.{Copied}

@@ -2,9 +2,7 @@
 use Rattle.std.proofs.Common.{◌≡◌, ℕ, ◌<◌, Bool, true, false, not, ◌||◌, nat_lt, nat_le, List, Option, Result, Ok, refl, ap, ◌∙◌, arith}
 use Rattle.std.proofs.lemmas.Bool.{and_parts, ltb-true, true≢false}
 use Rattle.std.proofs.lemmas.Bool.Decides.{nat_tests}
-use Rattle.volume_model.specs.Lineage.{Contents}
-use Rattle.volume_model.specs.Pieces.{Piece, Pieces, Copy, is_piece, is_of_other, is_bad_piece}
-use Rattle.volume_model.specs.Refusal.{refuse_if}
+use Rattle.volume_model.specs.Common.{Contents, Piece, Pieces, Copy, is_piece, is_of_other, is_bad_piece, refuse_if}
 use Rattle.volume_model.specs.declared.fault.Fault.{Fault}
 use Rattle.volume_model.specs.declared.fault.Fault.TheVariants.{BadPiece, NotAddressed}
 use Rattle.wire.specs.declared.message.CopyReport.{CopyReport}

@@ -1,11 +1,9 @@
 -- The place of a copy, and copies with a piece more.
-use Rattle.std.proofs.Common.{◌≡◌, ℕ, zero, suc, ◌+◌, ◌<◌, ◌⊎◌, true, false, ◌==◌, List, [], ◌∷◌, ◌++◌, length, get_or, set, Option, Some, None, refl, sym, ap, subst, ◌∙◌, inl, inr, arith}
-use Rattle.std.specs.Prelude.{option_map}
+use Rattle.std.proofs.Common.{◌≡◌, ℕ, zero, suc, ◌+◌, ◌<◌, ◌⊎◌, true, false, ◌==◌, List, [], ◌∷◌, ◌++◌, length, get_or, set, Option, Some, None, refl, sym, ap, subst, ◌∙◌, inl, inr, arith, option_map}
 use Rattle.std.proofs.lemmas.Bool.{cases_Bool, eqb-true}
 use Rattle.std.proofs.lemmas.List.{length-map}
-use Rattle.volume_model.specs.Lineage.{Contents}
+use Rattle.volume_model.specs.Common.{Contents, Piece, Copy, first_piece, pieces_from, with_series, with_copy}
 use Rattle.volume_model.specs.Pieces as model
-use Rattle.volume_model.specs.Pieces.{Piece, Copy, first_piece, pieces_from, with_series, with_copy}
 use Rattle.hydration.specs.declared.change.Change.{Change}
 use Rattle.hydration.specs.declared.kept_copy.KeptCopy.{KeptCopy}
 use Rattle.hydration.specs.Pieces.{seen_pieces}

@@ -2,9 +2,7 @@
 use Rattle.std.proofs.Common.{inl, inr, ◌≡◌, ◌+◌, ℕ, zero, suc, ◌<◌, ◌≤◌, Bool, true, false, not, ◌&&◌, ◌||◌, ◌==◌, nat_lt, List, [], ◌∷◌, ◌++◌, length, get_or, set, replicate, vec_len, slice_set, refl, sym, ap, ◌∙◌, subst, arith}
 use Rattle.std.proofs.lemmas.Bool.{cases_eq, cases_lt, and_parts, lt-ltb, ltb-true, eq-eqb, ne_eqb}
 use Rattle.std.proofs.lemmas.List.{same_lists, get_or-set_same, get_or-set_other, get_or_append_left, get_or_push, get_or-replicate, length-set, length-append, length-replicate, length-map, map-append}
-use Rattle.volume_model.specs.Lists.{each_below}
-use Rattle.volume_model.specs.Pieces.{Piece, KeptPiece, Pieces, has_piece, is_complete, with_piece}
-use Rattle.volume_model.specs.PieceLaws.{AreOnce}
+use Rattle.volume_model.specs.Common.{each_below, Piece, KeptPiece, Pieces, has_piece, is_complete, with_piece, AreOnce}
 use Rattle.volume_model.proofs.PieceLaws.{pieces_make_up}
 use Rattle.hydration.specs.declared.kept.Kept.{Kept}
 use Rattle.hydration.specs.declared.pieces.Pieces.{Pieces as Held}

@@ -1,10 +1,8 @@
 -- Changes that are made ready.
-use Rattle.std.proofs.Common.{◌≡◌, ℕ, ◌<◌, List, length, get_or, set, Some, Result, Ok, Err, sym, ap, subst, ◌∙◌}
-use Rattle.std.specs.Prelude.{IfOk}
-use Rattle.std.proofs.lemmas.List.{get_or-set_same, length-set}
-use Rattle.volume_model.specs.Pieces.{Copy, with_series}
+use Rattle.std.proofs.Common.{◌≡◌, ℕ, ◌<◌, List, length, get_or, set, Some, Result, Ok, Err, sym, ap, subst, ◌∙◌, IfOk, get_or-set_same, length-set}
+use Rattle.volume_model.specs.Common.{Copy, with_series}
 use Rattle.wire.specs.declared.message.CopyReport.{CopyReport}
-use Rattle.wire.specs.Contents.{contents_of, piece_in}
+use Rattle.wire.specs.Common.{contents_of, piece_in}
 use Rattle.hydration.specs.declared.change.Change.{Change}
 use Rattle.hydration.specs.declared.kept_copy.KeptCopy.{KeptCopy}
 use Rattle.hydration.specs.declared.hydration.Hydration.{Hydration}

@@ -1,7 +1,7 @@
 use Rattle.std.specs.Prelude.{List, map}
 use Rattle.std.specs.Arc.{arc_value}
-use Rattle.volume_model.specs.Node.{From}
-use Rattle.wire.specs.Contents.{contents_of}
+use Rattle.volume_model.specs.Common.{From}
+use Rattle.wire.specs.Common.{contents_of}
 use Rattle.hydration.specs.declared.copied.Copied.{Copied}
 
 -- the report of the model for a copy

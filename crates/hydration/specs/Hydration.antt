@@ -1,11 +1,9 @@
 use Rattle.std.specs.Prelude.{◌≡◌, ℕ, zero, suc, ◌<◌, Bool, ◌==◌, nat_le, if◌then◌else◌, List, [], ◌∷◌, ◌++◌, length, vec_capacity, slice_index_or, Option, Some, None, option_map, Result, Ok}
 use Rattle.volume_model.specs.declared.fault.Fault.{Fault}
 use Rattle.volume_model.specs.declared.fault.Fault.TheVariants.{BadPiece, NotAddressed}
-use Rattle.volume_model.specs.Refusal.{refuse_if}
-use Rattle.volume_model.specs.Node.{Hydrated}
-use Rattle.volume_model.specs.Pieces.{Copy, first_piece, is_bad_piece, pieces_from, with_copy}
+use Rattle.volume_model.specs.Common.{refuse_if, Hydrated, Copy, first_piece, is_bad_piece, pieces_from, with_copy}
 use Rattle.wire.specs.declared.message.CopyReport.{CopyReport}
-use Rattle.wire.specs.Contents.{contents_of, piece_in}
+use Rattle.wire.specs.Common.{contents_of, piece_in}
 use Rattle.hydration.specs.declared.change.Change.{Change}
 use Rattle.hydration.specs.declared.kept_copy.KeptCopy.{KeptCopy}
 use Rattle.hydration.specs.declared.kept_copy.Keeping.{Keeping}

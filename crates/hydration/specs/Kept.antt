@@ -1,9 +1,7 @@
 -- Kept pieces.
 use Rattle.std.specs.Prelude.{ℕ, Bool, true, not, ◌&&◌, ◌==◌, nat_lt, List, [], ◌∷◌, map}
-use Rattle.volume_model.specs.Lists.{any, each_below}
-use Rattle.volume_model.specs.Redo.{Redo}
-use Rattle.volume_model.specs.Pieces.{KeptPiece}
-use Rattle.wire.specs.Contents.{contents_of}
+use Rattle.volume_model.specs.Common.{any, each_below, Redo, KeptPiece}
+use Rattle.wire.specs.Common.{contents_of}
 use Rattle.hydration.specs.declared.kept.Kept.{Kept}
 
 -- the piece of the model for a kept one

@@ -1,7 +1,7 @@
 -- Copies that are kept in pieces.
 use Rattle.std.specs.Prelude.{List, map}
 use Rattle.volume_model.specs.Lineage as model
-use Rattle.volume_model.specs.Pieces.{Copy}
+use Rattle.volume_model.specs.Common.{Copy}
 use Rattle.hydration.specs.declared.kept_copy.KeptCopy.{KeptCopy}
 use Rattle.hydration.specs.declared.kept.Kept.{Kept}
 use Rattle.hydration.specs.Kept.{all_kept}

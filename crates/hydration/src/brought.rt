@@ -2,11 +2,10 @@
 
 ghost use Rattle.std.specs.Prelude.{◌≡◌, map, IfOk};
 ghost use Rattle.std.specs.FinSet as set;
-ghost use Rattle.volume_model.specs.Lineage.{found_in, newest, newest_with};
-ghost use Rattle.volume_model.specs.Pieces.{brought, brought_by, copied_by, united};
-ghost use Rattle.volume_model.specs.PieceLaws.{united_copy};
+ghost use Rattle.volume_model.specs.Common.{newest, newest_with, brought, brought_by, copied_by, united, united_copy};
+ghost use Rattle.volume_model.specs.Lineage.{found_in};
 ghost use Rattle.lineage.specs.Lineage.{lineage_of};
-ghost use Rattle.redo_record.specs.RecordSet.{records_of};
+ghost use Rattle.redo_record.specs.Common.{records_of};
 ghost use Rattle.hydration.specs.KeptCopies.{all_kept_copies, kept_copy_of, contents_kept};
 
 use crate::kept::Kept;

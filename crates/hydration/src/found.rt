@@ -2,10 +2,9 @@
 
 ghost use Rattle.std.specs.Prelude.{◌≡◌, IfOk};
 ghost use Rattle.std.specs.FinSet as set;
-ghost use Rattle.volume_model.specs.Lineage.{newest_with, with_found};
-ghost use Rattle.volume_model.specs.Node.{contents_of, senders};
+ghost use Rattle.volume_model.specs.Common.{newest_with, with_found, contents_of, senders};
 ghost use Rattle.lineage.specs.Lineage.{lineage_of};
-ghost use Rattle.redo_record.specs.RecordSet.{records_of};
+ghost use Rattle.redo_record.specs.Common.{records_of};
 ghost use Rattle.hydration.specs.Copies.{copies_in};
 
 use crate::copied::Copied;

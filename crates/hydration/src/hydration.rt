@@ -2,11 +2,9 @@
 
 ghost use Rattle.std.specs.Prelude.{◌≡◌, ◌<◌, [], false, Err, Ok, Some, None, IfOk, IsSome, OnErr, option_map};
 ghost use Rattle.std.specs.FinSet as set;
-ghost use Rattle.volume_model.specs.Answer.{Answers, Gives};
-ghost use Rattle.volume_model.specs.Node.{finished};
-ghost use Rattle.volume_model.specs.Pieces.{copied_by, pieces_from};
+ghost use Rattle.volume_model.specs.Common.{Answers, Gives, finished, copied_by, pieces_from};
 ghost use Rattle.volume_model.specs.declared.fault.Fault.TheVariants.{NoMemory};
-ghost use Rattle.quorum_expr.specs.Expr.{formula_of};
+ghost use Rattle.quorum_expr.specs.Common.{formula_of};
 ghost use Rattle.hydration.specs.Pieces.{seen_pieces};
 ghost use Rattle.hydration.specs.Hydration.{copies_of, first_kept, is_bad, just, kept_after, kept_at, kept_by, place_of, state_of, CanChangeAt, CanKeep, HasRoom};
 

@@ -1,8 +1,7 @@
 //! Pieces of one series, which are collected until all have come.
 
-ghost use Rattle.std.specs.Prelude.{◌≡◌, true, map, IfOk};
-ghost use Rattle.redo_record.specs.RecordSet.{records_of};
-ghost use Rattle.redo_record.specs.Union.{all_records};
+ghost use Rattle.std.specs.Prelude.{◌≡◌, true, map, IfOk, ◌<◌, Some, false, option_map};
+ghost use Rattle.redo_record.specs.Common.{records_of, all_records};
 ghost use Rattle.hydration.specs.Kept.{all_kept, are_once, marks_of, sets_kept};
 
 use crate::change::Change;
@@ -24,9 +23,8 @@ pub struct Pieces {
 }
 
 impl Pieces {
-    ghost use Rattle.std.specs.Prelude.{◌<◌, Some, false, option_map};
-    ghost use Rattle.volume_model.specs.Pieces.{contents_in, first_piece, has_piece, is_bad_piece, is_complete, united, with_piece, with_series};
-    ghost use Rattle.wire.specs.Contents.{contents_of, piece_in};
+    ghost use Rattle.volume_model.specs.Common.{contents_in, first_piece, has_piece, is_bad_piece, is_complete, united, with_piece, with_series};
+    ghost use Rattle.wire.specs.Common.{contents_of, piece_in};
     ghost use Rattle.hydration.specs.Pieces.{seen_pieces};
     ghost use Rattle.hydration.specs.Changes.{CanChange, changed};
 

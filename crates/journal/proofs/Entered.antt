@@ -1,19 +1,14 @@
 -- Entries of a program, as the model has them, and one more of them.
-use Rattle.std.proofs.Common.{◌≡◌, ℕ, zero, suc, ◌+◌, ◌<◌, ◌≤◌, List, [], ◌∷◌, ◌++◌, length, get_or, map, option_map, Some, refl, sym, ap, ◌∙◌, subst, arith}
-use Rattle.std.specs.Prelude.{slice_get}
+use Rattle.std.proofs.Common.{◌≡◌, ℕ, zero, suc, ◌+◌, ◌<◌, ◌≤◌, List, [], ◌∷◌, ◌++◌, length, get_or, map, option_map, Some, refl, sym, ap, ◌∙◌, subst, arith, slice_get}
 use mathlib.Core.List.{IsPrefix}
-use Rattle.volume_model.specs.Plan.{Plan}
-use Rattle.volume_model.specs.World.{after}
+use Rattle.volume_model.specs.Common.{Plan, after, world_at, before, IsRun, Goes, numbered}
 use Rattle.volume_model.specs.Journal as model
-use Rattle.volume_model.specs.Journal.{world_at, before, IsRun, Goes}
-use Rattle.volume_model.specs.Lists.{numbered}
 use Rattle.volume_model.proofs.ListFacts.{get_there}
 use Rattle.volume_model.proofs.FoundMessages.{made_numbered}
 use Rattle.volume_model.proofs.Worlds.{before_more, runs_push, world_at-push, messages_push}
-use Rattle.wire.specs.Message.{message_of}
+use Rattle.wire.specs.Common.{message_of, listed}
 use Rattle.journal.specs.declared.entry.Entry.{Entry}
 use Rattle.journal.specs.Entries.{entry_of, entries_of}
-use Rattle.wire.specs.Listed.{listed}
 use Rattle.journal.proofs.Maps.{map-append, map-prefix, map-there, map-length}
 
 -- how many there are

@@ -2,12 +2,7 @@
 use Rattle.std.proofs.Common.{◌≡◌, ℕ, ◌+◌, List, [], ◌∷◌, length-append, Some, Result, Ok, Err, refl, sym, ap, ◌∙◌}
 use Rattle.volume_model.specs.declared.fault.Fault.{Fault}
 use Rattle.volume_model.specs.declared.fault.Fault.TheVariants.{AllGrown, EpochsSpent, NoGroup, NotInPlan, Superseded}
-use Rattle.volume_model.specs.Plan.{Plan}
-use Rattle.volume_model.specs.Message.{Message}
-use Rattle.volume_model.specs.World.{Authority, AuthorityStep, World, Event, assigned, advanced, refreshed, grown, groups_joined, of_authority, step, after, after_step}
-use Rattle.volume_model.specs.World.Event.{Assign, Advance, Refresh, Grow}
-use Rattle.volume_model.specs.StepResults.{makes}
-use Rattle.volume_model.specs.Actor.Actor.{TheAuthority}
+use Rattle.volume_model.specs.Common.{Plan, Message, Authority, AuthorityStep, World, Event, assigned, advanced, refreshed, grown, groups_joined, of_authority, step, after, after_step, Assign, Advance, Refresh, Grow, makes, TheAuthority}
 use Rattle.volume_model.proofs.Frames.{frame}
 use Rattle.volume_model.proofs.Groups.{length-slice_set}
 use Rattle.volume_model.proofs.NodeSteps.{refuse_if-ok}

@@ -1,6 +1,5 @@
 -- Lists whose elements are seen as others, one by one, as entries are as those of the model.
-use Rattle.std.proofs.Common.{◌≡◌, ℕ, zero, suc, List, [], ◌∷◌, ◌++◌, length, map, Some, option_map, refl, sym, ap, ◌∙◌}
-use Rattle.std.specs.Prelude.{slice_get}
+use Rattle.std.proofs.Common.{◌≡◌, ℕ, zero, suc, List, [], ◌∷◌, ◌++◌, length, map, Some, option_map, refl, sym, ap, ◌∙◌, slice_get}
 use mathlib.Core.List.{IsPrefix}
 
 module _ {A B : Type 0} (f : A → B) where

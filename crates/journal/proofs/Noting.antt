@@ -1,12 +1,8 @@
 -- What a note adds to a pass.
-use Rattle.std.proofs.Common.{◌≡◌, ℕ, ◌<◌, List, length, map, take, All, get_or, ap, arith}
-use Rattle.std.proofs.lemmas.List.{take_all}
+use Rattle.std.proofs.Common.{◌≡◌, ℕ, ◌<◌, List, length, map, take, All, get_or, ap, arith, take_all}
 use Rattle.volume_model.specs.declared.fault.Fault.{Fault}
-use Rattle.volume_model.specs.World.{Event, groups_joined}
-use Rattle.volume_model.specs.Plan.{Plan}
-use Rattle.volume_model.specs.Actor.{actor_of, is_joined}
-use Rattle.volume_model.specs.Journal.{Entry, world_at}
-use Rattle.volume_model.specs.Judging.{Exact, IsNoted, IsRefused}
+use Rattle.volume_model.specs.Common.{Event, groups_joined, Plan, actor_of, is_joined, world_at, Exact, IsNoted, IsRefused}
+use Rattle.volume_model.specs.Journal.{Entry}
 use Rattle.volume_model.proofs.Judges.{noted_at_last}
 use Rattle.volume_model.proofs.Worlds.{last_at_most}
 use Rattle.volume_model.proofs.ListFacts.{get_within}

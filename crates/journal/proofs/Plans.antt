@@ -3,8 +3,8 @@ use Rattle.std.proofs.Common.{◌≡◌, ◌&&◌, ◌==◌, Bool, true, false, 
 use Rattle.std.proofs.lemmas.Bool.{and_parts, and_from}
 use Rattle.std.proofs.Props.{props}
 use mathlib.Core.HLevel.{Stable-paths→set}
-use Rattle.volume_model.specs.Formula.{Formula, Children, member, at_least, no_child, child}
-use Rattle.volume_model.specs.Plan.{Plan, Configuration}
+use Rattle.volume_model.specs.Common.{Formula, Children, at_least, no_child, child, Plan, Configuration}
+use Rattle.volume_model.specs.Formula.{member}
 use Rattle.volume_model.proofs.ListFacts.{by_test}
 
 -- both are one expression

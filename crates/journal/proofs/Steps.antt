@@ -1,12 +1,8 @@
 -- Steps that stand in a journal, and the last number of each actor.
-use Rattle.std.proofs.Common.{◌≡◌, ℕ, suc, ◌+◌, Bool, true, false, List, [], ◌∷◌, ◌++◌, length, take, None, sym, ap, ◌∙◌, subst, length-append, arith, MatchBool}
-use Rattle.std.specs.Prelude.{if◌then◌else◌}
+use Rattle.std.proofs.Common.{◌≡◌, ℕ, suc, ◌+◌, Bool, true, false, List, [], ◌∷◌, ◌++◌, length, take, None, sym, ap, ◌∙◌, subst, length-append, arith, MatchBool, if◌then◌else◌}
 use mathlib.Core.List.{IsPrefix}
-use Rattle.volume_model.specs.Lists.{numbered}
-use Rattle.volume_model.specs.Plan.{Plan}
-use Rattle.volume_model.specs.World.{after}
-use Rattle.volume_model.specs.Actor.{Actor, actor_of, same_actor}
-use Rattle.volume_model.specs.Journal.{Entry, world_at, last_of, IsRun}
+use Rattle.volume_model.specs.Common.{numbered, Plan, after, Actor, actor_of, same_actor, world_at, last_of, IsRun}
+use Rattle.volume_model.specs.Journal.{Entry}
 use Rattle.volume_model.proofs.Fronts.{prefix_get, prefix_self}
 use Rattle.volume_model.proofs.ListFacts.{get_within}
 use Rattle.volume_model.proofs.Worlds.{take_prefix, take_long, get_last, world_at-push, last_of-push}

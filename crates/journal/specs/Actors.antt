@@ -1,5 +1,5 @@
 -- The actors of the model for a program's actors.
-use Rattle.volume_model.specs.Actor.{Actor}
+use Rattle.volume_model.specs.Common.{Actor}
 use Rattle.journal.specs.declared.actor_name.ActorName.{ActorName}
 use Rattle.journal.specs.declared.actor_name.ActorName.TheVariants as actors
 

@@ -1,12 +1,11 @@
 -- The entries of the model for a program's entries.
 use Rattle.std.specs.Prelude.{List, map}
 use Rattle.volume_model.specs.Journal as model
-use Rattle.volume_model.specs.Judging.{Refusal}
-use Rattle.wire.specs.Message.{messages_of}
+use Rattle.volume_model.specs.Common.{Refusal}
+use Rattle.wire.specs.Common.{messages_of, listed}
 use Rattle.world.specs.Events.{event_of}
 use Rattle.journal.specs.declared.entry.Entry.{Entry}
 use Rattle.journal.specs.declared.entry.Note.{Note}
-use Rattle.wire.specs.Listed.{listed}
 
 -- the entry of the model for an entry
 abbrev pub entry_of : Entry → model.Entry

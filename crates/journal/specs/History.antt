@@ -1,5 +1,5 @@
 -- The rule of the history: each seat has a prefix of the list of its one keeper. The table's word has no meaning.
-use Rattle.std.specs.Prelude.{◌≡◌, ℕ, List, [], ◌∷◌, Bool, true}
+use Rattle.std.specs.Prelude.{◌≡◌, ℕ, List, Bool, true}
 use mathlib.Core.Option.{some}
 use mathlib.Core.List.{IsPrefix}
 use lib.ListN.{get_elem?}

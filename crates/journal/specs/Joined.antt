@@ -1,7 +1,6 @@
 -- The number of groups that have joined.
 use Rattle.std.specs.Prelude.{ℕ, ◌+◌}
-use Rattle.volume_model.specs.World.{Event}
-use Rattle.volume_model.specs.World.Event.{Grow}
+use Rattle.volume_model.specs.Common.{Event, Grow}
 
 -- the number after an event that isn't refused
 abbrev pub joined_after : ℕ → Event → ℕ

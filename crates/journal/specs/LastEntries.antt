@@ -1,6 +1,6 @@
 -- The number of each actor's last entry.
 use Rattle.std.specs.Prelude.{ℕ, nat_lt, if◌then◌else◌, Option, Some, None, slice_get}
-use Rattle.volume_model.specs.Actor.{Actor}
+use Rattle.volume_model.specs.Common.{Actor}
 use Rattle.world.specs.Slots.{members, slot_of}
 use Rattle.journal.specs.declared.last_entries.LastEntries.{LastEntries}
 

@@ -1,12 +1,8 @@
 -- The steps of a pass, and their places in the journal.
 use Rattle.std.specs.Prelude.{◌≡◌, ℕ, suc, ◌+◌, ◌<◌, ◌≤◌, if◌then◌else◌, List, length, take, Some, slice_get}
-use Rattle.volume_model.specs.Plan.{Plan}
-use Rattle.volume_model.specs.Client.{Client, is_open}
-use Rattle.volume_model.specs.ClientPoints.{durable_point}
-use Rattle.volume_model.specs.World.{World, Event}
-use Rattle.volume_model.specs.World.Event.{Take, Open}
-use Rattle.volume_model.specs.Actor.{named_by}
-use Rattle.volume_model.specs.Journal.{Entry, world_at, before}
+use Rattle.volume_model.specs.Common.{Plan, is_open, durable_point, World, Event, Take, Open, named_by, world_at, before}
+use Rattle.volume_model.specs.Client.{Client}
+use Rattle.volume_model.specs.Journal.{Entry}
 
 -- the durable point of a client, 0 before its opening
 abbrev pub durable_of : Client → ℕ

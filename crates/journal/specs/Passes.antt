@@ -2,13 +2,9 @@
 use Rattle.std.specs.Prelude.{◌≡◌, ℕ, ◌+◌, ◌<◌, List, [], ◌∷◌, ◌++◌, length, map, Option, option_map, slice_get, All, IsSome, vec_capacity, vec_len}
 use Rattle.std.specs.declared.sync.ledger.Ledger.{Ghosts as LedgerGhosts}
 use Rattle.volume_model.specs.declared.fault.Fault.{Fault}
-use Rattle.volume_model.specs.Message.{Message}
-use Rattle.volume_model.specs.World.{World, Event}
-use Rattle.volume_model.specs.Actor.{Actor}
+use Rattle.volume_model.specs.Common.{Message, World, Event, Actor, world_at, Refusal}
 use Rattle.volume_model.specs.Journal as model
-use Rattle.volume_model.specs.Journal.{world_at}
-use Rattle.volume_model.specs.Judging.{Refusal}
-use Rattle.wire.specs.Message.{message_of}
+use Rattle.wire.specs.Common.{message_of, listed}
 use Rattle.board.specs.declared.BoardStep.{BoardStep}
 use Rattle.board.specs.Seats as board
 use Rattle.journal.specs.declared.row.Site.{Ghosts as SiteGhosts}
@@ -23,7 +19,6 @@ use Rattle.journal.specs.Actors.{seen_who}
 use Rattle.journal.specs.Entries.{entry_of, entries_of, note_of}
 use Rattle.journal.specs.Fronts.{front_log}
 use Rattle.journal.specs.LastEntries.{last_in}
-use Rattle.wire.specs.Listed.{listed}
 use Rattle.journal.specs.PassSteps.{Made, made}
 use Rattle.journal.specs.Tokens.{shown}
 

@@ -1,7 +1,7 @@
 //! The actor of an event.
 
 ghost use Rattle.std.specs.Prelude.{◌≡◌};
-ghost use Rattle.volume_model.specs.Actor.{actor_of};
+ghost use Rattle.volume_model.specs.Common.{actor_of};
 ghost use Rattle.world.specs.Events.{event_of};
 ghost use Rattle.journal.specs.Actors.{seen_who};
 

@@ -1,6 +1,6 @@
 //! The history of all steps, which exists only in proofs. Its one keeper appends to it; others have prefixes of it.
 
-ghost use Rattle.std.specs.Prelude.{◌≡◌, true, [], length};
+ghost use Rattle.std.specs.Prelude.{◌≡◌, true, [], false, ◌++◌, ◌∷◌, IfOk};
 ghost use Rattle.std.specs.Coded.{Coded-set};
 ghost use Rattle.atomic_table.specs.Seated.{table_id_coded};
 
@@ -24,7 +24,6 @@ pub struct SeatView {
 pub struct PrefixRule;
 
 impl TableRule<(), SeatView, ()> for PrefixRule {
-    ghost use Rattle.std.specs.Prelude.{true, []};
     ghost use Rattle.journal.specs.History.{seat_view, Stands};
 
     ghost holds = { λ _ s. Stands s.views };
@@ -36,7 +35,6 @@ impl TableRule<(), SeatView, ()> for PrefixRule {
 pub struct NewSeat;
 
 impl Split<SeatView> for NewSeat {
-    ghost use Rattle.std.specs.Prelude.{false, []};
     ghost use Rattle.journal.specs.History.{seat_view};
 
     ghost left = { λ v. v };
@@ -48,7 +46,6 @@ impl Split<SeatView> for NewSeat {
 pub struct Borrow;
 
 impl Join<SeatView> for Borrow {
-    ghost use Rattle.std.specs.Prelude.{false, []};
     ghost use Rattle.journal.specs.History.{seat_view};
 
     ghost both = { λ v w. seat_view v.keeps v.log w.log };
@@ -57,7 +54,6 @@ impl Join<SeatView> for Borrow {
 }
 
 impl Split<SeatView> for Borrow {
-    ghost use Rattle.std.specs.Prelude.{false, []};
     ghost use Rattle.journal.specs.History.{seat_view};
 
     ghost left = { λ v. seat_view v.keeps v.log [] };
@@ -85,7 +81,6 @@ pub struct Extend<N: Named> {
 }
 
 impl<N: Named> Play<(), SeatView> for Extend<N> {
-    ghost use Rattle.std.specs.Prelude.{◌≡◌, ◌++◌, ◌∷◌, []};
     ghost use Rattle.journal.specs.History.{seat_view};
 
     ghost then = { λ step before found after. (after.0 ≡ seat_view before.0.keeps (before.0.log ++ N.entry ∷ []) [])
@@ -96,7 +91,6 @@ impl<N: Named> Play<(), SeatView> for Extend<N> {
 pub struct Compare;
 
 impl Play<(), SeatView> for Compare {
-    ghost use Rattle.std.specs.Prelude.{◌≡◌};
     ghost use mathlib.Core.List.{IsPrefix};
 
     ghost then = { λ step before found after. IsPrefix before.0.claim before.0.log × (after.0 ≡ before.0)
@@ -130,7 +124,6 @@ pub struct History<L: Site> {
 }
 
 impl Opened {
-    ghost use Rattle.std.specs.Prelude.{◌++◌, ◌∷◌, IfOk};
     ghost use mathlib.Core.List.{IsPrefix};
     ghost use Rattle.journal.specs.Fronts.{book_of, front_book, front_log, log_of};
 

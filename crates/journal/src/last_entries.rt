@@ -1,7 +1,7 @@
 //! The number of each actor's last entry.
 
-ghost use Rattle.std.specs.Prelude.{◌≡◌, option_copied, IfOk, replicate};
-ghost use Rattle.world.specs.Slots.{slot_of};
+ghost use Rattle.std.specs.Prelude.{◌≡◌, IfOk, replicate, ℕ, ◌<◌, ◌≤◌, IsSome, MatchBool, Some};
+ghost use Rattle.world.specs.Slots.{slot_of, members};
 
 use crate::actor_name::ActorName;
 use std::alloc::{AllocError, Global};
@@ -37,10 +37,8 @@ fn place(group: u8, member: u8) -> usize
 }
 
 impl LastEntries {
-    ghost use Rattle.std.specs.Prelude.{ℕ, ◌≡◌, ◌<◌, ◌≤◌, IfOk, IsSome, MatchBool, Some};
-    ghost use Rattle.volume_model.specs.Actor.{Actor, same_actor};
+    ghost use Rattle.volume_model.specs.Common.{Actor, same_actor};
     ghost use Rattle.volume_model.specs.Actor.Actor.{Client, Node};
-    ghost use Rattle.world.specs.Slots.{members};
     ghost use Rattle.journal.specs.Actors.{seen_who};
     ghost use Rattle.journal.specs.LastEntries.{last_in, last_known};
 

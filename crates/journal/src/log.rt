@@ -1,11 +1,9 @@
 //! The journal, behind its lock.
 
-ghost use Rattle.std.specs.Prelude.{◌≡◌, ◌+◌, ◌<◌, ◌≤◌, ℕ, length, map, Some, vec_capacity, vec_len};
+ghost use Rattle.std.specs.Prelude.{◌≡◌, ◌+◌, ◌<◌, ◌≤◌, ℕ, length, map, Some, vec_capacity, vec_len, ◌++◌, [], ◌∷◌, ◌^◌, slice_get, None, All, IsSome, IfSome, IfNone, IfOk, MatchBool, take};
 ghost use Rattle.std.proofs.Props.{props};
-ghost use Rattle.volume_model.specs.Actor.{Actor};
-ghost use Rattle.volume_model.specs.World.{groups_joined};
-ghost use Rattle.volume_model.specs.Journal.{world_at, last_of, IsRun};
-ghost use Rattle.world.specs.Events.{event_of};
+ghost use Rattle.volume_model.specs.Common.{Actor, groups_joined, world_at, last_of, IsRun, numbered, after, opening, step, actor_of, Agree, makes, before, events, Exact, IsNoted, IsRefused};
+ghost use Rattle.world.specs.Events.{event_of, events_of};
 ghost use Rattle.journal.specs.Joined.{joined_after};
 ghost use Rattle.journal.specs.Entries.{entries_of};
 ghost use Rattle.journal.specs.Fronts.{front_book, front_log, log_of};
@@ -110,24 +108,15 @@ fn probe(low: usize, high: usize, step: usize, ahead: bool) -> usize
 }
 
 impl<'a, L: Site> Log<'a, L> {
-    ghost use Rattle.std.specs.Prelude.{◌++◌, [], ◌∷◌, ◌^◌, slice_get, None, All, IsSome, IfSome, IfNone, IfOk, MatchBool, take};
-    ghost use Rattle.volume_model.specs.Lists.{numbered};
-    ghost use Rattle.volume_model.specs.World.{after, opening, step};
-    ghost use Rattle.volume_model.specs.Actor.{actor_of, Agree};
     ghost use Rattle.volume_model.specs.Actor.Actor.{Client, Node};
-    ghost use Rattle.volume_model.specs.StepResults.{makes};
-    ghost use Rattle.volume_model.specs.Journal.{before, events};
-    ghost use Rattle.volume_model.specs.Judging.{Exact, IsNoted, IsRefused};
-    ghost use Rattle.wire.specs.Message.{messages_of};
-    ghost use Rattle.world.specs.Events.{events_of};
+    ghost use Rattle.wire.specs.Common.{messages_of, listed};
     ghost use Rattle.world.specs.Slots.{members};
     ghost use Rattle.board.specs.Seats as board;
     ghost use Rattle.board.specs.Seats.{IsSeatIn};
     ghost use Rattle.journal.specs.Actors.{seen_who};
     ghost use Rattle.journal.specs.Entries.{entry_of};
-    ghost use Rattle.wire.specs.Listed.{listed};
     ghost use Rattle.journal.specs.PassSteps.{durable_in, made, IsElse, NamesEarlier, Stands};
-    ghost use Rattle.journal.specs.Passes.{journal_of, kept_in, message_ref_message, message_ref_number, message_ref_cell, cursor_number, marked, notes_of, seat_of, seen_at, steps_of, world_of, AddsRefusal, AddsStep, HasNoteRoom, HasPlace, HasStepRoom, SeesAll};
+    ghost use Rattle.journal.specs.Passes.{journal_of, kept_in, message_ref_message, message_ref_number, cursor_number, marked, notes_of, seat_of, seen_at, steps_of, world_of, AddsRefusal, AddsStep, HasNoteRoom, HasPlace, HasStepRoom, SeesAll};
 
     /// Makes an empty journal over a row of cells, for `slots` client slots and the nodes of `groups` groups, of which
     /// `born` exist at birth.

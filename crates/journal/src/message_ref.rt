@@ -5,7 +5,7 @@ ghost use Rattle.std.proofs.Props.{props};
 ghost use Rattle.std.specs.Coded.{Coded-set};
 ghost use Rattle.atomic_table.specs.Seated.{table_id_coded};
 ghost use Rattle.journal.specs.Fronts.{front_book, front_log};
-ghost use Rattle.wire.specs.Listed.{listed};
+ghost use Rattle.wire.specs.Common.{listed, message_of};
 
 use crate::entry::Entry;
 use crate::history::LogPrefix;
@@ -29,8 +29,6 @@ pub struct MessageRef<'a, L: Site> {
 }
 
 impl<'a, L: Site> MessageRef<'a, L> {
-    ghost use Rattle.std.specs.Prelude.{◌≡◌, Some};
-    ghost use Rattle.wire.specs.Message.{message_of};
     ghost use Rattle.journal.specs.Passes.{message_ref_message, message_ref_number};
 
     /// Returns the message's number. Messages are numbered from 1 in the order in which they were made.

@@ -1,12 +1,12 @@
 //! Passes: what one caller did.
 
-ghost use Rattle.std.specs.Prelude.{◌≡◌, ◌<◌, ◌≤◌, ℕ, length, All, vec_len, []};
+ghost use Rattle.std.specs.Prelude.{◌≡◌, ◌<◌, ◌≤◌, ℕ, length, All, vec_len, [], ◌++◌, ◌∷◌, IfOk};
 ghost use Rattle.std.proofs.Props.{props};
 ghost use Rattle.atomic_table.specs.Seated.{table_id_coded};
 ghost use Rattle.std.specs.Coded.{Coded-set};
 ghost use Rattle.journal.specs.Fronts.{front_book, front_log, log_of};
-ghost use Rattle.board.specs.Seats.{seat_table};
-ghost use Rattle.volume_model.specs.Judging.{IsRefused};
+ghost use Rattle.board.specs.Seats.{seat_table, board_table, IsSeatIn};
+ghost use Rattle.volume_model.specs.Common.{IsRefused};
 ghost use Rattle.journal.specs.Entries.{entry_of, entries_of, note_of};
 ghost use Rattle.journal.specs.PassSteps.{made, Stands};
 
@@ -50,11 +50,9 @@ pub struct Pass<'a, L: Site> {
 }
 
 impl<'a, L: Site> Pass<'a, L> {
-    ghost use Rattle.std.specs.Prelude.{◌++◌, ◌∷◌, ℕ, IfOk};
     ghost use Rattle.world.specs.Events.{event_of};
     ghost use Rattle.board.specs.Board.{number_of, IsKept};
     ghost use Rattle.board.specs.Seats as board;
-    ghost use Rattle.board.specs.Seats.{board_table, IsSeatIn};
     ghost use Rattle.journal.specs.Passes.{steps_of, notes_of, seat_of, HasNoteRoom, HasStepRoom};
 
     /// Makes a pass without steps, over an empty journal.

@@ -9,7 +9,7 @@ use std::sync::ledger::Ledger;
 pub trait Site: Ledger {
     ghost use Rattle.std.specs.Prelude.{ℕ, List};
     ghost use Rattle.atomic_table.specs.Seated.{TableId};
-    ghost use Rattle.volume_model.specs.Plan.{Plan};
+    ghost use Rattle.volume_model.specs.Common.{Plan};
 
     // The plan of the volume.
     ghost plan: { Plan };

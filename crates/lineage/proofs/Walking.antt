@@ -1,10 +1,9 @@
 -- The entries from a place on decide which records are live.
-use Rattle.std.proofs.Common.{◌≡◌, ℕ, ◌<◌, Bool, true, [], ◌∷◌, sym, ap, ◌∙◌, ◌^◌, arith, inl, inr, min, Option, Some, subst, if◌then◌else◌}
-use Rattle.std.specs.Prelude.{◌&&◌, nat_lt, nat_le}
+use Rattle.std.proofs.Common.{◌≡◌, ℕ, ◌<◌, Bool, true, [], ◌∷◌, sym, ap, ◌∙◌, ◌^◌, arith, inl, inr, min, Option, Some, subst, if◌then◌else◌, ◌&&◌, nat_lt, nat_le}
 use Rattle.std.proofs.Math.Nat.{min-le_left, min-le_right, le-min}
 use Rattle.std.proofs.lemmas.Bool.{and_parts, ltb-true, le-leb, lt-leb, eq-eqb, ne_eqb, cases_lt}
 use Rattle.volume_model.specs.Lineage as model
-use Rattle.volume_model.specs.Lineage.{Lineage, is_live, last_epoch}
+use Rattle.volume_model.specs.Common.{Lineage, is_live, last_epoch}
 use Rattle.lineage.specs.declared.entry.Entry.{Entry}
 use Rattle.lineage.specs.Entries.{entries_from, entry_of, is_lineage}
 use Rattle.lineage.specs.Walk.{Decides}

@@ -1,5 +1,5 @@
 use Rattle.std.specs.Prelude.{ℕ, List, map}
-use Rattle.volume_model.specs.Lineage.{last_epoch}
+use Rattle.volume_model.specs.Common.{last_epoch}
 use Rattle.lineage.specs.declared.lineage.Lineage.{Lineage}
 use Rattle.lineage.specs.Lineage.{lineage_of}
 

@@ -1,6 +1,6 @@
 use Rattle.std.specs.Prelude.{◌≡◌, ℕ, ◌<◌, ◌≤◌, ◌^◌, true, ◌&&◌, nat_le}
 use Rattle.volume_model.specs.Lineage as model
-use Rattle.volume_model.specs.Lineage.{is_live, last_epoch}
+use Rattle.volume_model.specs.Common.{is_live, last_epoch}
 use Rattle.lineage.specs.declared.live.Walk.{Walk}
 use Rattle.lineage.specs.Entries.{entries_from, entries_left, is_lineage}
 

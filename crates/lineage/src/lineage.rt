@@ -1,6 +1,6 @@
 //! The recoveries that a volume went through.
 
-ghost use Rattle.std.specs.Prelude.{◌≡◌, true};
+ghost use Rattle.std.specs.Prelude.{◌≡◌, true, ◌<◌, ◌≤◌, [], ◌∷◌, not, Ok, IfOk};
 ghost use Rattle.lineage.specs.Entries.{entries_with, is_lineage};
 
 use crate::entry::Entry;
@@ -22,11 +22,8 @@ pub struct Lineage {
 }
 
 impl Lineage {
-    ghost use Rattle.std.specs.Prelude.{◌<◌, ◌≤◌, [], ◌∷◌, not, Ok, IfOk};
-    ghost use Rattle.volume_model.specs.Refusal.{refuse_if};
+    ghost use Rattle.volume_model.specs.Common.{refuse_if, AnswersNew, birth, extension, is_live, last_cut, last_epoch, last_start, newer};
     ghost use Rattle.volume_model.specs.declared.fault.Fault.TheVariants.{BadField};
-    ghost use Rattle.volume_model.specs.Answer.{AnswersNew};
-    ghost use Rattle.volume_model.specs.Lineage.{birth, extension, is_live, last_cut, last_epoch, last_start, newer};
     ghost use Rattle.lineage.specs.Entries.{entries_from, entries_left, entries_of, entry_of, kept_before};
     ghost use Rattle.lineage.specs.Lineage.{lineage_of};
     ghost use Rattle.lineage.specs.Walk.{Walks};

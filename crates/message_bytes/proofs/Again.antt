@@ -3,10 +3,9 @@ use Rattle.std.proofs.Common.{◌≡◌, ℕ, suc, ◌+◌, ◌^◌, ◌<◌, tr
 use Rattle.std.specs.Int.{w32, w64, to_be_bytes}
 use Rattle.std.proofs.lemmas.Bool.{and_parts, le-ltb}
 use Rattle.std.proofs.lemmas.List.{take_at, drop-drop, drop_at, append-nil, length-append, get_or_append_left, get_or_at}
-use Rattle.volume_model.specs.Redo.{Redo, spelling, numbers_before}
-use Rattle.volume_model.specs.Lineage.{Entry, Lineage, Contents}
-use Rattle.redo_record.specs.Order.{IsInOrder}
-use Rattle.redo_record.specs.Spelling.{spelled, decoded}
+use Rattle.volume_model.specs.Common.{Redo, spelling, numbers_before, Lineage, Contents}
+use Rattle.volume_model.specs.Lineage.{Entry}
+use Rattle.redo_record.specs.Common.{IsInOrder, spelled, decoded}
 use Rattle.redo_record.proofs.Again.{length-spelled}
 use Rattle.lineage.specs.Entries.{is_lineage}
 use Rattle.message_bytes.specs.Contents.{redo_at, entry_at, entries_at, is_next, records_at, lineage_at, set_at, contents_at}

@@ -1,17 +1,11 @@
 -- The fields of each kind are read back as what they were written from.
-use Rattle.std.proofs.Common.{◌≡◌, ℕ, suc, ◌+◌, ◌^◌, ◌<◌, ◌≤◌, false, ◌==◌, List, [], ◌∷◌, ◌++◌, length, map, get_or, take, Ok, refl, sym, ap, ap₂, subst, ◌∙◌, append_assoc, arith}
+use Rattle.std.proofs.Common.{◌≡◌, ℕ, suc, ◌+◌, ◌^◌, ◌<◌, ◌≤◌, false, ◌==◌, List, [], ◌∷◌, ◌++◌, length, map, get_or, take, Ok, refl, sym, ap, ap₂, subst, ◌∙◌, append_assoc, arith, ne_eqb}
 use Rattle.std.specs.Int.{w16, w32, w64, to_be_bytes}
-use Rattle.std.proofs.lemmas.Bool.{ne_eqb}
 use Rattle.std.proofs.lemmas.List.{append-nil, map_more}
-use Rattle.volume_model.specs.Answer.{◌>>=◌}
-use Rattle.volume_model.specs.Redo.{Redo}
-use Rattle.volume_model.specs.Lineage.{Contents}
-use Rattle.volume_model.specs.Pieces.{Piece}
-use Rattle.volume_model.specs.Message.{Label, Place, Message}
-use Rattle.volume_model.specs.Message.Message.{View, StepTo, Fence, Report, Install, Write, Gossip, Ack, CopyAsk, CopyReport, PageAsk, Page}
-use Rattle.redo_record.specs.Spelling.{spelled, decoded}
+use Rattle.volume_model.specs.Common.{◌>>=◌, Redo, Contents, Piece, Label, Place, Message, View, StepTo, Fence, Report, Install, Write, Gossip, Ack, CopyAsk, CopyReport, PageAsk, Page}
+use Rattle.redo_record.specs.Common.{spelled, decoded}
 use Rattle.wire.specs.declared.label.Place.{Place as WirePlace}
-use Rattle.wire.specs.Message.{place_of}
+use Rattle.wire.specs.Common.{place_of}
 use Rattle.message_bytes.specs.Numbers.{number_at}
 use Rattle.message_bytes.specs.Contents.{Read, redo_at, contents_at}
 use Rattle.message_bytes.specs.Reading.{label_at, labelled_at, place_at, places_at, volume_at, view_at, step_at, fence_at, report_at, install_at, write_at, gossip_at, ack_at, copy_ask_at, copy_report_at, page_ask_at, page_at, body_at, version_at, message_in}

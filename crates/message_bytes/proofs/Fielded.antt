@@ -1,12 +1,9 @@
 -- The fields of each kind are spelled by the bytes that they were read from.
-use Rattle.std.proofs.Common.{◌≡◌, ℕ, ◌+◌, ◌^◌, List, [], ◌∷◌, ◌++◌, ◌==◌, length, Result, Ok, sym, ap, ap₂, subst, ◌∙◌, append_assoc, arith, refl}
+use Rattle.std.proofs.Common.{◌≡◌, ℕ, ◌+◌, ◌^◌, List, [], ◌∷◌, ◌++◌, ◌==◌, length, Result, Ok, sym, ap, ap₂, subst, ◌∙◌, append_assoc, arith, refl, append-nil, length-append}
 use Rattle.std.specs.Int.{w16, w32, w64, to_be_bytes}
-use Rattle.std.proofs.lemmas.List.{append-nil, length-append}
 use Rattle.volume_model.specs.declared.fault.Fault.{Fault}
 use Rattle.volume_model.specs.declared.fault.Fault.TheVariants.{BadField}
-use Rattle.volume_model.specs.Answer.{◌>>=◌}
-use Rattle.volume_model.specs.Message.{Label, Place, Message}
-use Rattle.volume_model.specs.Message.Message.{View, StepTo, Fence, Report, Install, Write, Gossip, Ack, CopyAsk, CopyReport, PageAsk, Page}
+use Rattle.volume_model.specs.Common.{◌>>=◌, Label, Place, Message, View, StepTo, Fence, Report, Install, Write, Gossip, Ack, CopyAsk, CopyReport, PageAsk, Page}
 use Rattle.message_bytes.specs.Numbers.{byte_at, number_at, image_at}
 use Rattle.message_bytes.specs.Contents.{redo_at, contents_at}
 use Rattle.message_bytes.specs.Reading.{label_at, labelled_at, place_at, places_at, volume_at, view_at, step_at, fence_at, report_at, install_at, write_at, gossip_at, ack_at, copy_ask_at, copy_report_at, page_ask_at, page_at}

@@ -1,8 +1,6 @@
 -- Text that was written to a buffer.
-use Rattle.std.proofs.Common.{◌≡◌, ◌++◌, ℕ, List, Result, Ok, Err, length, drop, take, sym, ap, ap₂, ◌∙◌}
-use Rattle.std.specs.Prelude.{OnOk}
-use Rattle.std.proofs.lemmas.List.{take-append-drop}
-use Rattle.volume_model.specs.Message.{Message}
+use Rattle.std.proofs.Common.{◌≡◌, ◌++◌, ℕ, List, Result, Ok, Err, length, drop, take, sym, ap, ap₂, ◌∙◌, OnOk, take-append-drop}
+use Rattle.volume_model.specs.Common.{Message}
 use Rattle.message_bytes.specs.Reading.{message_in}
 use Rattle.message_bytes.specs.Spelling.{message_spelled, IsReadBack}
 use Rattle.message_bytes.proofs.Back.{message_again}

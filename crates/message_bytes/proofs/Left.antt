@@ -1,6 +1,6 @@
 -- Records that a cursor still has to read.
 use Rattle.std.proofs.Common.{◌≡◌, ℕ, zero, suc, ◌+◌, ◌<◌, ◌∙◌, List, [], ◌∷◌, ◌++◌, length, take, drop, ap, arith}
-use Rattle.volume_model.specs.Redo.{Redo}
+use Rattle.volume_model.specs.Common.{Redo}
 
 no-more : (r : Redo) (rest : List Redo) → (0 ≡ length (r ∷ rest)) → ⊥
 no-more r rest e = omega (arith, e)

@@ -1,7 +1,7 @@
 -- Reading lists, as loops do.
 use Rattle.std.proofs.Common.{◌≡◌, ℕ, suc, ◌-◌, ◌+◌, ◌≤◌, ◌<◌, List, [], ◌∷◌, ◌++◌, Result, Ok, refl, sym, ap, ◌∙◌, arith}
 use Rattle.volume_model.specs.declared.fault.Fault.{Fault}
-use Rattle.volume_model.specs.Answer.{Fails, ◌>>=◌}
+use Rattle.volume_model.specs.Common.{Fails, ◌>>=◌}
 use Rattle.message_bytes.specs.Contents.{Read, redo_at, entry_at, with_entry, entries_at, with_next, records_at}
 use Rattle.message_bytes.specs.Reading.{place_at, places_at}
 use Rattle.message_bytes.proofs.Handed.{Fails-at}

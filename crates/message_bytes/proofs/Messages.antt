@@ -3,8 +3,7 @@ use Rattle.std.proofs.Common.{◌≡◌, ℕ, Bool, true, false, not, nat_lt, �
 use Rattle.std.proofs.lemmas.Bool.{eqb-true, ltb-false, not-false}
 use Rattle.std.proofs.lemmas.List.{append-nil, nil_from_length}
 use Rattle.volume_model.specs.declared.fault.Fault.TheVariants.{BadField, Trailing}
-use Rattle.volume_model.specs.Answer.{◌>>=◌}
-use Rattle.volume_model.specs.Message.{Message}
+use Rattle.volume_model.specs.Common.{◌>>=◌, Message}
 use Rattle.message_bytes.specs.Numbers.{byte_at}
 use Rattle.message_bytes.specs.Contents.{Read}
 use Rattle.message_bytes.specs.Reading.{view_at, step_at, fence_at, report_at, install_at, write_at, gossip_at, ack_at, copy_ask_at, copy_report_at, page_ask_at, page_at, body_at, version_at, ended, message_in}

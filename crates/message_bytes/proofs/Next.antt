@@ -1,6 +1,6 @@
 -- A record that comes after the last of others.
 use Rattle.std.proofs.Common.{◌≡◌, ℕ, zero, suc, ◌-◌, ◌<◌, List, [], ◌∷◌, length, get_or, refl, arith}
-use Rattle.volume_model.specs.Redo.{Redo, spelling, numbers_before}
+use Rattle.volume_model.specs.Common.{Redo, spelling, numbers_before}
 use Rattle.message_bytes.specs.Contents.{is_next}
 
 pub next-at : (records : List Redo) (n : ℕ) (r d : Redo) → length records ≡ suc n → is_next records r ≡ numbers_before (spelling (get_or records n d)) (spelling r)

@@ -1,12 +1,9 @@
 -- The canonical bytes of each message and of its parts.
 use Rattle.std.specs.Prelude.{◌≡◌, ◌<◌, ◌+◌, ◌^◌, ℕ, List, [], ◌∷◌, ◌++◌, length, Ok}
 use Rattle.std.specs.Int.{w16, w32, w64, to_be_bytes}
-use Rattle.volume_model.specs.Redo.{Redo}
-use Rattle.volume_model.specs.Lineage.{Entry, Lineage, Contents}
-use Rattle.volume_model.specs.Message.{Label, Place, Message}
-use Rattle.volume_model.specs.Message.Message.{View, StepTo, Fence, Report, Install, Write, Gossip, Ack, CopyAsk, CopyReport, PageAsk, Page}
-use Rattle.volume_model.specs.Pieces.{Piece}
-use Rattle.redo_record.specs.Spelling.{spelled, decoded}
+use Rattle.volume_model.specs.Common.{Redo, Lineage, Contents, Label, Place, Message, View, StepTo, Fence, Report, Install, Write, Gossip, Ack, CopyAsk, CopyReport, PageAsk, Page, Piece}
+use Rattle.volume_model.specs.Lineage.{Entry}
+use Rattle.redo_record.specs.Common.{spelled, decoded}
 use Rattle.message_bytes.specs.Reading.{body_at}
 
 abbrev pub label_spelled : Label → List ℕ

@@ -1,8 +1,7 @@
 //! Encodes the fields of the kinds of messages that have lists.
 
-ghost use Rattle.std.specs.Prelude.{◌≡◌, ◌<◌, ◌^◌, ◌++◌, length, map, OnOk};
-ghost use Rattle.wire.specs.Message.{label_of, place_of, message_of};
-ghost use Rattle.wire.specs.Contents.{piece_in};
+ghost use Rattle.std.specs.Prelude.{◌≡◌, ◌<◌, ◌^◌, ◌++◌, map, OnOk};
+ghost use Rattle.wire.specs.Common.{label_of, place_of, message_of, piece_in};
 ghost use Rattle.message_bytes.specs.Spelling.{labelled_spelled, place_spelled, places_spelled, piece_spelled, body_spelled, ArePlaces, IsReadBack};
 
 use crate::writing::{count_of, put_contents, put_u16, put_u32, put_u64};

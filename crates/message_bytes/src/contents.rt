@@ -1,13 +1,12 @@
 //! Decodes lineages and sets of records.
 
-ghost use Rattle.std.specs.Prelude.{◌≡◌, [], ◌∷◌, ◌++◌, IsTrue, IfErr};
-ghost use Rattle.volume_model.specs.Answer.{Gives};
-ghost use Rattle.redo_record.specs.Order.{IsInOrder};
-ghost use Rattle.redo_record.specs.SharedRecord.{shared_redo};
+ghost use Rattle.std.specs.Prelude.{◌≡◌, [], ◌∷◌, ◌++◌, IsTrue};
+ghost use Rattle.volume_model.specs.Common.{Gives};
+ghost use Rattle.redo_record.specs.Common.{IsInOrder, shared_redo};
 ghost use Rattle.redo_record.specs.RecordSet as sets;
 ghost use Rattle.lineage.specs.Entries.{entry_of};
 ghost use Rattle.lineage.specs.Lineage.{lineage_of};
-ghost use Rattle.wire.specs.Contents.{contents_of};
+ghost use Rattle.wire.specs.Common.{contents_of};
 ghost use Rattle.message_bytes.specs.Contents.{redo_at, entry_at, with_entry, entries_at, is_next, with_next, records_at, lineage_at, set_at, contents_at};
 
 use crate::numbers::{u32_at, u64_at};

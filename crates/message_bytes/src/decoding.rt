@@ -1,8 +1,8 @@
 //! Decodes a message.
 
 ghost use Rattle.std.specs.Prelude.{◌≡◌, IfOk};
-ghost use Rattle.volume_model.specs.Answer.{Gives};
-ghost use Rattle.wire.specs.Message.{message_of};
+ghost use Rattle.volume_model.specs.Common.{Gives};
+ghost use Rattle.wire.specs.Common.{message_of};
 ghost use Rattle.message_bytes.specs.Reading.{version_at, body_at, message_in};
 ghost use Rattle.message_bytes.specs.Spelling.{message_spelled};
 

@@ -1,7 +1,7 @@
 //! Encodes a message.
 
 ghost use Rattle.std.specs.Prelude.{◌≡◌, [], ◌∷◌, Ok, IfOk, OnErr, OnOk};
-ghost use Rattle.wire.specs.Message.{message_of};
+ghost use Rattle.wire.specs.Common.{message_of};
 ghost use Rattle.message_bytes.specs.Filling.{Fills};
 ghost use Rattle.message_bytes.specs.Reading.{message_in};
 ghost use Rattle.message_bytes.specs.Spelling.{fixed_size, message_spelled, IsReadBack};

@@ -1,9 +1,8 @@
 //! Writes the messages without lists to a slice.
 
 ghost use Rattle.std.specs.Prelude.{◌≡◌, ◌<◌, ◌≤◌, ◌^◌, ◌+◌, [], ◌∷◌, ◌++◌, length, take};
-ghost use Rattle.redo_record.specs.SharedRecord.{shared_redo};
-ghost use Rattle.redo_record.specs.Spelling.{spelled};
-ghost use Rattle.wire.specs.Message.{label_of, message_of};
+ghost use Rattle.redo_record.specs.Common.{shared_redo, spelled};
+ghost use Rattle.wire.specs.Common.{label_of, message_of};
 ghost use Rattle.message_bytes.specs.Spelling.{fixed_size, labelled_spelled, message_spelled, IsReadBack};
 
 use crate::decoding::VERSION;

@@ -1,8 +1,7 @@
 //! Decodes numbers and bytes from the front of a slice.
 
-ghost use Rattle.std.specs.Prelude.{◌≡◌};
 ghost use Rattle.std.specs.Int.{w16, w32, w64};
-ghost use Rattle.volume_model.specs.Answer.{Gives};
+ghost use Rattle.volume_model.specs.Common.{Gives};
 ghost use Rattle.message_bytes.specs.Numbers.{byte_at, number_at, image_at};
 
 use volume_model::Fault;

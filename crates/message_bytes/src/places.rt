@@ -1,8 +1,8 @@
 //! Decodes labels, places and lists of places.
 
-ghost use Rattle.std.specs.Prelude.{◌≡◌, [], ◌∷◌, ◌++◌, map};
-ghost use Rattle.volume_model.specs.Answer.{Gives};
-ghost use Rattle.wire.specs.Message.{label_of, place_of};
+ghost use Rattle.std.specs.Prelude.{[], map};
+ghost use Rattle.volume_model.specs.Common.{Gives};
+ghost use Rattle.wire.specs.Common.{label_of, place_of};
 ghost use Rattle.message_bytes.specs.Reading.{label_at, labelled_at, place_at, places_at};
 
 use crate::numbers::{u8_at, u32_at};

@@ -1,8 +1,8 @@
 //! Decodes the fields of each kind of message.
 
-ghost use Rattle.std.specs.Prelude.{◌≡◌, ◌≤◌, IfOk};
-ghost use Rattle.volume_model.specs.Answer.{Gives};
-ghost use Rattle.wire.specs.Message.{message_of};
+ghost use Rattle.std.specs.Prelude.{◌≤◌, IfOk};
+ghost use Rattle.volume_model.specs.Common.{Gives};
+ghost use Rattle.wire.specs.Common.{message_of};
 ghost use Rattle.message_bytes.specs.Reading.{volume_at, view_at, step_at, fence_at, report_at, install_at, write_at, gossip_at, ack_at, copy_ask_at, copy_report_at, page_ask_at, page_at};
 
 use crate::contents::{packet_of, read_contents};

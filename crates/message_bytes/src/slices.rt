@@ -3,9 +3,8 @@
 
 ghost use Rattle.std.specs.Prelude.{◌≡◌, ◌<◌, ◌≤◌, ◌^◌, ◌+◌, [], ◌∷◌, ◌++◌, length, take, Ok};
 ghost use Rattle.std.specs.Int.{w32, w64, to_be_bytes};
-ghost use Rattle.redo_record.specs.SharedRecord.{shared_redo};
-ghost use Rattle.redo_record.specs.Spelling.{spelled, decoded};
-ghost use Rattle.wire.specs.Message.{label_of, place_of};
+ghost use Rattle.redo_record.specs.Common.{shared_redo, spelled, decoded};
+ghost use Rattle.wire.specs.Common.{label_of, place_of};
 ghost use Rattle.message_bytes.specs.Spelling.{labelled_spelled, place_spelled};
 
 use crate::writing::put_at;

@@ -1,14 +1,11 @@
 //! Appends encoded numbers, lineages and sets of records to a buffer.
 
-ghost use Rattle.std.specs.Prelude.{◌≡◌, ◌<◌, ◌≤◌, ◌^◌, ◌+◌, ◌++◌, List, ℕ, drop, length, map, take, Ok, IfOk, OnOk};
+ghost use Rattle.std.specs.Prelude.{◌≡◌, ◌<◌, ◌≤◌, ◌^◌, ◌+◌, ◌++◌, List, ℕ, drop, length, take, Ok, IfOk, OnOk};
 ghost use Rattle.std.specs.Int.{w16, w32, w64, to_be_bytes};
-ghost use Rattle.redo_record.specs.Record.{redo_of};
-ghost use Rattle.redo_record.specs.SharedRecord.{shared_redo};
-ghost use Rattle.redo_record.specs.Spelling.{spelled, decoded};
+ghost use Rattle.redo_record.specs.Common.{redo_of, shared_redo, spelled, decoded, left_of};
 ghost use Rattle.lineage.specs.Entries.{entry_of, entries_of};
-ghost use Rattle.wire.specs.Contents.{contents_of};
+ghost use Rattle.wire.specs.Common.{contents_of};
 ghost use Rattle.redo_record.specs.RecordSet as sets;
-ghost use Rattle.redo_record.specs.Records.{left_of};
 ghost use Rattle.lineage.specs.Lineage.{lineage_of};
 ghost use Rattle.message_bytes.specs.Contents.{contents_at, lineage_at, set_at};
 ghost use Rattle.message_bytes.specs.Spelling.{entry_spelled, entries_spelled, lineage_spelled, records_spelled, set_spelled, contents_head, contents_spelled, IsEntry, AreEntries, AreReadBack};

@@ -1,19 +1,12 @@
 -- The step of a client, in the world.
-use Rattle.std.proofs.Common.{◌≡◌, ℕ, Bool, eq-eqb, List, Option, Some, Result, Ok, Err, MatchResult, IfOk}
-use Rattle.std.proofs.Common.{OnErr, OnOk, refl, sym, ap, ◌∙◌, subst}
-use Rattle.std.specs.Prelude.{if◌then◌else◌}
+use Rattle.std.proofs.Common.{◌≡◌, ℕ, Bool, eq-eqb, List, Option, Some, Result, Ok, Err, MatchResult, IfOk, OnErr, OnOk, refl, sym, ap, ◌∙◌, subst, if◌then◌else◌}
 use Rattle.volume_model.specs.declared.fault.Fault.{Fault}
-use Rattle.volume_model.specs.StepResults.{makes, refusal}
-use Rattle.volume_model.specs.Lists.{put}
-use Rattle.volume_model.specs.Plan.{Plan}
+use Rattle.volume_model.specs.Common.{makes, refusal, put, Plan, ClientAnswer, World, Event, Step, after, after_step, of_client, step, take, Actor, actor_of, Agree, world_at}
 use Rattle.volume_model.specs.Message as model
-use Rattle.volume_model.specs.Client.{Client, ClientAnswer}
-use Rattle.volume_model.specs.World.{World, Event, Step, after, after_step, of_client, step, take}
-use Rattle.volume_model.specs.Actor.{Actor, actor_of, Agree}
-use Rattle.volume_model.specs.Journal.{Entry, world_at}
+use Rattle.volume_model.specs.Client.{Client}
+use Rattle.volume_model.specs.Journal.{Entry}
 use Rattle.wire.specs.declared.messages.Messages.{Messages}
-use Rattle.wire.specs.Listed.{listed}
-use Rattle.wire.specs.Message.{messages_of}
+use Rattle.wire.specs.Common.{listed, messages_of}
 use Rattle.writer_core.specs.Writers.{answered}
 use Rattle.world.specs.declared.actions.ClientAction.{ClientAction}
 use Rattle.world.specs.declared.actions.ClientAction.TheVariants as action

@@ -2,8 +2,7 @@
 use Rattle.std.proofs.Common.{◌≡◌, List, Result, Err, refl, ap, ◌∙◌, subst}
 use Rattle.volume_model.specs.declared.fault.Fault.{Fault}
 use Rattle.volume_model.specs.declared.fault.Fault.TheVariants.{NoMessage}
-use Rattle.volume_model.specs.World.{Event}
-use Rattle.volume_model.specs.Judging.{Refusal}
+use Rattle.volume_model.specs.Common.{Event, Refusal}
 use Rattle.journal.specs.declared.entry.Receipt.{Receipt}
 use Rattle.journal.specs.PassSteps.{Made}
 use Rattle.node_fleet.specs.declared.halt.Halt.{Halt}

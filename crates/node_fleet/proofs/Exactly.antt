@@ -2,12 +2,8 @@
 use Rattle.std.proofs.Common.{◌≡◌, ℕ, ◌<◌, Bool, true, false, List, length, Result, Ok, Err, MatchBool, IfErr, refl, ap, ◌∙◌}
 use Rattle.volume_model.specs.declared.fault.Fault.{Fault}
 use Rattle.volume_model.specs.declared.fault.Fault.TheVariants.{NoMemory, NoMessage, NoSlot, JournalFull}
-use Rattle.volume_model.specs.Answer.{refusal_of}
-use Rattle.volume_model.specs.StepResults.{refusal}
-use Rattle.volume_model.specs.Plan.{Plan}
-use Rattle.volume_model.specs.World.{Event, step}
-use Rattle.volume_model.specs.Journal.{Entry, world_at}
-use Rattle.volume_model.specs.Judging.{Exact}
+use Rattle.volume_model.specs.Common.{refusal_of, refusal, Plan, Event, step, world_at, Exact}
+use Rattle.volume_model.specs.Journal.{Entry}
 use Rattle.node_fleet.specs.Attempts.{Judged}
 
 -- what is not refused

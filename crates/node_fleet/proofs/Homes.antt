@@ -1,10 +1,7 @@
 -- Something stands in the slot of each node that a plan names, and in no other.
-use Rattle.std.proofs.Common.{◌≡◌, ℕ, zero, suc, ◌*◌, ◌/◌, ◌%◌, ◌<◌, ◌≤◌, Bool, true, false, ◌&&◌, nat_lt, List, [], ◌∷◌, ◌++◌, Option, Some, None, is_some, length, refl, sym, ap, subst, arith}
-use Rattle.std.specs.Prelude.{slice_get}
-use Rattle.std.proofs.lemmas.Bool.{le-ltb}
+use Rattle.std.proofs.Common.{◌≡◌, ℕ, zero, suc, ◌*◌, ◌/◌, ◌%◌, ◌<◌, ◌≤◌, Bool, true, false, ◌&&◌, nat_lt, List, [], ◌∷◌, ◌++◌, Option, Some, None, is_some, length, refl, sym, ap, subst, arith, slice_get, le-ltb}
 use Rattle.std.proofs.lemmas.Bool.Decides.{nat_tests}
-use Rattle.volume_model.specs.Lists.{some_below}
-use Rattle.volume_model.specs.Plan.{Plan, has_member, is_named}
+use Rattle.volume_model.specs.Common.{some_below, Plan, has_member, is_named}
 use Rattle.world.specs.Slots.{slot_of, in_slot}
 use Rattle.world.proofs.OneNode.{in_place}
 use Rattle.world.proofs.Steps.{LowFor}

@@ -2,11 +2,8 @@
 use Rattle.std.proofs.Common.{◌≡◌, ℕ, Bool, Option, Some, None, Result, Ok, Err, IfOk, IfErr, OnErr, ap, subst}
 use Rattle.volume_model.specs.declared.fault.Fault.{Fault}
 use Rattle.volume_model.specs.declared.fault.Fault.TheVariants.{NoMemory, NoMessage, NoSlot, JournalFull}
-use Rattle.volume_model.specs.Answer.{refusal_of, AnswersAfterGrowth}
-use Rattle.volume_model.specs.Plan.{Plan}
-use Rattle.volume_model.specs.Message.{Message}
+use Rattle.volume_model.specs.Common.{refusal_of, AnswersAfterGrowth, Plan, Message, Refuses, IsOwnOfClient}
 use Rattle.volume_model.specs.Client.{Client}
-use Rattle.volume_model.specs.StepResults.{Refuses, IsOwnOfClient}
 use Rattle.volume_model.proofs.Own.{issued_own, taken_own, cut_own, opened_own, resent_own, page_asked_own}
 use Rattle.recovery.specs.Recoveries.{admitted}
 use Rattle.writer_core.specs.Changes.{changes_of}

@@ -1,12 +1,7 @@
 -- A node that the plan doesn't name refuses each event.
 use Rattle.std.proofs.Common.{◌≡◌, ℕ, Bool, true, false, not, ◌&&◌, nat_lt, refl, ap, ◌∙◌}
 use Rattle.volume_model.specs.declared.fault.Fault.TheVariants.{NoActor}
-use Rattle.volume_model.specs.Node.{NodeAnswer}
-use Rattle.volume_model.specs.Plan.{Plan, is_named}
-use Rattle.volume_model.specs.Refusal.{refuse_if}
-use Rattle.volume_model.specs.StepResults.{refusal}
-use Rattle.volume_model.specs.World.{World, Event, groups_joined, if_there, of_node, step}
-use Rattle.volume_model.specs.World.Event.{Deliver, Hydrate, Restart, Offer}
+use Rattle.volume_model.specs.Common.{NodeAnswer, Plan, is_named, refuse_if, refusal, World, Event, groups_joined, if_there, of_node, step, Deliver, Hydrate, Restart, Offer}
 use Rattle.node_fleet.specs.Calls.{IsOfNone}
 
 and-false : (b : Bool) → (b && false) ≡ false

@@ -1,20 +1,10 @@
 -- The step of a node, in the world.
-use Rattle.std.proofs.Common.{◌≡◌, ◌≢◌, ℕ, ◌<◌, ◌≤◌, not, ◌&&◌, nat_lt, Bool, true, List, length, Option, Some, option_map, Result, Ok, Err, refl, sym, ap, ap₂, ◌∙◌, subst, arith}
-use Rattle.std.proofs.lemmas.Bool.{le-ltb, lt-ltb}
-use Rattle.std.specs.Prelude.{slice_get}
+use Rattle.std.proofs.Common.{◌≡◌, ◌≢◌, ℕ, ◌<◌, ◌≤◌, not, ◌&&◌, nat_lt, Bool, true, List, length, Option, Some, option_map, Result, Ok, Err, refl, sym, ap, ap₂, ◌∙◌, subst, arith, le-ltb, lt-ltb, slice_get}
 use Rattle.volume_model.specs.declared.fault.Fault.{Fault}
 use Rattle.volume_model.specs.declared.fault.Fault.TheVariants.{JournalFull, NoActor, NoMemory, NoMessage, NoSlot}
-use Rattle.volume_model.specs.Actor.{Actor, Agree, actor_of}
-use Rattle.volume_model.specs.Answer.{AnswersAfterGrowth, Fails}
-use Rattle.volume_model.specs.Judging.{Exact}
-use Rattle.volume_model.specs.Journal.{Entry, world_at}
-use Rattle.volume_model.specs.Lists.{numbered}
-use Rattle.volume_model.specs.Message.{Message}
-use Rattle.volume_model.specs.Node.{Node, NodeAnswer, NodeStep}
-use Rattle.volume_model.specs.Plan.{Plan, is_named}
-use Rattle.volume_model.specs.Refusal.{refuse_if}
-use Rattle.volume_model.specs.StepResults.{makes, refusal, IsOwn, Refuses}
-use Rattle.volume_model.specs.World.{Event, Step, World, after, after_step, deliver, groups_joined, if_there, of_node, step}
+use Rattle.volume_model.specs.Common.{Actor, Agree, actor_of, AnswersAfterGrowth, Fails, Exact, world_at, numbered, Message, NodeAnswer, NodeStep, Plan, is_named, refuse_if, makes, refusal, IsOwn, Refuses, Event, Step, World, after, after_step, deliver, groups_joined, if_there, of_node, step}
+use Rattle.volume_model.specs.Journal.{Entry}
+use Rattle.volume_model.specs.Node.{Node}
 use Rattle.volume_model.proofs.Frames.{put_at_here}
 use Rattle.volume_model.proofs.ListFacts.{get_there}
 use Rattle.volume_model.proofs.Own.{hydrated_own, offered_own, reaction_own}
@@ -25,7 +15,7 @@ use Rattle.segment_core.specs.Actions.{acted, action_after_growth}
 use Rattle.segment_core.specs.Prepared.{step_of}
 use Rattle.segment_core.specs.Segment.{action_of, node_of, IsSameActor, IsSegmentOf}
 use Rattle.wire.specs.declared.message.Message as wire
-use Rattle.wire.specs.Message.{message_of}
+use Rattle.wire.specs.Common.{message_of}
 use Rattle.world.specs.Actions.{node_event}
 use Rattle.world.proofs.ActorSteps.{node_step}
 

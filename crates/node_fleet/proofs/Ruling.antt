@@ -1,14 +1,10 @@
 -- The step of the authority, in the world.
 use Rattle.std.proofs.Common.{◌≡◌, ℕ, List, Result, Ok, Err, MatchResult, IfOk, OnErr, refl, sym, ap, ◌∙◌, subst}
 use Rattle.volume_model.specs.declared.fault.Fault.{Fault}
-use Rattle.volume_model.specs.StepResults.{refusal}
-use Rattle.volume_model.specs.Plan.{Plan}
-use Rattle.volume_model.specs.World.{Authority, AuthorityStep, Event, Step, World, after, after_step, of_authority, step}
-use Rattle.volume_model.specs.Actor.{Actor, Agree}
-use Rattle.volume_model.specs.Journal.{Entry, world_at}
+use Rattle.volume_model.specs.Common.{refusal, Plan, Authority, AuthorityStep, Event, Step, World, after, after_step, of_authority, step, Actor, Agree, world_at}
+use Rattle.volume_model.specs.Journal.{Entry}
 use Rattle.wire.specs.declared.messages.Messages.{Messages}
-use Rattle.wire.specs.Listed.{listed}
-use Rattle.wire.specs.Message.{messages_of}
+use Rattle.wire.specs.Common.{listed, messages_of}
 use Rattle.world.specs.declared.actions.AuthorityAction.{AuthorityAction}
 use Rattle.world.specs.declared.actions.AuthorityAction.TheVariants as action
 use Rattle.world.specs.Actions.{authority_acted, authority_event}

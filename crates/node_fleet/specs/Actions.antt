@@ -1,9 +1,7 @@
 -- Actions that need slots or messages, or move durable points.
 use Rattle.std.specs.Prelude.{◌≡◌, ◌≢◌, ℕ, List, Option, IsSome}
-use Rattle.volume_model.specs.Lists.{numbered}
-use Rattle.volume_model.specs.Message.{Message}
+use Rattle.volume_model.specs.Common.{numbered, Message, Authority, Event}
 use Rattle.volume_model.specs.Client.{Client}
-use Rattle.volume_model.specs.World.{Authority, Event}
 use Rattle.world.specs.declared.actions.AuthorityAction.{AuthorityAction}
 use Rattle.world.specs.declared.actions.AuthorityAction.TheVariants.{Assign}
 use Rattle.world.specs.declared.actions.ClientAction.{ClientAction}

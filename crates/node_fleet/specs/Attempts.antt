@@ -2,9 +2,7 @@
 use Rattle.std.specs.Prelude.{◌≡◌, Bool, true, List, Result, Ok, Err}
 use Rattle.volume_model.specs.declared.fault.Fault.{Fault}
 use Rattle.volume_model.specs.declared.fault.Fault.TheVariants.{NoMemory, NoMessage, NoSlot, JournalFull}
-use Rattle.volume_model.specs.Answer.{refusal_of}
-use Rattle.volume_model.specs.Message.{Message}
-use Rattle.volume_model.specs.World.{Authority, AuthorityStep}
+use Rattle.volume_model.specs.Common.{refusal_of, Message, Authority, AuthorityStep}
 
 -- The refusal is the defined one. NoSlot says that the slots are used up, JournalFull that no cell is left, both only
 -- if the definition refuses nothing. NoMemory says nothing.

@@ -1,6 +1,6 @@
 -- The authority's actor as seen by contracts.
 use Rattle.std.specs.declared.sync.ledger.Ledger.{Ghosts as LedgerGhosts}
-use Rattle.volume_model.specs.World.{Authority}
+use Rattle.volume_model.specs.Common.{Authority}
 use Rattle.epochs.specs.Authority.{authority_of}
 use Rattle.journal.specs.declared.row.Site.{Ghosts as SiteGhosts}
 use Rattle.node_fleet.specs.declared.authority.AuthorityActor.{AuthorityActor}

@@ -1,6 +1,6 @@
 -- The base of a fleet as seen by contracts.
 use Rattle.std.specs.Prelude.{◌≡◌, ℕ, List, Option, All, vec_len}
-use Rattle.volume_model.specs.Plan.{Plan}
+use Rattle.volume_model.specs.Common.{Plan}
 use Rattle.atomic_table.specs.Seated.{TableId}
 use Rattle.board.specs.Seats.{board_table}
 use Rattle.node_fleet.specs.Seats.{MailboxId}

@@ -2,11 +2,7 @@
 use Rattle.std.specs.Prelude.{◌≡◌, ℕ, Bool, true, false, List, [], ◌∷◌, ◌++◌, All, Some, Result, Ok, Err}
 use Rattle.volume_model.specs.declared.fault.Fault.{Fault}
 use Rattle.volume_model.specs.declared.fault.Fault.TheVariants.{NoMessage}
-use Rattle.volume_model.specs.Plan.{Plan, is_named}
-use Rattle.volume_model.specs.World.{Event}
-use Rattle.volume_model.specs.World.Event.{Deliver, Hydrate, Restart, Offer, Open, Take}
-use Rattle.volume_model.specs.Actor.{named_by}
-use Rattle.volume_model.specs.Judging.{Refusal}
+use Rattle.volume_model.specs.Common.{Plan, is_named, Event, Deliver, Hydrate, Restart, Offer, Open, Take, named_by, Refusal}
 use Rattle.board.specs.declared.BoardStep.{BoardStep}
 use Rattle.board.specs.declared.BoardStep.TheVariants.{Raised}
 use Rattle.journal.specs.declared.entry.Receipt.{Receipt}

@@ -1,6 +1,6 @@
 -- The mailboxes of a volume's nodes, and a caller's seats, as seen by contracts.
 use Rattle.std.specs.Prelude.{◌≡◌, ◌≢◌, ℕ, ◌&&◌, nat_lt, Bool, All, List, [], ◌∷◌, length, map, Option, Some, None, is_some, option_map, slice_get}
-use Rattle.volume_model.specs.Plan.{Plan, is_named}
+use Rattle.volume_model.specs.Common.{Plan, is_named}
 use Rattle.node_fleet.specs.declared.mailbox.Mailbox.{Mailbox}
 use Rattle.node_fleet.specs.declared.mailbox.MailSeat.{MailSeat}
 use Rattle.node_fleet.specs.declared.mailbox.MailStep.{MailStep}

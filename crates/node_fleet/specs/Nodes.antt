@@ -1,9 +1,8 @@
 -- A node's actor as seen by contracts.
 use Rattle.std.specs.Prelude.{ℕ, Option}
 use Rattle.std.specs.declared.sync.ledger.Ledger.{Ghosts as LedgerGhosts}
-use Rattle.volume_model.specs.Message.{Message}
-use Rattle.volume_model.specs.Node.{Node, NodeAnswer}
-use Rattle.volume_model.specs.World.{deliver}
+use Rattle.volume_model.specs.Common.{Message, NodeAnswer, deliver}
+use Rattle.volume_model.specs.Node.{Node}
 use Rattle.segment_core.specs.Segment.{node_of}
 use Rattle.journal.specs.declared.row.Site.{Ghosts as SiteGhosts}
 use Rattle.node_fleet.specs.declared.node.NodeActor.{NodeActor}

@@ -1,8 +1,7 @@
 -- A pass of a fleet as seen by contracts.
 use Rattle.std.specs.Prelude.{◌≡◌, ℕ, List, [], Result}
 use Rattle.volume_model.specs.declared.fault.Fault.{Fault}
-use Rattle.volume_model.specs.Judging.{Refusal}
-use Rattle.volume_model.specs.World.{Event}
+use Rattle.volume_model.specs.Common.{Refusal, Event}
 use Rattle.world.specs.Slots.{slot_of}
 use Rattle.board.specs.declared.BoardStep.{BoardStep}
 use Rattle.node_fleet.specs.declared.mailbox.MailStep.{MailStep}

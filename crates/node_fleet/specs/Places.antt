@@ -1,6 +1,6 @@
 -- Lists with a place for each node of a volume.
 use Rattle.std.specs.Prelude.{◌≡◌, ℕ, ◌&&◌, nat_lt, List, Option, is_some, slice_get}
-use Rattle.volume_model.specs.Plan.{Plan, is_named}
+use Rattle.volume_model.specs.Common.{Plan, is_named}
 use Rattle.world.specs.Slots.{members, slot_of, in_slot}
 
 -- exactly the slots of the nodes that the plan names are in use

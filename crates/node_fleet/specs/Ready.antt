@@ -1,8 +1,7 @@
 -- What holds before a step under both locks.
 use Rattle.std.specs.Prelude.{◌≡◌}
 use Rattle.std.specs.declared.sync.ledger.Ledger.{Ghosts as LedgerGhosts}
-use Rattle.volume_model.specs.Actor.{Agree}
-use Rattle.volume_model.specs.Journal.{last_of, world_at}
+use Rattle.volume_model.specs.Common.{Agree, last_of, world_at}
 use Rattle.journal.specs.declared.row.Site.{Ghosts as SiteGhosts}
 use Rattle.journal.specs.declared.log.Log.{Log}
 use Rattle.journal.specs.declared.cursor.ActorCursor.{ActorCursor}

@@ -1,10 +1,8 @@
 -- How a step under both locks changes a pass, and what its refusal says.
 use Rattle.std.specs.Prelude.{◌≡◌, ℕ, List, [], ◌∷◌, ◌++◌, Result, Ok, Err}
 use Rattle.volume_model.specs.declared.fault.Fault.{Fault}
-use Rattle.volume_model.specs.Plan.{Plan}
-use Rattle.volume_model.specs.World.{Event}
+use Rattle.volume_model.specs.Common.{Plan, Event, Exact, IsNoted, Refusal}
 use Rattle.volume_model.specs.Journal.{Entry}
-use Rattle.volume_model.specs.Judging.{Exact, IsNoted, Refusal}
 use Rattle.journal.specs.declared.entry.Receipt.{Receipt}
 use Rattle.journal.specs.declared.pass.Pass.{Pass}
 use Rattle.journal.specs.declared.row.Site.{Ghosts as SiteGhosts}

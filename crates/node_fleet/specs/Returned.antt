@@ -1,6 +1,6 @@
 -- Mailboxes whose seats are taken back from passes.
 use Rattle.std.specs.Prelude.{◌≡◌, ℕ, true, List, map}
-use Rattle.volume_model.specs.Plan.{Plan, is_named}
+use Rattle.volume_model.specs.Common.{Plan, is_named}
 use Rattle.node_fleet.specs.declared.mailbox.Mailbox.{Mailbox}
 use Rattle.node_fleet.specs.declared.mailboxes.Mailboxes.{Mailboxes}
 use Rattle.node_fleet.specs.declared.mailboxes.MailSeats.{MailSeats}

@@ -3,7 +3,7 @@ use Rattle.std.specs.Prelude.{◌≡◌, ℕ, List, All, Result, Err}
 use Rattle.std.specs.declared.sync.ledger.Ledger.{Ghosts as LedgerGhosts}
 use Rattle.volume_model.specs.declared.fault.Fault.TheVariants.{NoMessage}
 use Rattle.volume_model.specs.Client.{Client}
-use Rattle.volume_model.specs.World.{Event}
+use Rattle.volume_model.specs.Common.{Event}
 use Rattle.world.specs.Clients.{client_volume, seen_client}
 use Rattle.journal.specs.declared.row.Site.{Ghosts as SiteGhosts}
 use Rattle.journal.specs.declared.entry.Receipt.{Receipt}

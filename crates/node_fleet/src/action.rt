@@ -1,6 +1,6 @@
 //! Actions of a fleet's nodes.
 
-ghost use Rattle.std.specs.Prelude.{◌≡◌};
+ghost use Rattle.std.specs.Prelude.{◌≡◌, length, ◌≢◌, Err, IfErr, OnErr, OnOk};
 
 use crate::halt::Halt;
 use crate::node::NodeActor;
@@ -13,7 +13,6 @@ use volume_model::Fault;
 use world::Event;
 
 impl<L: Site> NodeActor<L> {
-    ghost use Rattle.std.specs.Prelude.{length, ◌≢◌, Err, IfErr, OnErr, OnOk};
     ghost use Rattle.volume_model.specs.declared.fault.Fault.TheVariants.{NoMessage};
     ghost use Rattle.world.specs.Actions.{node_event};
     ghost use Rattle.journal.specs.Passes.{journal_of, seat_of, world_of};

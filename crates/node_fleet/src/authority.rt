@@ -1,11 +1,10 @@
 //! The authority of a fleet, and its steps under both locks.
 
-ghost use Rattle.std.specs.Prelude.{◌≡◌};
+ghost use Rattle.std.specs.Prelude.{◌≡◌, length, ◌≢◌, Err, OnErr, OnOk};
 ghost use Rattle.std.proofs.Props.{props};
-ghost use Rattle.volume_model.specs.Actor.Actor.{TheAuthority};
-ghost use Rattle.volume_model.specs.Journal.{world_at};
+ghost use Rattle.volume_model.specs.Common.{TheAuthority, world_at};
 ghost use Rattle.epochs.specs.Authority.{authority_of, authority_plan};
-ghost use Rattle.journal.specs.Passes.{marked, seen_at};
+ghost use Rattle.journal.specs.Passes.{marked, seen_at, journal_of, seat_of, world_of};
 ghost use Rattle.journal.proofs.Plans.{Plan-set};
 
 use crate::authority_attempt::try_step;
@@ -28,9 +27,7 @@ pub struct AuthorityActor<L: Site> {
 }
 
 impl<L: Site> AuthorityActor<L> {
-    ghost use Rattle.std.specs.Prelude.{length, ◌≢◌, Err, OnErr, OnOk};
     ghost use Rattle.volume_model.specs.declared.fault.Fault.TheVariants.{JournalFull, NoMessage, NoSlot};
-    ghost use Rattle.journal.specs.Passes.{journal_of, seat_of, world_of};
     ghost use Rattle.node_fleet.specs.declared.halt.Halt.TheVariants.{Refused, StaleCursor};
     ghost use Rattle.world.specs.Actions.{authority_event};
     ghost use Rattle.node_fleet.specs.Actions.{IsLeft, IsSpent};

@@ -2,8 +2,7 @@
 
 ghost use Rattle.std.specs.Prelude.{false, ◌≡◌, IfErr, IfOk, MatchBool, OnErr, OnOk};
 ghost use Rattle.volume_model.specs.declared.fault.Fault.TheVariants.{JournalFull};
-ghost use Rattle.wire.specs.Listed.{listed};
-ghost use Rattle.wire.specs.Message.{messages_of};
+ghost use Rattle.wire.specs.Common.{listed, messages_of};
 ghost use Rattle.epochs.specs.Authority.{authority_of, authority_plan};
 ghost use Rattle.world.specs.Actions.{authority_acted};
 ghost use Rattle.node_fleet.specs.Actions.{IsLeft, IsSpent};

@@ -1,6 +1,6 @@
 //! Calls of a fleet for its authority.
 
-ghost use Rattle.std.specs.Prelude.{◌≡◌, IfErr};
+ghost use Rattle.std.specs.Prelude.{◌≡◌, IfErr, ◌≢◌, Err};
 ghost use Rattle.journal.specs.Passes.{seat_of};
 ghost use Rattle.world.specs.Actions.{authority_event};
 ghost use Rattle.node_fleet.specs.RecordsAttempt.{PassRecords};
@@ -17,7 +17,6 @@ use volume_model::Fault;
 use world::AuthorityAction;
 
 impl<'a, L: FleetSite> Fleet<'a, L> {
-    ghost use Rattle.std.specs.Prelude.{◌≢◌, Err};
     ghost use Rattle.volume_model.specs.declared.fault.Fault.TheVariants.{NoMessage};
     ghost use Rattle.node_fleet.specs.declared.halt.Halt.TheVariants.{Refused};
 

@@ -1,6 +1,6 @@
 //! The parts of a fleet that exist before its site has a name.
 
-ghost use Rattle.std.specs.Prelude.{length, vec_len, ◌<◌, ◌≡◌, All};
+ghost use Rattle.std.specs.Prelude.{length, vec_len, ◌<◌, ◌≡◌, All, IfOk};
 ghost use Rattle.std.proofs.Props.{props};
 ghost use Rattle.board.specs.Seats.{seats_of, steps_of, IsSeatOf};
 ghost use Rattle.journal.specs.Fronts.{log_of};
@@ -29,8 +29,7 @@ pub struct Base {
 }
 
 impl Base {
-    ghost use Rattle.std.specs.Prelude.{IfOk};
-    ghost use Rattle.plan.specs.CheckedModel.{checked_model};
+    ghost use Rattle.plan.specs.Common.{checked_model};
     ghost use Rattle.node_fleet.specs.Bases.{passes_of, HasMail};
 
     /// Makes the base of a fleet over a plan, with `passes` passes.

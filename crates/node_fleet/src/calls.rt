@@ -1,7 +1,7 @@
 //! The public calls of a fleet.
 
-ghost use Rattle.std.specs.Prelude.{◌≡◌, IfErr, IfOk, OnErr};
-ghost use Rattle.volume_model.specs.World.Event.{Deliver, Issue};
+ghost use Rattle.std.specs.Prelude.{◌≡◌, IfErr, IfOk, OnErr, [], true, ◌++◌, ◌∷◌, ◌≢◌, ◌≤◌, All, None, Some};
+ghost use Rattle.volume_model.specs.Common.{Deliver, Issue, is_named};
 ghost use Rattle.writer_core.specs.Changes.{changes_of};
 ghost use Rattle.world.specs.Actions.{authority_event, client_event, node_event};
 ghost use Rattle.node_fleet.specs.Calls.{NamesElse, RaisesBy, Unmade};
@@ -20,9 +20,7 @@ use world::{AuthorityAction, ClientAction, Event};
 use writer_core::Change;
 
 impl<'a, L: FleetSite> Fleet<'a, L> {
-    ghost use Rattle.std.specs.Prelude.{[], true, ◌++◌, ◌∷◌, ◌≢◌, ◌≤◌, All, None, Some};
     ghost use Rattle.volume_model.specs.declared.fault.Fault.TheVariants.{NoMessage};
-    ghost use Rattle.volume_model.specs.Plan.{is_named};
     ghost use Rattle.world.specs.Slots.{slot_of};
     ghost use Rattle.board.specs.Board.{number_of, IsKept};
     ghost use Rattle.board.specs.declared.BoardStep.{BoardStep};

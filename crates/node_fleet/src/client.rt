@@ -1,11 +1,10 @@
 //! A client of a fleet, and its steps under both locks.
 
-ghost use Rattle.std.specs.Prelude.{◌≡◌};
+ghost use Rattle.std.specs.Prelude.{◌≡◌, length, ◌≢◌, Err, OnErr, OnOk};
 ghost use Rattle.std.proofs.Props.{props};
-ghost use Rattle.volume_model.specs.Actor.{Actor};
-ghost use Rattle.volume_model.specs.Journal.{world_at};
+ghost use Rattle.volume_model.specs.Common.{Actor, world_at, actor_of};
 ghost use Rattle.world.specs.Clients.{client_plan, client_volume, seen_client};
-ghost use Rattle.journal.specs.Passes.{marked, seen_at};
+ghost use Rattle.journal.specs.Passes.{marked, seen_at, journal_of, seat_of, steps_of, world_of, SeesAll};
 ghost use Rattle.journal.proofs.Plans.{Plan-set};
 
 use crate::client_attempt::{shown, try_step};
@@ -30,12 +29,9 @@ pub struct ClientActor<L: Site> {
 }
 
 impl<L: Site> ClientActor<L> {
-    ghost use Rattle.std.specs.Prelude.{length, ◌≢◌, Err, OnErr, OnOk};
     ghost use Rattle.volume_model.specs.declared.fault.Fault.TheVariants.{NoMessage};
-    ghost use Rattle.volume_model.specs.Actor.{actor_of};
     ghost use Rattle.world.specs.Actions.{message_found};
     ghost use Rattle.world.specs.Events.{event_of};
-    ghost use Rattle.journal.specs.Passes.{journal_of, seat_of, steps_of, world_of, SeesAll};
     ghost use Rattle.node_fleet.specs.declared.halt.Halt.TheVariants.{Refused, StaleCursor};
     ghost use Rattle.node_fleet.specs.Actions.{IsFound};
     ghost use Rattle.node_fleet.specs.RecordsAttempt.{Enters, IsExact, PassRecords};

@@ -1,8 +1,8 @@
 //! Calls of a fleet for its clients.
 
-ghost use Rattle.std.specs.Prelude.{◌≡◌, IfErr, IfOk, OnErr};
-ghost use Rattle.volume_model.specs.Actor.{actor_of, Actor};
-ghost use Rattle.journal.specs.Passes.{seat_of, steps_of};
+ghost use Rattle.std.specs.Prelude.{◌≡◌, IfErr, IfOk, OnErr, ◌≢◌, Err};
+ghost use Rattle.volume_model.specs.Common.{actor_of, Actor, unborn};
+ghost use Rattle.journal.specs.Passes.{seat_of, steps_of, world_of, HasNoteRoom, SeesAll};
 ghost use Rattle.world.specs.Events.{event_of};
 ghost use Rattle.node_fleet.specs.RecordsAttempt.{PassRecords};
 ghost use Rattle.node_fleet.specs.Volumes.{IsUnmade};
@@ -30,11 +30,8 @@ fn moves(event: &Event) -> bool
 }
 
 impl<'a, L: FleetSite> Fleet<'a, L> {
-    ghost use Rattle.std.specs.Prelude.{◌≢◌, Err};
     ghost use Rattle.volume_model.specs.declared.fault.Fault.TheVariants.{NoMessage};
-    ghost use Rattle.volume_model.specs.Client.{unborn};
     ghost use Rattle.world.specs.Actions.{message_found};
-    ghost use Rattle.journal.specs.Passes.{world_of, HasNoteRoom, SeesAll};
     ghost use Rattle.node_fleet.specs.Actions.{IsFound};
     ghost use Rattle.node_fleet.specs.declared.halt.Halt.TheVariants.{Refused};
 

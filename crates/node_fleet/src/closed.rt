@@ -13,7 +13,7 @@ pub struct Journal<'a, L: Site> {
 
 impl<'a, L: Site> Journal<'a, L> {
     ghost use Rattle.std.specs.Prelude.{length, ◌≡◌, IfErr, IfOk};
-    ghost use Rattle.volume_model.specs.Journal.{events};
+    ghost use Rattle.volume_model.specs.Common.{events};
     ghost use Rattle.volume_model.specs.declared.fault.Fault.TheVariants.{NoMemory};
     ghost use Rattle.world.specs.Events.{events_of};
     ghost use Rattle.journal.specs.Passes.{journal_of};

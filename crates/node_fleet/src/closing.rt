@@ -1,7 +1,7 @@
 //! Takes back the passes of a fleet.
 
 ghost use Rattle.std.specs.Prelude.{length, map, sum_by, vec_len, ◌<◌, ◌≡◌, All};
-ghost use Rattle.volume_model.specs.Judging.{IsRefused};
+ghost use Rattle.volume_model.specs.Common.{IsRefused};
 ghost use Rattle.board.specs.Seats.{board_table, returned, AreReturnedTo};
 ghost use Rattle.node_fleet.specs.Mails.{ids_of, AreBack};
 ghost use Rattle.journal.specs.Passes.{journal_of};

@@ -1,13 +1,13 @@
 //! The actors of a volume that threads share, and their journal.
 
-ghost use Rattle.std.specs.Prelude.{vec_len, ◌+◌, ◌≡◌};
+ghost use Rattle.std.specs.Prelude.{vec_len, ◌+◌, ◌≡◌, length, map, sum_by, ◌<◌, All, ℕ};
 ghost use Rattle.std.specs.Arc.{arc_value};
 ghost use Rattle.std.specs.Coded.{Coded-set};
 ghost use Rattle.atomic_table.specs.Seated.{table_id_coded};
 ghost use Rattle.board.specs.Seats.{board_table, seats_of};
 ghost use Rattle.node_fleet.specs.Mails.{ids_of, AreNew, HasNodes};
 ghost use Rattle.node_fleet.specs.MailProps.{new_prop};
-ghost use Rattle.plan.specs.CheckedModel.{checked_model};
+ghost use Rattle.plan.specs.Common.{checked_model};
 ghost use Rattle.journal.proofs.Plans.{Plan-set};
 ghost use Rattle.std.proofs.Props.{props};
 ghost use Rattle.node_fleet.specs.Places.{HasEach};
@@ -54,9 +54,7 @@ pub struct Fleet<'a, L: FleetSite> {
 }
 
 impl<'a, L: FleetSite> Fleet<'a, L> {
-    ghost use Rattle.std.specs.Prelude.{length, map, sum_by, ◌<◌, All, ℕ};
-    ghost use Rattle.volume_model.specs.Journal.{events, IsRun};
-    ghost use Rattle.volume_model.specs.Judging.{IsRefused};
+    ghost use Rattle.volume_model.specs.Common.{events, IsRun, IsRefused};
     ghost use Rattle.world.specs.Outcomes.{KeepsPromises};
     ghost use Rattle.board.specs.Board.{IsBoard};
     ghost use Rattle.journal.specs.PassSteps.{NamesEarlier, Stands};

@@ -1,6 +1,6 @@
 //! Mailboxes. Their letters have places in one order; any thread may post or collect.
 
-ghost use Rattle.std.specs.Prelude.{◌≡◌, ◌<◌, length};
+ghost use Rattle.std.specs.Prelude.{◌≡◌, ◌<◌, length, [], ◌∷◌, ◌+◌, ◌-◌, ◌++◌, All, IfOk, vec_len, Some, None};
 ghost use Rattle.crossbeam_channel.specs.Claims.{view, IsKeyed};
 ghost use Rattle.crossbeam_channel.specs.Ends.{sends_on, receives_on};
 
@@ -34,7 +34,6 @@ type Seats = (u64, (u64, LinkedList<LinkedList<MailStep>>));
 pub struct Places;
 
 impl Protocol<Letter, Seats> for Places {
-    ghost use Rattle.std.specs.Prelude.{[], ◌∷◌};
     ghost use Rattle.node_fleet.specs.Mail.{IsMailbox};
 
     ghost holds = { IsMailbox };
@@ -47,8 +46,6 @@ impl Protocol<Letter, Seats> for Places {
 pub struct OneMore;
 
 impl Split<Seats> for OneMore {
-    ghost use Rattle.std.specs.Prelude.{◌+◌, []};
-
     ghost left = { λ v. (v.0 + 1, (v.1.0 + 1, v.1.1)) };
 
     ghost right = { λ _. (0, (0, [])) };
@@ -58,8 +55,6 @@ impl Split<Seats> for OneMore {
 pub struct NewSeat;
 
 impl Split<Seats> for NewSeat {
-    ghost use Rattle.std.specs.Prelude.{◌-◌, [], ◌∷◌};
-
     ghost left = { λ v. (v.0, (v.1.0 - 1, v.1.1)) };
 
     ghost right = { λ v. (v.0, (0, [] ∷ [])) };
@@ -69,8 +64,6 @@ impl Split<Seats> for NewSeat {
 pub struct Return;
 
 impl Join<Seats> for Return {
-    ghost use Rattle.std.specs.Prelude.{◌+◌, [], ◌++◌};
-
     ghost both = { λ v w. (v.0, (v.1.0 + w.1.0, w.1.1 ++ v.1.1)) };
 
     ghost spent = { (0, (0, [])) };
@@ -131,9 +124,8 @@ pub struct MailSeat {
 }
 
 impl Mailbox {
-    ghost use Rattle.std.specs.Prelude.{[], ◌∷◌, All, IfOk, vec_len, Some, None};
     ghost use Rattle.node_fleet.specs.Mail.{AddsPosted, AddsCollected, AreKept};
-    ghost use Rattle.node_fleet.specs.Seats.{capacity_of, id_of, returned, seats_of, steps_of, AreSeatsOf, IsSeatOf};
+    ghost use Rattle.node_fleet.specs.Seats.{capacity_of, returned, seats_of, steps_of, AreSeatsOf, IsSeatOf};
 
     /// Makes an empty mailbox for `capacity` letters, and its `seats` seats, which have made no step.
     ///

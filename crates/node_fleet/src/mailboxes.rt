@@ -1,8 +1,8 @@
 //! A mailbox for each node of a volume, and the seats of its callers.
 
 ghost use Rattle.std.specs.Prelude.{◌≡◌, ◌≢◌, ◌<◌, ◌++◌, [], ◌∷◌, ℕ, true, All, IfOk, Option, Some, None, is_some, slice_get, vec_len};
-ghost use Rattle.volume_model.specs.Plan.{is_named};
-ghost use Rattle.plan.specs.CheckedModel.{checked_model};
+ghost use Rattle.volume_model.specs.Common.{is_named};
+ghost use Rattle.plan.specs.Common.{checked_model};
 ghost use Rattle.node_fleet.specs.Mail.{AddsPosted, AddsCollected, AreKept};
 ghost use Rattle.world.specs.Slots.{slot_of};
 ghost use Rattle.node_fleet.specs.Mails.{back_at, has_mailbox, ids_of, seat_steps, AreAllKept, AreBack, AreNew, AreNewSeats, AreSeatsOf, AreWhole, ChangesAt, Fits, Has, HasNodes, HasNoSteps, IsNew, TakesBack};

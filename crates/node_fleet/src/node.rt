@@ -1,11 +1,10 @@
 //! A node of a fleet.
 
-ghost use Rattle.std.specs.Prelude.{true, ◌≡◌};
+ghost use Rattle.std.specs.Prelude.{true, ◌≡◌, [], IfOk};
 ghost use Rattle.std.proofs.Props.{props};
-ghost use Rattle.volume_model.specs.Plan.{is_named};
+ghost use Rattle.volume_model.specs.Common.{is_named, world_at, AnswersNew};
 ghost use Rattle.volume_model.specs.Actor.Actor.{Node};
-ghost use Rattle.volume_model.specs.Journal.{world_at};
-ghost use Rattle.segment_core.specs.Segment.{node_of, IsSegmentOf};
+ghost use Rattle.segment_core.specs.Segment.{node_of, IsSegmentOf, born};
 ghost use Rattle.journal.specs.Passes.{marked, seen_at};
 ghost use Rattle.journal.proofs.Plans.{Plan-set};
 
@@ -30,11 +29,8 @@ pub struct NodeActor<L: Site> {
 }
 
 impl<L: Site> NodeActor<L> {
-    ghost use Rattle.std.specs.Prelude.{[], IfOk};
     ghost use Rattle.std.specs.Arc.{arc_value};
-    ghost use Rattle.plan.specs.CheckedModel.{checked_model};
-    ghost use Rattle.volume_model.specs.Answer.{AnswersNew};
-    ghost use Rattle.segment_core.specs.Segment.{born};
+    ghost use Rattle.plan.specs.Common.{checked_model};
     ghost use Rattle.journal.specs.Fronts.{log_of};
     ghost use Rattle.node_fleet.specs.Nodes.{actor_group, actor_member, actor_node};
 

@@ -1,9 +1,7 @@
 //! Calls of a fleet for its nodes.
 
-ghost use Rattle.std.specs.Prelude.{◌≡◌, IfErr};
-ghost use Rattle.volume_model.specs.StepResults.{refusal};
-ghost use Rattle.volume_model.specs.World.{step};
-ghost use Rattle.volume_model.specs.World.Event.{Deliver};
+ghost use Rattle.std.specs.Prelude.{◌≡◌, IfErr, false, ◌≢◌, IfNone, IfOk, OnOk};
+ghost use Rattle.volume_model.specs.Common.{refusal, step, Deliver, is_named};
 ghost use Rattle.journal.specs.Passes.{journal_of, message_ref_number, notes_of, seat_of, steps_of, world_of};
 ghost use Rattle.world.specs.Events.{event_of};
 ghost use Rattle.node_fleet.specs.RecordsAttempt.{AddsNote, PassRecords};
@@ -24,8 +22,6 @@ use volume_model::Fault;
 use world::{Event, slot};
 
 impl<'a, L: FleetSite> Fleet<'a, L> {
-    ghost use Rattle.std.specs.Prelude.{false, ◌≢◌, IfNone, IfOk, OnOk};
-    ghost use Rattle.volume_model.specs.Plan.{is_named};
     ghost use Rattle.volume_model.specs.declared.fault.Fault.TheVariants.{NoMessage};
     ghost use Rattle.node_fleet.specs.declared.halt.Halt.TheVariants.{Refused};
 

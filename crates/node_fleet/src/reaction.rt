@@ -1,6 +1,6 @@
 //! Reactions of a fleet's nodes to messages.
 
-ghost use Rattle.std.specs.Prelude.{◌≡◌};
+ghost use Rattle.std.specs.Prelude.{◌≡◌, length, ◌≢◌, IfErr, IfOk, Ok, OnErr, Some};
 
 use crate::gate::StepGate;
 use crate::halt::Halt;
@@ -16,11 +16,9 @@ use wire::{Message, Write};
 use world::Event;
 
 impl<L: Site> NodeActor<L> {
-    ghost use Rattle.std.specs.Prelude.{length, ◌≢◌, IfErr, IfOk, Ok, OnErr, Some};
     ghost use Rattle.volume_model.specs.declared.fault.Fault.TheVariants.{NoMessage};
-    ghost use Rattle.volume_model.specs.Answer.{Fails};
-    ghost use Rattle.volume_model.specs.World.Event.{Deliver};
-    ghost use Rattle.wire.specs.Message.{message_of};
+    ghost use Rattle.volume_model.specs.Common.{Fails, Deliver};
+    ghost use Rattle.wire.specs.Common.{message_of};
     ghost use Rattle.segment_core.specs.Prepared.{step_of};
     ghost use Rattle.segment_core.specs.Segment.{node_of, IsReady};
     ghost use Rattle.journal.specs.Passes.{journal_of, message_ref_message, message_ref_number, seat_of};

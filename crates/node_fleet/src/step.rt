@@ -1,13 +1,8 @@
 //! The parts that all steps under both locks have in common.
 
 ghost use Rattle.std.specs.Prelude.{false, is_err, length, ◌<◌, ◌≡◌, Err, IfErr, IfOk, MatchResult, OnOk, Some};
-ghost use Rattle.volume_model.specs.World.{after, step};
-ghost use Rattle.volume_model.specs.StepResults.{makes};
-ghost use Rattle.volume_model.specs.Actor.{actor_of, Agree};
-ghost use Rattle.volume_model.specs.Journal.{last_of, world_at};
-ghost use Rattle.volume_model.specs.Judging.{Exact};
-ghost use Rattle.wire.specs.Listed.{listed};
-ghost use Rattle.wire.specs.Message.{messages_of};
+ghost use Rattle.volume_model.specs.Common.{after, step, makes, actor_of, Agree, world_at, Exact};
+ghost use Rattle.wire.specs.Common.{listed, messages_of};
 ghost use Rattle.world.specs.Events.{event_of};
 ghost use Rattle.journal.specs.PassSteps.{durable_in};
 ghost use Rattle.journal.specs.Passes.{cursor_number, journal_of, marked, notes_of, seat_of, seen_at, steps_of, world_of, HasNoteRoom, SeesAll};

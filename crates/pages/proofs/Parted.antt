@@ -1,8 +1,7 @@
 -- A page from a list of records in two parts.
 use Rattle.std.proofs.Common.{◌≡◌, ℕ, ◌&&◌, nat_le, nat_eq, if◌then◌else◌, List, [], ◌∷◌, ◌++◌, map, refl, sym, ap, ◌∙◌}
 use Rattle.std.proofs.lemmas.List.{map-append}
-use Rattle.volume_model.specs.Redo.{Redo}
-use Rattle.volume_model.specs.Node.{written, page_from}
+use Rattle.volume_model.specs.Common.{Redo, written, page_from}
 
 -- some records and then the others
 pub page_joined : (page : List ℕ) (block point : ℕ) (some more : List Redo) → page_from (page_from page block point some) block point more ≡ page_from page block point (some ++ more)

@@ -2,10 +2,8 @@
 #![tactic(auto)]
 
 ghost use Rattle.std.specs.Prelude.{◌≡◌, ◌+◌, ◌≤◌, ◌++◌, nat_le, if◌then◌else◌, length, map, take, drop, All};
-ghost use Rattle.volume_model.specs.Node.{written, page_from, page_of};
-ghost use Rattle.redo_record.specs.Record.{redo_of};
-ghost use Rattle.redo_record.specs.RecordSet.{records_of};
-ghost use Rattle.redo_record.specs.SharedRecord.{shared_redo};
+ghost use Rattle.volume_model.specs.Common.{written, page_from, page_of};
+ghost use Rattle.redo_record.specs.Common.{redo_of, records_of, shared_redo};
 
 use redo_record::{Record, RecordSet, SharedRecord};
 

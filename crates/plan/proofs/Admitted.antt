@@ -1,6 +1,5 @@
 -- Which configurations have claims, one after the other.
-use Rattle.std.proofs.Common.{◌≡◌, ◌≢◌, ℕ, ◌+◌, ◌<◌, List, refl, sym, subst, true≢false}
-use Rattle.std.specs.Prelude.{true, false, Result, Ok, Err, IsOk}
+use Rattle.std.proofs.Common.{◌≡◌, ◌≢◌, ℕ, ◌+◌, ◌<◌, List, refl, sym, subst, true≢false, true, false, Result, Ok, Err, IsOk}
 use Rattle.volume_model.specs.declared.fault.Fault.TheVariants.{NoMemory}
 use Rattle.plan.specs.declared.fault.PlanFault.{PlanFault}
 use Rattle.plan.specs.FaultKinds.{kind_of}

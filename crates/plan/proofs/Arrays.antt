@@ -1,11 +1,10 @@
 -- Arrays, and how many items they have.
-use Rattle.std.proofs.Common.{◌≡◌, ℕ, ◌<◌, ◌≤◌, min, Bool, true, Err, refl, ap, arith}
-use Rattle.std.specs.Prelude.{nat_le, if◌then◌else◌}
+use Rattle.std.proofs.Common.{◌≡◌, ℕ, ◌<◌, ◌≤◌, min, Bool, true, Err, refl, ap, arith, nat_le, if◌then◌else◌}
 use Rattle.std.specs.FinSet.{empty}
 use Rattle.std.proofs.lemmas.Bool.Decides.{nat_tests}
 use Rattle.serde_json.specs.Data.{Data, array}
 use Rattle.serde_json.specs.Events.{items_len}
-use Rattle.quorum_expr.specs.Nodes.{items_in}
+use Rattle.quorum_expr.specs.Common.{items_in}
 use Rattle.volume_model.specs.declared.fault.Fault.TheVariants.{Malformed}
 use Rattle.plan.specs.PlanText.{members_from, members_of, some_members_of}
 

@@ -1,7 +1,6 @@
 -- A plan has no fault exactly where it is certified.
-use Rattle.std.proofs.Common.{◌≡◌, ℕ, zero, suc, ◌<◌, List, length, refl, ap, arith}
-use Rattle.std.specs.Prelude.{Bool, true, false, if◌then◌else◌, Option, Some, None}
-use Rattle.refutation.specs.Rule.{Rule}
+use Rattle.std.proofs.Common.{◌≡◌, ℕ, zero, suc, ◌<◌, List, length, refl, ap, arith, Bool, true, false, if◌then◌else◌, Option, Some, None}
+use Rattle.refutation.specs.Common.{Rule}
 use Rattle.quorum_checker.specs.Refutes.{State, Refutes}
 use Rattle.quorum_checker.specs.FirstFault.{first_fault}
 use Rattle.plan.specs.declared.fault.PlanFault.{PlanFault}

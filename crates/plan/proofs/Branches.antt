@@ -2,9 +2,7 @@
 use Rattle.std.proofs.Common.{◌≡◌, List, [], ◌∷◌, map, refl, ap}
 use Rattle.serde_json.specs.Data.{no_items, item}
 use Rattle.refutation.specs.declared.Refutation.{Refutation}
-use Rattle.refutation.specs.Rule.{branches_of}
-use Rattle.refutation.specs.Refutation.{rule_of}
-use Rattle.refutation.specs.Writing.{branches_data}
+use Rattle.refutation.specs.Common.{branches_of, rule_of, branches_data}
 use Rattle.plan.specs.Rules.{rule_data}
 use Rattle.plan.proofs.Joined.{joined}
 

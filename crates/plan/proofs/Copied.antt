@@ -4,7 +4,7 @@ use Rattle.json.specs.Token.{begin_array, end_array}
 use Rattle.json.specs.Written.{Written}
 use Rattle.serde_json.specs.Data.{Data, array, Items, no_items, item}
 use Rattle.serde_json.specs.Find.{as_array}
-use Rattle.quorum_expr.specs.Nodes.{items_in}
+use Rattle.quorum_expr.specs.Common.{items_in}
 use Rattle.plan.specs.Puts.{Puts, PutsToken, Lists}
 use Rattle.plan.proofs.Joined.{joined, joined-one}
 use Rattle.plan.proofs.Putting.{listing, one_listed, listed}

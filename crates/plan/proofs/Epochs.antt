@@ -1,6 +1,5 @@
 -- The epoch of a child is one more than its parent's.
-use Rattle.std.proofs.Common.{◌≡◌, ℕ, zero, suc, ◌<◌, ◌≤◌, List, arith, refl, ap, ◌∙◌, sym}
-use Rattle.std.specs.Prelude.{true, false, nat_lt, if◌then◌else◌, Option, Some, None}
+use Rattle.std.proofs.Common.{◌≡◌, ℕ, zero, suc, ◌<◌, ◌≤◌, List, arith, refl, ap, ◌∙◌, sym, true, false, nat_lt, if◌then◌else◌, Option, Some, None}
 use Rattle.std.proofs.lemmas.Bool.Decides.{nat_tests}
 use Rattle.plan.specs.PlanData.{ConfigurationData, configuration_at, earlier, parent_at, by_parent, epoch_within, epoch_at}
 

@@ -1,6 +1,5 @@
 -- Where a plan has claims, its parents are good.
-use Rattle.std.proofs.Common.{◌≡◌, ℕ, zero, suc, ◌+◌, ◌<◌, ◌∙◌, List, [], ◌∷◌, ◌++◌, length, refl, ap, subst, arith, add-zero, inl, inr}
-use Rattle.std.specs.Prelude.{true, Option, Some, None, Result, Ok, slice_index_or}
+use Rattle.std.proofs.Common.{◌≡◌, ℕ, zero, suc, ◌+◌, ◌<◌, ◌∙◌, List, [], ◌∷◌, ◌++◌, length, refl, ap, subst, arith, add-zero, inl, inr, true, Option, Some, None, Result, Ok, slice_index_or}
 use Rattle.std.proofs.lemmas.Bool.{cases_lt}
 use Rattle.plan.specs.declared.fault.PlanFault.{PlanFault}
 use Rattle.plan.specs.declared.fault.PlanFault.TheVariants.{BadParent}

@@ -1,7 +1,7 @@
 -- Values one after another, and then others.
 use Rattle.std.proofs.Common.{◌≡◌, ℕ, List, [], ◌∷◌, ◌++◌, map, refl, ap}
 use Rattle.serde_json.specs.Data.{Data, Items, no_items, item}
-use Rattle.refutation.specs.Writing.{number_data, numbers_data, pair_data, pairs_data}
+use Rattle.refutation.specs.Common.{number_data, numbers_data, pair_data, pairs_data}
 
 abbrev pub joined : List Data → Items → Items
 joined [] rest = rest

@@ -1,23 +1,17 @@
 -- A plan without a fault is certified.
-use Rattle.std.proofs.Common.{◌≡◌, ℕ, zero, suc, ◌<◌, ◌≤◌, List, [], ◌∷◌, length, get_or, map, arith, refl, ap, ◌∙◌, sym, subst, inl, inr}
-use Rattle.std.specs.Prelude.{Bool, true, false, not, ◌&&◌, ◌==◌, nat_lt, if◌then◌else◌, Option, Some, None}
+use Rattle.std.proofs.Common.{◌≡◌, ℕ, zero, suc, ◌<◌, ◌≤◌, List, [], ◌∷◌, length, get_or, map, arith, refl, ap, ◌∙◌, sym, subst, inl, inr, Bool, true, false, not, ◌&&◌, ◌==◌, nat_lt, if◌then◌else◌, Option, Some, None}
 use Rattle.std.proofs.lemmas.Bool.{cases_lt, and_parts, and_from, ltb-true, lt-ltb, false_from_ne_true}
 use Rattle.std.proofs.lemmas.List.{length-map}
 use Rattle.std.specs.Ordering.{nat_cmp}
 use Rattle.std.specs.Cmp.{nat_cmp_total}
 use Rattle.std.specs.FinSet.{FinSet, empty, contains, difference, intersection, contains-difference, contains-intersection}
-use Rattle.volume_model.specs.Formula.{Formula, Children, member, at_least, no_child, child, dual_of, SpeaksOf, EachSpeaksOf}
-use Rattle.volume_model.specs.Lists.{any}
-use Rattle.volume_model.specs.Sets.{listed}
-use Rattle.volume_model.specs.Meets.{Meets}
-use Rattle.volume_model.specs.Plan.{has_member, is_fresh, IsAbove, IsCertified}
+use Rattle.volume_model.specs.Common.{Formula, Children, at_least, no_child, child, dual_of, SpeaksOf, EachSpeaksOf, any, listed, Meets, has_member, is_fresh, IsAbove, IsCertified, KeepsClaim, KeepsClaims, KeepsStepClaim, ClaimsCertify}
+use Rattle.volume_model.specs.Formula.{member}
 use Rattle.volume_model.specs.Plan.StandsAbove.{by_parent as is_parent, by_ancestor as is_ancestor}
-use Rattle.volume_model.specs.Claims.{KeepsClaim, KeepsClaims, KeepsStepClaim, ClaimsCertify}
-use Rattle.quorum_expr.specs.MemberSet.{all_members}
+use Rattle.quorum_expr.specs.Common.{all_members, expression_fault}
 use Rattle.quorum_expr.proofs.MemberSetLaws.{contains-all_members}
-use Rattle.quorum_expr.specs.Valid.{expression_fault}
 use Rattle.quorum_expr.proofs.ValidLaws.{below_64, HasCounts-from, SpeaksOf-from}
-use Rattle.refutation.specs.Rule.{Rule}
+use Rattle.refutation.specs.Common.{Rule}
 use Rattle.quorum_checker.specs.Refutes.{Refutes, State, claim_state}
 use Rattle.quorum_checker.specs.FirstFault.{first_fault}
 use Rattle.quorum_checker.specs.declared.fault.FaultAt.{FaultAt}

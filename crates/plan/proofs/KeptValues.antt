@@ -1,14 +1,13 @@
 -- What is written with other certificates spells the same values as what was read.
-use Rattle.std.proofs.Common.{◌≡◌, ℕ, suc, ◌+◌, ◌-◌, ◌*◌, ◌≤◌, ◌∙◌, List, [], ◌∷◌, drop, refl, ap, sym, subst, arith, Option, Some, Result, Ok}
-use Rattle.std.specs.Prelude.{true, IsOkAnd}
+use Rattle.std.proofs.Common.{◌≡◌, ℕ, suc, ◌+◌, ◌-◌, ◌*◌, ◌≤◌, ◌∙◌, List, [], ◌∷◌, drop, refl, ap, sym, subst, arith, Option, Some, Result, Ok, true, IsOkAnd}
 use Rattle.std.specs.Str.{IsUtf8}
 use Rattle.serde_json.specs.Data.{Data, Items, no_items, item, depth}
 use Rattle.serde_json.specs.Events.{items_len}
 use Rattle.serde_json.specs.Read.{read, max_depth}
 use Rattle.serde_json.specs.View.{items_of}
 use Rattle.volume_model.specs.declared.fault.Fault.{Fault}
-use Rattle.volume_model.specs.Answer.{◌>>=◌}
-use Rattle.refutation.specs.Rule.{Rule}
+use Rattle.volume_model.specs.Common.{◌>>=◌}
+use Rattle.refutation.specs.Common.{Rule}
 use Rattle.plan.specs.PlanData.{PlanData}
 use Rattle.plan.specs.PlanText.{Fields, fields_of, is_from_1, group_items, header_of, Header, json_of, value_of, plan_in}
 use Rattle.plan.specs.PlanClaims.{PlacedClaim, claims_in}

@@ -1,10 +1,9 @@
 -- Thresholds by the values at their keys.
-use Rattle.std.proofs.Common.{◌≡◌, ℕ, [], ◌∷◌, min, Option, Some, refl, sym, ap, arith}
-use Rattle.std.specs.Prelude.{codes}
+use Rattle.std.proofs.Common.{◌≡◌, ℕ, [], ◌∷◌, min, Option, Some, refl, sym, ap, arith, codes}
 use Rattle.serde_json.specs.Data.{Data, object, Members, no_members, member}
 use Rattle.serde_json.specs.Events.{members_len}
 use Rattle.serde_json.specs.Find.{get}
-use Rattle.quorum_expr.specs.Nodes.{keys_up_to}
+use Rattle.quorum_expr.specs.Common.{keys_up_to}
 use Rattle.quorum_expr.proofs.Exact.{exact}
 use Rattle.quorum_expr.proofs.Sorted.{IsInOrder}
 

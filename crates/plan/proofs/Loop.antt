@@ -2,7 +2,7 @@
 use Rattle.std.proofs.Common.{List, ◌++◌, Result, Ok}
 use Rattle.plan.specs.declared.fault.PlanFault.{PlanFault}
 use Rattle.volume_model.specs.declared.fault.Fault.{Fault}
-use Rattle.volume_model.specs.Answer.{◌>>=◌}
+use Rattle.volume_model.specs.Common.{◌>>=◌}
 use Rattle.plan.specs.PlanText.{◌>=>◌}
 
 -- what was read before, and what is still read

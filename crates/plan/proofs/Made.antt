@@ -1,23 +1,20 @@
 -- Values that a definition gives one after another, put in a list.
-use Rattle.std.proofs.Common.{◌≡◌, ℕ, ◌+◌, ◌-◌, ◌*◌, List, [], ◌∷◌, ◌++◌, drop, refl, ap, sym, subst, ◌∙◌, append_assoc, append-nil, Result, Ok, Err}
-use Rattle.std.specs.Prelude.{codes}
+use Rattle.std.proofs.Common.{◌≡◌, ℕ, ◌+◌, ◌-◌, ◌*◌, List, [], ◌∷◌, ◌++◌, drop, refl, ap, sym, subst, ◌∙◌, append_assoc, append-nil, Result, Ok, Err, codes, Option, option_map}
 use Rattle.json.specs.Token.{begin_array, end_array, end_object}
 use Rattle.json.specs.Written.{Written}
-use Rattle.std.specs.Prelude.{Option, option_map}
 use Rattle.std.specs.declared.alloc.Global.{Global}
 use Rattle.std.proofs.lemmas.List.{drop-map}
 use Rattle.serde_json.specs.Data.{Data, array, object, Items, no_items, item, no_members, member}
 use Rattle.serde_json.specs.Events.{items_len}
 use Rattle.serde_json.specs.View.{items_of}
 use Rattle.volume_model.specs.declared.fault.Fault.{Fault}
-use Rattle.volume_model.specs.Answer.{◌>>=◌}
+use Rattle.volume_model.specs.Common.{◌>>=◌}
 use Rattle.plan.specs.declared.formats.Format.{Format}
 use Rattle.plan.specs.declared.formats.Format.TheVariants.{Plain, Weighted, Growing}
 use Rattle.plan.specs.Formats.{number_of}
 use Rattle.plan.specs.PlanText.{Fields, fields_of, group_items, Header, header_of}
-use Rattle.refutation.specs.Writing.{number_data}
+use Rattle.refutation.specs.Common.{number_data, certificate_rule}
 use Rattle.plan.specs.Rewriting.{fields_object, meets_value, step_value, configuration_written, configurations_written, group_object, group_written, groups_written, plan_object, plan_written}
-use Rattle.refutation.specs.Certificate.{certificate_rule}
 use Rattle.refutation.specs.declared.certificate.Certificate.{Certificate}
 use Rattle.plan.specs.Certificates.{certificate_value, certificate_values}
 use Rattle.plan.specs.Puts.{Puts, PutsToken, PutsMember, Opens, Lists}

@@ -1,15 +1,12 @@
 -- Whether a plan names a member.
-use Rattle.std.proofs.Common.{◌≡◌, ℕ, zero, suc, ◌<◌, ◌≤◌, List, [], ◌∷◌, length, get_or, map, arith, refl, ap, ◌∙◌, sym, inl, inr}
-use Rattle.std.specs.Prelude.{Bool, true, false, ◌&&◌, ◌==◌, nat_lt}
+use Rattle.std.proofs.Common.{◌≡◌, ℕ, zero, suc, ◌<◌, ◌≤◌, List, [], ◌∷◌, length, get_or, map, arith, refl, ap, ◌∙◌, sym, inl, inr, Bool, true, false, ◌&&◌, ◌==◌, nat_lt}
 use Rattle.std.proofs.lemmas.Bool.{cases_lt}
 use Rattle.std.proofs.lemmas.Bool.Decides.{nat_tests}
 use Rattle.std.proofs.lemmas.List.{length-map, get_or_past}
 use Rattle.std.specs.Ordering.{nat_cmp}
 use Rattle.std.specs.FinSet.{contains, empty, contains-empty}
-use Rattle.volume_model.specs.Lists.{any, some_below}
-use Rattle.volume_model.specs.Sets.{listed}
+use Rattle.volume_model.specs.Common.{any, some_below, listed, has_member, is_full, is_named}
 use Rattle.volume_model.specs.Plan as model
-use Rattle.volume_model.specs.Plan.{has_member, is_full, is_named}
 use Rattle.plan.specs.declared.configurations.Group.{Group}
 use Rattle.plan.specs.declared.configurations.Plan.{Plan}
 use Rattle.plan.specs.declared.configurations.Configuration.{Configuration}

@@ -1,15 +1,12 @@
 -- The objects of certificates, put together from their keys and values.
-use Rattle.std.proofs.Common.{◌≡◌, ℕ, ◌∙◌, List, map, refl, ap, sym, subst, codes}
-use Rattle.std.specs.Prelude.{Vec, Box}
+use Rattle.std.proofs.Common.{◌≡◌, ℕ, ◌∙◌, List, map, refl, ap, sym, subst, codes, Vec, Box}
 use Rattle.json.specs.Token.{Token, begin_object, end_object}
 use Rattle.json.specs.Written.{Written}
 use Rattle.serde_json.specs.Data.{Data, string, array, object, Members, no_members, member, put}
 use Rattle.refutation.specs.declared.Side.{Side}
 use Rattle.refutation.specs.declared.Refutation.{Refutation}
 use Rattle.refutation.specs.declared.Refutation.TheVariants.{Dead, Clash, Open, Pick, Match, Split}
-use Rattle.refutation.specs.Rule.{branches_of}
-use Rattle.refutation.specs.Refutation.{rule_of}
-use Rattle.refutation.specs.Writing.{side_text, number_data, numbers_data, pairs_data, dead_data, clash_data, open_data, pick_data, match_data, split_data, certificate_data, branches_data}
+use Rattle.refutation.specs.Common.{branches_of, rule_of, side_text, number_data, numbers_data, pairs_data, dead_data, clash_data, open_data, pick_data, match_data, split_data, certificate_data, branches_data}
 use Rattle.refutation.proofs.Rules.{rule_of-Dead, rule_of-Clash, rule_of-Open, rule_of-Pick, rule_of-Match, rule_of-Split}
 use Rattle.plan.specs.Certificates.{pick_members, match_members, OpensTo, PutsBetween, PutsLast}
 use Rattle.plan.specs.Heads.{side_members, item_members}

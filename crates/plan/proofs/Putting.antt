@@ -1,6 +1,5 @@
 -- Values that were put behind the tokens of a writer, put together from their parts.
-use Rattle.std.proofs.Common.{◌≡◌, ℕ, ◌<◌, ◌≤◌, ◌^◌, List, [], ◌∷◌, ◌++◌, map, length, take, get_or, ◌+◌, Option, Some, None, refl, ap, sym, subst, ◌∙◌, arith, append-nil, append_assoc, decimal}
-use Rattle.std.specs.Prelude.{option_map, option_and_then, Result, Ok, Err, OnSome}
+use Rattle.std.proofs.Common.{◌≡◌, ℕ, ◌<◌, ◌≤◌, ◌^◌, List, [], ◌∷◌, ◌++◌, map, length, take, get_or, ◌+◌, Option, Some, None, refl, ap, sym, subst, ◌∙◌, arith, append-nil, append_assoc, decimal, option_map, option_and_then, Result, Ok, Err, OnSome}
 use Rattle.std.specs.Result.{result_ok}
 use Rattle.std.proofs.lemmas.List.{map-append, take_all, take_more}
 use Rattle.json.specs.Token.{Token, begin_object, end_object, begin_array, end_array}
@@ -13,7 +12,7 @@ use Rattle.serde_json.specs.Read.{of_json, of_items, of_members, number_of}
 use Rattle.serde_json.specs.Written.{outline, items_outline, members_outline, blank, blank_items, blank_members}
 use Rattle.serde_json.proofs.Numbers.{number_of-decimal}
 use Rattle.serde_json.proofs.Texts.{unless_float-number_of}
-use Rattle.refutation.specs.Writing.{number_data}
+use Rattle.refutation.specs.Common.{number_data}
 use Rattle.plan.specs.Puts.{Puts, PutsToken, PutsMember, Opens, open_tokens, all_tokens, IsOf, AreOf, Lists}
 use Rattle.plan.proofs.Joined.{joined}
 

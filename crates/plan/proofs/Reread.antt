@@ -1,17 +1,14 @@
 -- A plan that was written with other certificates is read as that plan.
-use Rattle.std.proofs.Common.{◌≡◌, ℕ, ◌<◌, ◌≤◌, ◌∙◌, max, List, codes, refl, ap, subst, arith, Option, Some, None, Result, Ok, Err, Ordering, Less, Equal, Greater}
-use Rattle.std.specs.Prelude.{Bool, true, false, if◌then◌else◌}
+use Rattle.std.proofs.Common.{◌≡◌, ℕ, ◌<◌, ◌≤◌, ◌∙◌, max, List, codes, refl, ap, subst, arith, Option, Some, None, Result, Ok, Err, Ordering, Less, Equal, Greater, Bool, true, false, if◌then◌else◌}
 use Rattle.std.specs.Ordering.{nat_cmp, match_ordering}
 use Rattle.std.specs.Cmp.Lexicographic.{slice_cmp}
 use Rattle.serde_json.specs.Data.{Data, array, object, Items, Members, no_members, member, depth, items_depth, members_depth}
 use Rattle.serde_json.specs.Find.{get, get_member}
 use Rattle.volume_model.specs.declared.fault.Fault.{Fault}
-use Rattle.volume_model.specs.Formula.{Formula}
-use Rattle.volume_model.specs.Answer.{◌>>=◌}
+use Rattle.volume_model.specs.Common.{Formula, ◌>>=◌}
 use Rattle.quorum_expr.specs.declared.form.Lists.{Lists}
-use Rattle.quorum_expr.specs.Reading.{found_or_malformed, at_key, expression_in}
-use Rattle.refutation.specs.Rule.{Rule}
-use Rattle.refutation.specs.Reading.{has_keys, array_of}
+use Rattle.quorum_expr.specs.Common.{found_or_malformed, at_key, expression_in}
+use Rattle.refutation.specs.Common.{Rule, has_keys, array_of}
 use Rattle.plan.specs.declared.fault.Quorum.TheVariants.{Read, Write}
 use Rattle.plan.specs.declared.fault.PlanFault.{PlanFault}
 use Rattle.plan.specs.PlanData.{ConfigurationData}

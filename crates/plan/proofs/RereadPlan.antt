@@ -1,6 +1,5 @@
 -- The configurations, groups and the whole of a plan that was written with other certificates are read as that plan's.
-use Rattle.std.proofs.Common.{◌≡◌, ℕ, zero, suc, ◌+◌, ◌-◌, ◌*◌, ◌<◌, ◌≤◌, ◌∙◌, List, [], ◌∷◌, length, map, drop, codes, refl, ap, sym, subst, arith, add-zero, Option, Some, None, Result, Ok, Err}
-use Rattle.std.specs.Prelude.{Bool, true, false, ◌==◌, nat_lt, if◌then◌else◌}
+use Rattle.std.proofs.Common.{◌≡◌, ℕ, zero, suc, ◌+◌, ◌-◌, ◌*◌, ◌<◌, ◌≤◌, ◌∙◌, List, [], ◌∷◌, length, map, drop, codes, refl, ap, sym, subst, arith, add-zero, Option, Some, None, Result, Ok, Err, Bool, true, false, ◌==◌, nat_lt, if◌then◌else◌}
 use Rattle.std.proofs.lemmas.List.{drop-map, drop-drop, get_or-drop}
 use Rattle.std.proofs.lemmas.Bool.Decides.{nat_tests}
 use Rattle.serde_json.specs.Data.{Data, null, Items, no_items, item, depth, items_depth}
@@ -8,10 +7,9 @@ use Rattle.serde_json.specs.Events.{items_len}
 use Rattle.serde_json.specs.View.{items_of}
 use Rattle.volume_model.specs.declared.fault.Fault.{Fault}
 use Rattle.volume_model.specs.declared.fault.Fault.TheVariants.{OverLimit}
-use Rattle.volume_model.specs.Answer.{◌>>=◌}
-use Rattle.quorum_expr.specs.Reading.{at_key, whole_of}
-use Rattle.refutation.specs.Rule.{Rule}
-use Rattle.refutation.specs.Reading.{has_keys, array_of}
+use Rattle.volume_model.specs.Common.{◌>>=◌}
+use Rattle.quorum_expr.specs.Common.{at_key, whole_of}
+use Rattle.refutation.specs.Common.{Rule, has_keys, array_of}
 use Rattle.plan.specs.declared.formats.Format.{Format}
 use Rattle.plan.specs.declared.formats.Format.TheVariants.{Plain, Weighted, Growing}
 use Rattle.plan.specs.Formats.{is_weighted, key_count}

@@ -1,15 +1,13 @@
 -- Writing a plan with other certificates, from text to text.
-use Rattle.std.proofs.Common.{◌≡◌, ℕ, ◌≤◌, ◌∙◌, List, length, refl, ap, sym, subst, arith, Option, Some, Ok, Err}
-use Rattle.std.specs.Prelude.{Bool, true, false, IsOkAnd, nat_le, if◌then◌else◌}
+use Rattle.std.proofs.Common.{◌≡◌, ℕ, ◌≤◌, ◌∙◌, List, length, refl, ap, sym, subst, arith, Option, Some, Ok, Err, Bool, true, false, IsOkAnd, nat_le, if◌then◌else◌}
 use Rattle.std.specs.Str.{IsUtf8, is_utf8}
 use Rattle.serde_json.specs.Data.{Data, null, object, depth}
 use Rattle.serde_json.specs.Read.{read, max_depth}
 use Rattle.serde_json.specs.Written.{has_float, compact_text}
 use Rattle.serde_json.proofs.Nesting.{depth-read}
 use Rattle.volume_model.specs.declared.fault.Fault.TheVariants.{Malformed, OverLimit}
-use Rattle.quorum_expr.specs.Reading.{found_or_malformed}
-use Rattle.refutation.specs.Rule.{Rule}
-use Rattle.refutation.specs.Reading.{form_of, certificate_in}
+use Rattle.quorum_expr.specs.Common.{found_or_malformed}
+use Rattle.refutation.specs.Common.{Rule, form_of, certificate_in}
 use Rattle.plan.specs.PlanData.{PlanData}
 use Rattle.plan.specs.PlanText.{◌>=>◌, in_text, certificate_or_null, json_of, value_of, plan_in, plan_of}
 use Rattle.plan.specs.PlanClaims.{PlacedClaim, claims_in}

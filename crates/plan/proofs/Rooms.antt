@@ -1,16 +1,11 @@
 -- Certificates whose numbers are in their ranges, which are read back.
-use Rattle.std.proofs.Common.{◌≡◌, ℕ, ◌≤◌, ◌∙◌, List, length, drop, take, map, Some, None, refl, ap, sym, subst, arith}
-use Rattle.std.specs.Prelude.{true, All, Box}
+use Rattle.std.proofs.Common.{◌≡◌, ℕ, ◌≤◌, ◌∙◌, List, length, drop, take, map, Some, None, refl, ap, sym, subst, arith, true, All, Box}
 use Rattle.std.proofs.lemmas.List.{drop_all, take_all}
 use Rattle.std.proofs.lemmas.List.Elements.{All-same}
 use Rattle.refutation.specs.declared.Side.{Side}
 use Rattle.refutation.specs.declared.Refutation.{Refutation}
 use Rattle.refutation.specs.declared.Refutation.TheVariants.{Dead, Clash, Open, Split}
-use Rattle.refutation.specs.Rule.{Rule, branches_of, depth_of}
-use Rattle.refutation.specs.Limits.{is_certificate}
-use Rattle.refutation.specs.Ranges.{HasRanges, EachHasRanges}
-use Rattle.refutation.specs.Refutation.{rule_of}
-use Rattle.refutation.specs.Writing.{certificate_data}
+use Rattle.refutation.specs.Common.{Rule, branches_of, depth_of, is_certificate, HasRanges, EachHasRanges, rule_of, certificate_data}
 use Rattle.refutation.proofs.Rules.{rule_of-Dead, rule_of-Clash, rule_of-Open, rule_of-Split}
 use Rattle.refutation.proofs.ReadBack.{certificate_in-written}
 use Rattle.refutation.proofs.Nests.{certificate-nests}

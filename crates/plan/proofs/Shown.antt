@@ -1,10 +1,9 @@
 -- The configuration that a lookup gives is the one that the model has there.
-use Rattle.std.proofs.Common.{◌≡◌, ℕ, ◌<◌, List, length, get_or, map, arith, ap, ◌∙◌, sym}
-use Rattle.std.specs.Prelude.{Option, Some, None}
+use Rattle.std.proofs.Common.{◌≡◌, ℕ, ◌<◌, List, length, get_or, map, arith, ap, ◌∙◌, sym, Option, Some, None}
 use Rattle.std.specs.Borrow.{Bor}
 use Rattle.std.specs.Slice.{IsItemAt}
 use Rattle.std.proofs.lemmas.List.{length-map}
-use Rattle.volume_model.specs.Sets.{listed}
+use Rattle.volume_model.specs.Common.{listed}
 use Rattle.plan.specs.declared.configurations.Configuration.{Configuration}
 use Rattle.plan.specs.declared.configurations.Group.{Group}
 use Rattle.plan.specs.declared.configurations.Plan.{Plan}

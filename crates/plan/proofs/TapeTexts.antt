@@ -1,6 +1,5 @@
 -- Plans of a tape's text.
-use Rattle.std.proofs.Common.{◌≡◌, ℕ, ◌≤◌, ◌∙◌, List, [], ◌∷◌, ◌++◌, length, map, refl, ap, ap₂, sym, subst, arith, Option, Some, None, Ok, Err}
-use Rattle.std.specs.Prelude.{All, nat_le, option_map, true}
+use Rattle.std.proofs.Common.{◌≡◌, ℕ, ◌≤◌, ◌∙◌, List, [], ◌∷◌, ◌++◌, length, map, refl, ap, ap₂, sym, subst, arith, Option, Some, None, Ok, Err, All, nat_le, option_map, true}
 use Rattle.std.specs.declared.alloc.Global.{Global}
 use Rattle.std.specs.Str.{IsUtf8}
 use Rattle.std.proofs.lemmas.Bool.Decides.{nat_tests}
@@ -12,8 +11,8 @@ use Rattle.serde_json.specs.Data.{Data}
 use Rattle.serde_json.specs.Read.{read}
 use Rattle.serde_json.specs.Written.{WritesValue}
 use Rattle.volume_model.specs.declared.fault.Fault.TheVariants.{Malformed}
-use Rattle.quorum_expr.specs.Reading.{found_or_malformed}
-use Rattle.refutation.specs.Certificate.{certificate_rule}
+use Rattle.quorum_expr.specs.Common.{found_or_malformed}
+use Rattle.refutation.specs.Common.{certificate_rule}
 use Rattle.refutation.specs.declared.certificate.Certificate.{Certificate}
 use Rattle.plan.specs.declared.fault.PlanFault.TheVariants.{Text}
 use Rattle.plan.specs.Kept.{KeepsValues}

@@ -1,13 +1,12 @@
 -- What a text spells, as JSON and as a plan.
-use Rattle.std.proofs.Common.{◌≡◌, ℕ, ◌<◌, ◌≤◌, List, length, Bool, true, false, Some, None, Ok, Err, refl, arith}
-use Rattle.std.specs.Prelude.{nat_le}
+use Rattle.std.proofs.Common.{◌≡◌, ℕ, ◌<◌, ◌≤◌, List, length, Bool, true, false, Some, None, Ok, Err, refl, arith, nat_le}
 use Rattle.std.proofs.lemmas.Bool.Decides.{nat_tests}
 use Rattle.std.specs.Str.{IsUtf8, is_utf8}
 use Rattle.std.proofs.lemmas.Str.{IsUtf8-from_is_utf8, is_utf8-from_IsUtf8}
 use Rattle.serde_json.specs.Data.{Data}
 use Rattle.serde_json.specs.Read.{read}
 use Rattle.volume_model.specs.declared.fault.Fault.TheVariants.{Malformed, OverLimit}
-use Rattle.quorum_expr.specs.Reading.{found_or_malformed}
+use Rattle.quorum_expr.specs.Common.{found_or_malformed}
 use Rattle.plan.specs.declared.fault.PlanFault.TheVariants.{Text}
 use Rattle.plan.specs.PlanText.{◌>=>◌, in_text, plan_in, json_of, value_of, plan_of}
 

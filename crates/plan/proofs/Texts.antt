@@ -1,6 +1,5 @@
 -- Texts that were put token by token, and certificates that are read back.
-use Rattle.std.proofs.Common.{◌≡◌, ℕ, zero, suc, ◌≤◌, List, [], ◌∷◌, ◌++◌, ap, sym, subst, ◌∙◌, arith, append-nil, Option, Some}
-use Rattle.std.specs.Prelude.{All, option_and_then, option_map}
+use Rattle.std.proofs.Common.{◌≡◌, ℕ, zero, suc, ◌≤◌, List, [], ◌∷◌, ◌++◌, ap, sym, subst, ◌∙◌, arith, append-nil, Option, Some, All, option_and_then, option_map}
 use Rattle.std.specs.declared.alloc.Global.{Global}
 use Rattle.std.specs.Str.{IsUtf8}
 use Rattle.std.proofs.lemmas.List.Elements.{All-head, All-tail}
@@ -16,7 +15,7 @@ use Rattle.serde_json.specs.Read.{of_json, read, max_depth}
 use Rattle.serde_json.specs.Written.{WritesValue}
 use Rattle.serde_json.proofs.Texts.{tokens_from_order, print-outline}
 use Rattle.refutation.specs.declared.certificate.Certificate.{Certificate}
-use Rattle.refutation.specs.Certificate.{certificate_rule}
+use Rattle.refutation.specs.Common.{certificate_rule}
 use Rattle.plan.specs.Rewriting.{value_or_null}
 use Rattle.plan.specs.Certificates.{certificate_values, IsReadBack}
 use Rattle.plan.specs.PutPlans.{IsTextOf}

@@ -1,7 +1,7 @@
 -- A valid expression is satisfied by the set of all members.
-use Rattle.std.proofs.Common.{◌≡◌, ℕ, ◌+◌, ◌≤◌, true, nat_le, if◌then◌else◌, refl, ap, subst, sym, arith}
-use Rattle.std.proofs.lemmas.Bool.{le-leb}
-use Rattle.volume_model.specs.Formula.{Formula, Children, Members, member, at_least, no_child, child, sat, weight_held, total_weight, HasCounts, EachHasCounts, SpeaksOf, EachSpeaksOf}
+use Rattle.std.proofs.Common.{◌≡◌, ◌+◌, ◌≤◌, true, refl, ap, subst, sym, le-leb}
+use Rattle.volume_model.specs.Common.{Formula, Children, Members, at_least, no_child, child, sat, weight_held, total_weight, HasCounts, EachHasCounts, SpeaksOf, EachSpeaksOf}
+use Rattle.volume_model.specs.Formula.{member}
 
 mutual
   -- a set that has each member that a valid expression names satisfies it

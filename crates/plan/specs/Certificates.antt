@@ -5,9 +5,7 @@ use Rattle.json.specs.Token.{Token, end_object}
 use Rattle.json.specs.Written.{Written}
 use Rattle.serde_json.specs.Data.{Data, null, array, depth, Members, no_members, member}
 use Rattle.refutation.specs.declared.Side.{Side}
-use Rattle.refutation.specs.Rule.{Rule}
-use Rattle.refutation.specs.Certificate.{certificate_rule}
-use Rattle.refutation.specs.Writing.{number_data, numbers_data, pairs_data, certificate_data}
+use Rattle.refutation.specs.Common.{Rule, certificate_rule, number_data, numbers_data, pairs_data, certificate_data}
 use Rattle.refutation.specs.declared.certificate.Certificate.{Certificate}
 use Rattle.plan.specs.PlanText.{certificate_or_null}
 use Rattle.plan.specs.Heads.{rule_first, side_members}

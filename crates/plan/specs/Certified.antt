@@ -1,6 +1,6 @@
 -- Certified plans, defined without the order in which faults are found.
 use Rattle.std.specs.Prelude.{◌≡◌, ℕ, ◌<◌, true, List, Option, Some, None, length}
-use Rattle.refutation.specs.Rule.{Rule}
+use Rattle.refutation.specs.Common.{Rule}
 use Rattle.quorum_checker.specs.Refutes.{State, Refutes}
 use Rattle.plan.specs.PlanData.{ConfigurationData, PlanData, group_at, configuration_at}
 use Rattle.plan.specs.PlanFaults.{is_good_parent, meets_claim, step_claim}

@@ -1,11 +1,9 @@
 -- The plan of the model for a checked plan.
 use Rattle.std.specs.Prelude.{◌≡◌, ◌≢◌, ℕ, ◌<◌, true, Option, Some, None, Result, Ok, Err}
 use Rattle.std.specs.Borrow.{Bor}
-use Rattle.volume_model.specs.Formula.{sat}
+use Rattle.volume_model.specs.Common.{sat, has_member, listed}
 use Rattle.volume_model.specs.Plan as model
-use Rattle.volume_model.specs.Plan.{has_member}
-use Rattle.volume_model.specs.Sets.{listed}
-use Rattle.quorum_expr.specs.Expr.{formula_of}
+use Rattle.quorum_expr.specs.Common.{formula_of}
 use Rattle.plan.specs.declared.configurations.Configuration.{Configuration}
 use Rattle.plan.specs.declared.configurations.Plan.{Plan}
 use Rattle.plan.specs.declared.fault.PlanFault.{PlanFault}

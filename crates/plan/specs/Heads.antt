@@ -2,7 +2,7 @@
 use Rattle.std.specs.Prelude.{ℕ, List, codes}
 use Rattle.serde_json.specs.Data.{string, Members, no_members, member}
 use Rattle.refutation.specs.declared.Side.{Side}
-use Rattle.refutation.specs.Writing.{side_text, number_data}
+use Rattle.refutation.specs.Common.{side_text, number_data}
 
 -- the key "rule" with the rule's name, and then others
 abbrev pub rule_first : List ℕ → Members → Members

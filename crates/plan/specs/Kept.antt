@@ -2,7 +2,7 @@
 use Rattle.std.specs.Prelude.{◌≡◌, ℕ, List, [], ◌∷◌, Result, Ok, IsOkAnd}
 use Rattle.serde_json.specs.Data.{Data, null, Items, no_items, item}
 use Rattle.volume_model.specs.declared.fault.Fault.{Fault}
-use Rattle.volume_model.specs.Answer.{◌>>=◌}
+use Rattle.volume_model.specs.Common.{◌>>=◌}
 use Rattle.plan.specs.declared.formats.Format.{Format}
 use Rattle.plan.specs.PlanText.{Fields, fields_of, group_items, header_of, json_of, value_of}
 

@@ -3,7 +3,7 @@ use Rattle.std.specs.Prelude.{◌≡◌, ℕ, Some, codes}
 use Rattle.json.specs.Written.{Written}
 use Rattle.serde_json.specs.Data.{Data, member, no_members}
 use Rattle.serde_json.specs.Find.{get}
-use Rattle.quorum_expr.specs.Nodes.{keys_up_to}
+use Rattle.quorum_expr.specs.Common.{keys_up_to}
 use Rattle.plan.specs.Puts.{Puts, Opens}
 
 -- An object was begun with the keys k and of and their values.

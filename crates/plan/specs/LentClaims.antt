@@ -2,8 +2,8 @@
 use Rattle.std.specs.Prelude.{List, Option, Some, None, is_some, map}
 use Rattle.std.specs.Borrow.{Bor}
 use Rattle.std.specs.FinSet.{difference}
-use Rattle.volume_model.specs.Formula.{dual_of}
-use Rattle.quorum_expr.specs.Expr.{formula_of}
+use Rattle.volume_model.specs.Common.{dual_of}
+use Rattle.quorum_expr.specs.Common.{formula_of}
 use Rattle.quorum_checker.specs.Refutes.{State, claim_state}
 use Rattle.plan.specs.declared.configurations.Configuration.{Configuration}
 use Rattle.plan.specs.declared.lent.ClaimRef.{ClaimRef}

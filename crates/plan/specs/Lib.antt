@@ -27,3 +27,4 @@ pub mod PutPlans
 pub mod Puts
 pub mod Rules
 pub mod Taped
+pub mod Common

@@ -1,7 +1,7 @@
 -- The data of a program's plan.
 use Rattle.std.specs.Prelude.{List, map, option_map}
-use Rattle.refutation.specs.Certificate.{certificate_rule}
-use Rattle.quorum_expr.specs.Expr.{formula_of}
+use Rattle.refutation.specs.Common.{certificate_rule}
+use Rattle.quorum_expr.specs.Common.{formula_of}
 use Rattle.plan.specs.declared.configurations.Configuration.{Configuration}
 use Rattle.plan.specs.declared.configurations.Group.{Group}
 use Rattle.plan.specs.declared.configurations.Plan.{Plan}

@@ -2,10 +2,10 @@
 use Rattle.std.specs.Prelude.{ℕ, zero, suc, ◌&&◌, nat_lt, if◌then◌else◌, Bool, true, List, [], length, Option, Some, None, slice_index_or}
 use Rattle.std.specs.Ordering.{nat_cmp}
 use Rattle.std.specs.FinSet.{FinSet, empty, contains}
-use Rattle.volume_model.specs.Formula.{Formula, Children, member, at_least, no_child, child}
-use Rattle.volume_model.specs.Sets.{listed}
+use Rattle.volume_model.specs.Common.{Formula, Children, at_least, no_child, child, listed}
+use Rattle.volume_model.specs.Formula.{member}
 use Rattle.volume_model.specs.Plan as model
-use Rattle.refutation.specs.Rule.{Rule}
+use Rattle.refutation.specs.Common.{Rule}
 use Rattle.plan.specs.declared.formats.Format.{Format}
 
 -- A configuration: its parent's number, its members and those that are full, its expressions, and the certificates of

@@ -1,8 +1,7 @@
 -- How a plan's fault is printed.
 use Rattle.std.specs.Prelude.{ℕ, List, ◌++◌, codes}
 use Rattle.std.specs.Fmt.{decimal}
-use Rattle.volume_model.specs.Names.{fault_text}
-use Rattle.volume_model.specs.Numbers.{number_of}
+use Rattle.volume_model.specs.Common.{fault_text, number_of}
 use Rattle.volume_model.specs.declared.fault.Fault.TheVariants as faults
 use Rattle.quorum_checker.specs.FaultText.{fault_at_text}
 use Rattle.plan.specs.declared.fault.PlanFault.{PlanFault}

@@ -2,9 +2,8 @@
 use Rattle.std.specs.Prelude.{◌≡◌, ◌≢◌, ◌==◌, ℕ, zero, suc, nat_lt, if◌then◌else◌, Bool, true, false, List, length, Option, Some, None, Result, Ok, Err, [], slice_get, slice_index_or}
 use Rattle.std.specs.Ordering.{nat_cmp}
 use Rattle.std.specs.FinSet.{FinSet, empty, difference}
-use Rattle.volume_model.specs.Formula.{dual_of}
-use Rattle.volume_model.specs.Sets.{listed}
-use Rattle.refutation.specs.Rule.{Rule}
+use Rattle.volume_model.specs.Common.{dual_of, listed}
+use Rattle.refutation.specs.Common.{Rule}
 use Rattle.quorum_checker.specs.declared.fault.FaultAt.{FaultAt}
 use Rattle.quorum_checker.specs.Refutes.{State, claim_state}
 use Rattle.quorum_checker.specs.FirstFault.{first_fault}

@@ -8,12 +8,10 @@ use Rattle.serde_json.specs.Events.{items_len}
 use Rattle.serde_json.specs.Read.{read}
 use Rattle.volume_model.specs.declared.fault.Fault.{Fault}
 use Rattle.volume_model.specs.declared.fault.Fault.TheVariants.{NoMemory, BadCount, TooDeep, NotAMember, Malformed, OverLimit}
-use Rattle.volume_model.specs.Answer.{◌>>=◌}
-use Rattle.volume_model.specs.Formula.{Formula}
+use Rattle.volume_model.specs.Common.{◌>>=◌, Formula}
 use Rattle.quorum_expr.specs.declared.form.Lists.{Lists}
-use Rattle.quorum_expr.specs.Reading.{found_or_malformed, at_key, whole_of, expression_in}
-use Rattle.refutation.specs.Rule.{Rule}
-use Rattle.refutation.specs.Reading.{has_keys, array_of, number_to, certificate_in}
+use Rattle.quorum_expr.specs.Common.{found_or_malformed, at_key, whole_of, expression_in}
+use Rattle.refutation.specs.Common.{Rule, has_keys, array_of, number_to, certificate_in}
 use Rattle.plan.specs.declared.fault.Quorum.{Quorum}
 use Rattle.plan.specs.declared.fault.Quorum.TheVariants.{Read, Write}
 use Rattle.plan.specs.declared.fault.PlanFault.{PlanFault}

@@ -8,14 +8,12 @@ use Rattle.serde_json.specs.Read.{read, max_depth}
 use Rattle.serde_json.specs.View.{items_of}
 use Rattle.serde_json.specs.Written.{has_float, compact_text}
 use Rattle.volume_model.specs.declared.fault.Fault.{Fault}
-use Rattle.volume_model.specs.Answer.{◌>>=◌}
-use Rattle.refutation.specs.Rule.{Rule}
-use Rattle.refutation.specs.Certificate.{certificate_rule}
+use Rattle.volume_model.specs.Common.{◌>>=◌}
+use Rattle.refutation.specs.Common.{Rule, certificate_rule, number_data}
 use Rattle.refutation.specs.declared.certificate.Certificate.{Certificate}
 use Rattle.plan.specs.Rewriting.{configurations_written, groups_written}
 use Rattle.plan.specs.declared.formats.Format.{Format}
 use Rattle.plan.specs.declared.formats.Format.TheVariants.{Plain, Weighted, Growing}
-use Rattle.refutation.specs.Writing.{number_data}
 use Rattle.plan.specs.Puts.{Puts, Opens}
 
 -- the rules of certificates

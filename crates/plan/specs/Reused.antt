@@ -1,7 +1,7 @@
 -- When a fresh member is reused, stated with the ancestors.
 use Rattle.std.specs.Prelude.{◌≡◌, ◌↔◌, ℕ, ◌<◌, ◌≤◌, true, false, List, Some, None}
 use Rattle.std.specs.FinSet.{contains}
-use Rattle.volume_model.specs.Plan.{StandsAbove}
+use Rattle.volume_model.specs.Common.{StandsAbove}
 use Rattle.plan.specs.declared.fault.PlanFault.TheVariants.{MemberReused}
 use Rattle.plan.specs.PlanData.{ConfigurationData, configuration_at, parent_at}
 use Rattle.plan.specs.PlanFaults.{reuse_fault}

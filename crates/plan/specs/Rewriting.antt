@@ -5,7 +5,7 @@ use Rattle.serde_json.specs.Data.{Data, null, unsigned, Items, no_items, item, n
 use Rattle.serde_json.specs.Events.{items_len}
 use Rattle.serde_json.specs.View.{items_of}
 use Rattle.volume_model.specs.declared.fault.Fault.{Fault}
-use Rattle.volume_model.specs.Answer.{◌>>=◌}
+use Rattle.volume_model.specs.Common.{◌>>=◌}
 use Rattle.plan.specs.declared.formats.Format.{Format}
 use Rattle.plan.specs.declared.formats.Format.TheVariants.{Plain, Weighted, Growing}
 use Rattle.plan.specs.Formats.{number_of}

@@ -2,10 +2,7 @@
 use Rattle.std.specs.Prelude.{List, map}
 use Rattle.serde_json.specs.Data.{Data, array}
 use Rattle.refutation.specs.declared.Refutation.{Refutation}
-use Rattle.refutation.specs.Rule.{branches_of}
-use Rattle.refutation.specs.Refutation.{rule_of}
-use Rattle.refutation.specs.Ranges.{EachHasRanges}
-use Rattle.refutation.specs.Writing.{certificate_data, branches_data}
+use Rattle.refutation.specs.Common.{branches_of, rule_of, EachHasRanges, certificate_data, branches_data}
 
 -- the JSON of a refutation
 abbrev pub rule_data : {A : Type 0} → Refutation A → Data

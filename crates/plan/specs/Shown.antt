@@ -1,6 +1,6 @@
 -- Claims, each with a rule that refutes it.
 use Rattle.std.specs.Prelude.{List, [], ◌∷◌, Option}
-use Rattle.refutation.specs.Rule.{Rule}
+use Rattle.refutation.specs.Common.{Rule}
 use Rattle.plan.specs.PlanClaims.{PlacedClaim}
 use Rattle.plan.specs.Certified.{IsShown}
 

@@ -1,7 +1,7 @@
 -- Views of the code's parts of a plan.
 use Rattle.std.specs.Prelude.{option_map}
 use Rattle.serde_json.specs.Data.{Data}
-use Rattle.quorum_expr.specs.Nodes.{items_in}
+use Rattle.quorum_expr.specs.Common.{items_in}
 use Rattle.plan.specs.declared.fields.Fields as declared
 use Rattle.plan.specs.declared.fields.TopFields as tops
 use Rattle.plan.specs.declared.fields.Header as headers

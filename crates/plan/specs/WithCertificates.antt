@@ -1,6 +1,6 @@
 -- A plan with other certificates for its claims.
 use Rattle.std.specs.Prelude.{ℕ, ◌+◌, List, [], ◌∷◌, drop, Option, None, slice_index_or}
-use Rattle.refutation.specs.Rule.{Rule}
+use Rattle.refutation.specs.Common.{Rule}
 use Rattle.plan.specs.PlanData.{ConfigurationData, PlanData, by_parent}
 
 -- the certificate at a place, if there is one

@@ -2,7 +2,7 @@
 
 ghost use Rattle.std.specs.Prelude.{◌<◌, OnSome, codes};
 ghost use Rattle.serde_json.specs.Data.{string, no_members};
-ghost use Rattle.refutation.specs.Writing.{side_text, number_data, dead_data, clash_data};
+ghost use Rattle.refutation.specs.Common.{side_text, number_data, dead_data, clash_data};
 ghost use Rattle.plan.specs.Rewriting.{value_or_null};
 ghost use Rattle.plan.specs.Heads.{side_members};
 ghost use Rattle.plan.specs.Puts.{Puts, PutsMember};

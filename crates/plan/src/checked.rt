@@ -1,6 +1,6 @@
 //! Plans that were checked.
 
-ghost use Rattle.std.specs.Prelude.{◌≡◌, None};
+ghost use Rattle.std.specs.Prelude.{◌≡◌, None, [], ◌&&◌, ◌≤◌, MatchOption, nat_lt};
 ghost use Rattle.plan.specs.PlanFaults.{plan_fault};
 ghost use Rattle.plan.specs.Plan.{plan_data};
 
@@ -16,11 +16,9 @@ pub struct CheckedPlan {
 }
 
 impl CheckedPlan {
-    ghost use Rattle.std.specs.Prelude.{[], ◌&&◌, ◌≤◌, MatchOption, nat_lt};
     ghost use Rattle.plan.specs.Plan.{group_data};
     ghost use Rattle.plan.specs.PlanData.{group_at};
-    ghost use Rattle.volume_model.specs.Plan.{IsCertified, has_member, is_full, is_named};
-    ghost use Rattle.volume_model.specs.Claims.{KeepsClaims};
+    ghost use Rattle.volume_model.specs.Common.{IsCertified, has_member, is_full, is_named, KeepsClaims};
     ghost use Rattle.plan.specs.CheckedModel.{checked_model, HasWriteSets, ShowsConfiguration};
 
     /// Wraps a plan that was found to have no fault.

@@ -1,10 +1,10 @@
 //! Checks plans.
 
-ghost use Rattle.std.specs.Prelude.{◌≡◌, ◌<◌, ◌≤◌, true, false, is_some, length, map, option_map};
+ghost use Rattle.std.specs.Prelude.{◌<◌, ◌≤◌, true, false, is_some, length, map, option_map};
 ghost use Rattle.std.specs.FinSet.{difference};
-ghost use Rattle.volume_model.specs.Formula.{dual_of};
-ghost use Rattle.quorum_expr.specs.Expr.{formula_of};
-ghost use Rattle.refutation.specs.Certificate.{certificate_rule};
+ghost use Rattle.volume_model.specs.Common.{dual_of};
+ghost use Rattle.quorum_expr.specs.Common.{formula_of};
+ghost use Rattle.refutation.specs.Common.{certificate_rule};
 ghost use Rattle.quorum_checker.specs.Refutes.{claim_state};
 ghost use Rattle.plan.specs.Plan.{configuration_data, group_data};
 ghost use Rattle.plan.specs.PlanFaults.{Finds, certificate_fault, claim_fault, meets_claim, configuration_fault, group_fault, groups_fault};

@@ -1,9 +1,7 @@
 //! Plans, their groups and configurations.
 
-ghost use Rattle.std.specs.Prelude.{◌≡◌, ◌≤◌, true, None, length};
-ghost use Rattle.volume_model.specs.Formula.{Formula};
-ghost use Rattle.quorum_expr.specs.Expr.{formula_of};
-ghost use Rattle.quorum_expr.specs.Valid.{expression_fault};
+ghost use Rattle.std.specs.Prelude.{◌≡◌, ◌≤◌, true, None, length, ◌&&◌, nat_lt};
+ghost use Rattle.quorum_expr.specs.Common.{formula_of, expression_fault};
 ghost use Rattle.plan.specs.PlanData.{names_only};
 
 use crate::formats::Format;
@@ -64,9 +62,8 @@ pub struct Plan {
 }
 
 impl Group {
-    ghost use Rattle.std.specs.Prelude.{◌&&◌, nat_lt};
     ghost use Rattle.std.specs.FinSet.{contains};
-    ghost use Rattle.volume_model.specs.Lists.{some_below};
+    ghost use Rattle.volume_model.specs.Common.{some_below};
     ghost use Rattle.plan.specs.PlanData.{configuration_at};
     ghost use Rattle.plan.specs.Plan.{group_data};
 

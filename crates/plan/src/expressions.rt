@@ -1,7 +1,7 @@
 //! Writes the expressions of a tape as they were read.
 
 ghost use Rattle.std.specs.Prelude.{OnSome};
-ghost use Rattle.quorum_expr.specs.Tapes.{data_of};
+ghost use Rattle.quorum_expr.specs.Common.{data_of};
 ghost use Rattle.plan.specs.Known.{EndsThreshold};
 ghost use Rattle.plan.specs.Puts.{Puts};
 

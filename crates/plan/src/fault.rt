@@ -1,6 +1,6 @@
 //! Why a plan is refused.
 
-ghost use Rattle.std.specs.Prelude.{◌≡◌};
+ghost use Rattle.std.specs.Prelude.{◌≡◌, Some};
 ghost use Rattle.plan.specs.FaultText.{claim_text, verdict_text};
 
 use quorum_checker::FaultAt;
@@ -57,7 +57,6 @@ pub enum PlanFault {
 }
 
 impl PlanFault {
-    ghost use Rattle.std.specs.Prelude.{◌≡◌};
     ghost use Rattle.plan.specs.FaultKinds.{is_input, kind_of};
 
     /// Returns the fault without its place.
@@ -83,7 +82,6 @@ impl PlanFault {
 }
 
 impl fmt::Display for Quorum {
-    ghost use Rattle.std.specs.Prelude.{Some};
     ghost use Rattle.plan.specs.FaultText.{quorum_text};
 
     ghost output = { λ quorum. Some (quorum_text quorum) };
@@ -104,7 +102,6 @@ struct Place {
 }
 
 impl fmt::Display for Place {
-    ghost use Rattle.std.specs.Prelude.{Some};
     ghost use Rattle.plan.specs.FaultText.{place_text};
 
     ghost output = { λ place. Some (place_text place.group place.configuration) };
@@ -132,7 +129,6 @@ fn verdict_name(input: bool) -> &'static str
 
 /// Writes the line that `check` prints.
 impl fmt::Display for PlanFault {
-    ghost use Rattle.std.specs.Prelude.{Some};
     ghost use Rattle.plan.specs.PlanFaultText.{plan_fault_text};
 
     ghost output = { λ fault. Some (plan_fault_text fault) };
@@ -212,7 +208,6 @@ impl fmt::Display for PlanFault {
 impl Error for PlanFault {}
 
 impl From<Fault> for PlanFault {
-    ghost use Rattle.std.specs.Prelude.{◌≡◌};
     ghost use Rattle.plan.specs.declared.fault.PlanFault.TheVariants.{Text};
 
     ghost from_gives = { λ f e. e ≡ Text f };
@@ -223,7 +218,6 @@ impl From<Fault> for PlanFault {
 }
 
 impl From<AllocError> for PlanFault {
-    ghost use Rattle.std.specs.Prelude.{◌≡◌};
     ghost use Rattle.volume_model.specs.declared.fault.Fault.TheVariants.{NoMemory};
     ghost use Rattle.plan.specs.declared.fault.PlanFault.TheVariants.{Text};
 
@@ -235,7 +229,6 @@ impl From<AllocError> for PlanFault {
 }
 
 impl<T: Drop> From<AllocFailed<T>> for PlanFault {
-    ghost use Rattle.std.specs.Prelude.{◌≡◌};
     ghost use Rattle.volume_model.specs.declared.fault.Fault.TheVariants.{NoMemory};
     ghost use Rattle.plan.specs.declared.fault.PlanFault.TheVariants.{Text};
 

@@ -1,7 +1,7 @@
 //! Laws about the faults of plans.
 
 ghost use Rattle.std.specs.Prelude.{◌≡◌, None, Ok, Option, List};
-ghost use Rattle.refutation.specs.Rule.{Rule};
+ghost use Rattle.refutation.specs.Common.{Rule};
 ghost use Rattle.plan.specs.PlanData.{PlanData};
 ghost use Rattle.plan.specs.PlanFaults.{plan_fault};
 ghost use Rattle.plan.specs.PlanClaims.{PlacedClaim, claims_in};

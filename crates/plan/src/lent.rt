@@ -1,12 +1,11 @@
 //! Claims that borrow their plan's expressions.
 
-ghost use Rattle.std.specs.Prelude.{Ok};
+ghost use Rattle.std.specs.Prelude.{Ok, ◌≡◌, ◌≢◌, Some, OnOk, IfErr};
 ghost use Rattle.std.specs.FinSet.{difference};
-ghost use Rattle.volume_model.specs.Answer.{Gives};
-ghost use Rattle.volume_model.specs.Formula.{dual_of};
-ghost use Rattle.quorum_expr.specs.Expr.{formula_of};
+ghost use Rattle.volume_model.specs.Common.{Gives, dual_of};
+ghost use Rattle.quorum_expr.specs.Common.{formula_of};
 ghost use Rattle.quorum_checker.specs.Claim.{first_state};
-ghost use Rattle.quorum_checker.specs.Refutes.{claim_state};
+ghost use Rattle.quorum_checker.specs.Refutes.{claim_state, Refutes};
 ghost use Rattle.plan.specs.Plan.{configuration_data};
 ghost use Rattle.plan.specs.PlanFaults.{meets_claim};
 
@@ -67,10 +66,8 @@ pub struct ClaimRef<'p> {
 }
 
 impl ClaimRef<'_> {
-    ghost use Rattle.std.specs.Prelude.{◌≡◌, ◌≢◌, Some, OnOk, IfErr};
     ghost use Rattle.volume_model.specs.declared.fault.Fault.TheVariants.{NoMemory};
-    ghost use Rattle.refutation.specs.Certificate.{certificate_rule};
-    ghost use Rattle.quorum_checker.specs.Refutes.{Refutes};
+    ghost use Rattle.refutation.specs.Common.{certificate_rule};
     ghost use Rattle.quorum_checker.specs.FirstFault.{first_fault};
     ghost use Rattle.plan.specs.LentClaims.{lent_state};
 

@@ -3,8 +3,7 @@
 ghost use Rattle.std.specs.Prelude.{◌≡◌, IfSome, OnSome, decimal};
 ghost use Rattle.json.specs.Token as token;
 ghost use Rattle.serde_json.specs.Data.{array, null, string};
-ghost use Rattle.refutation.specs.Ranges.{IsPairInRange};
-ghost use Rattle.refutation.specs.Writing.{number_data, numbers_data, pair_data, pairs_data};
+ghost use Rattle.refutation.specs.Common.{number_data, numbers_data, pair_data, pairs_data};
 ghost use Rattle.plan.specs.Puts.{Puts, PutsMember, PutsToken};
 
 use json::Writer;

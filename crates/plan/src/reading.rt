@@ -4,19 +4,13 @@ ghost use Rattle.std.specs.Prelude.{◌≡◌, ◌≤◌, ◌<◌, ◌+◌, true
 ghost use Rattle.std.specs.FinSet as set;
 ghost use Rattle.std.specs.FinSet.{is_subset};
 ghost use Rattle.serde_json.specs.Events.{items_len};
-ghost use Rattle.volume_model.specs.Answer.{Gives};
-ghost use Rattle.quorum_expr.specs.Expr.{formula_of};
-ghost use Rattle.quorum_expr.specs.Valid.{expression_fault};
-ghost use Rattle.quorum_expr.specs.Reading.{expression_in};
-ghost use Rattle.quorum_expr.specs.Nodes.{items_in};
-ghost use Rattle.refutation.specs.Certificate.{certificate_rule};
+ghost use Rattle.volume_model.specs.Common.{Gives};
+ghost use Rattle.quorum_expr.specs.Common.{formula_of, expression_fault, expression_in, items_in};
+ghost use Rattle.refutation.specs.Common.{certificate_rule};
 ghost use Rattle.plan.specs.PlanData.{names_only};
 ghost use Rattle.plan.specs.Plan.{configuration_data, group_data, plan_data};
 ghost use Rattle.plan.specs.TextForms.{fields_data, top_fields_data, header_data};
-ghost use Rattle.plan.specs.PlanText.{Reads, fields_of, parent_of, members_from, members_of, some_members_of, lists_of};
-ghost use Rattle.plan.specs.PlanText.{expression_error, in_quorum, certificate_or_null, step_of, configuration_in, configurations_in};
-ghost use Rattle.plan.specs.PlanText.{group_items, group_in, groups_in, group_list, lal_of, format_of};
-ghost use Rattle.plan.specs.PlanText.{born_field, top_fields_of, born_of, header_of, plan_in};
+ghost use Rattle.plan.specs.PlanText.{Reads, fields_of, parent_of, members_from, members_of, some_members_of, lists_of, expression_error, in_quorum, certificate_or_null, step_of, configuration_in, configurations_in, group_items, group_in, groups_in, group_list, lal_of, format_of, born_field, top_fields_of, born_of, header_of, plan_in};
 
 use crate::configurations::{Configuration, Group, Plan};
 use crate::fault::{PlanFault, Quorum};

@@ -1,9 +1,7 @@
 //! Bounds on the length of certificates' texts.
 
 ghost use Rattle.std.specs.Prelude.{◌≤◌, All, option_map};
-ghost use Rattle.refutation.specs.Refutation.{rule_of};
-ghost use Rattle.refutation.specs.Certificate.{certificate_rule};
-ghost use Rattle.refutation.specs.Ranges.{IsPairInRange, HasRanges};
+ghost use Rattle.refutation.specs.Common.{rule_of, certificate_rule, IsPairInRange, HasRanges};
 ghost use Rattle.plan.specs.Certificates.{IsReadBack};
 ghost use Rattle.plan.specs.Rules.{EachInRange};
 

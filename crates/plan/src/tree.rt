@@ -1,6 +1,6 @@
 //! The configurations of a checked plan as trees.
 
-ghost use Rattle.std.specs.Prelude.{◌≡◌, ◌+◌, ◌≤◌, map};
+ghost use Rattle.std.specs.Prelude.{◌≡◌, ◌+◌, ◌≤◌, map, ◌&&◌, ◌==◌, nat_lt};
 ghost use Rattle.plan.specs.PlanData.{epoch_within};
 ghost use Rattle.plan.specs.Plan.{configuration_data};
 
@@ -24,8 +24,7 @@ fn epoch_within(configurations: &[Configuration], steps: u8, number: u64) -> u32
 }
 
 impl CheckedPlan {
-    ghost use Rattle.std.specs.Prelude.{◌&&◌, ◌==◌, nat_lt};
-    ghost use Rattle.volume_model.specs.Plan.{epoch_of, parent_of, is_configuration};
+    ghost use Rattle.volume_model.specs.Common.{epoch_of, parent_of, is_configuration};
     ghost use Rattle.plan.specs.CheckedModel.{checked_model};
 
     /// Returns the membership epoch of a configuration: 1 for a root, one more than its parent's for a child.

@@ -1,8 +1,7 @@
 //! Writes the plan of a tape with other certificates.
 
 ghost use Rattle.std.specs.Prelude.{◌≡◌, ◌<◌, OnSome, drop};
-ghost use Rattle.quorum_expr.specs.Nodes.{items_in};
-ghost use Rattle.quorum_expr.specs.Tapes.{data_of};
+ghost use Rattle.quorum_expr.specs.Common.{items_in, data_of};
 ghost use Rattle.plan.specs.Rewriting.{fields_object, meets_value, step_value, configuration_written, group_written, plan_written};
 ghost use Rattle.plan.specs.TextForms.{fields_data};
 ghost use Rattle.plan.specs.Certificates.{certificate_values};

@@ -1,9 +1,8 @@
 -- A group with one configuration.
-use Rattle.std.proofs.Common.{◌≡◌, Bool, true, List, [], ◌∷◌, Result, Ok, Err, length, map, get_or, refl, subst, arith}
-use Rattle.std.specs.Prelude.{IfOk}
+use Rattle.std.proofs.Common.{◌≡◌, Bool, true, List, [], ◌∷◌, Result, Ok, Err, length, map, get_or, refl, subst, arith, IfOk}
 use Rattle.volume_model.specs.declared.fault.Fault.{Fault}
 use Rattle.plan.specs.declared.configurations.Configuration.{Configuration}
-use Rattle.plan.specs.Plan.{configuration_data}
+use Rattle.plan.specs.Common.{configuration_data}
 use Rattle.plan_edit.specs.declared.plan_words.PlanWords.{PlanWords}
 use Rattle.plan_edit.specs.NewPlans.{HasRoot, IsRoot}
 

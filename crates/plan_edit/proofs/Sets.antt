@@ -1,6 +1,5 @@
 -- Sets of members that include each other.
-use Rattle.std.proofs.Common.{◌≡◌, refl, sym}
-use Rattle.std.specs.Prelude.{Bool, true, false}
+use Rattle.std.proofs.Common.{◌≡◌, refl, sym, Bool, true, false}
 use Rattle.std.specs.Cmp.{nat_cmp_total}
 use Rattle.std.specs.Ordering.{nat_cmp}
 use Rattle.std.specs.FinSet.{FinSet, contains, is_subset, is_subset-contains}

@@ -1,8 +1,7 @@
 -- The data of configurations without certificates.
 use Rattle.std.specs.Prelude.{Some, None}
-use Rattle.quorum_expr.specs.Expr.{formula_of}
-use Rattle.plan.specs.Plan.{configuration_data}
-use Rattle.plan.specs.PlanData.{ConfigurationData}
+use Rattle.quorum_expr.specs.Common.{formula_of}
+use Rattle.plan.specs.Common.{configuration_data, ConfigurationData}
 use Rattle.plan.specs.declared.configurations.Configuration.{Configuration}
 use Rattle.plan_edit.specs.declared.drafts.Draft.{Draft}
 

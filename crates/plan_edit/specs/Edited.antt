@@ -1,8 +1,6 @@
 -- A plan with new configurations behind those that it had.
 use Rattle.std.specs.Prelude.{◌≡◌, ◌==◌, ◌<◌, ◌++◌, ℕ, if◌then◌else◌, List, [], length, map, None, Ok}
-use Rattle.plan.specs.PlanData.{ConfigurationData, PlanData, group_at}
-use Rattle.plan.specs.PlanText.{plan_of}
-use Rattle.plan.specs.PlanFaults.{plan_fault}
+use Rattle.plan.specs.Common.{ConfigurationData, PlanData, group_at, plan_of, plan_fault}
 use Rattle.plan_edit.specs.declared.replacement.Replacement.{Replacement}
 use Rattle.plan_edit.specs.Drafts.{uncertified}
 use Rattle.plan_edit.specs.Replaced.{added}

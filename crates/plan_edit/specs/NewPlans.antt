@@ -2,12 +2,10 @@
 use Rattle.std.specs.Prelude.{◌≡◌, ◌<◌, ◌≤◌, ℕ, Bool, true, false, List, [], ◌∷◌, length, get_or, None, Ok, slice_index_or}
 use Rattle.std.specs.Ordering.{nat_cmp}
 use Rattle.std.specs.FinSet.{FinSet, empty, contains, difference, remove}
-use Rattle.volume_model.specs.Formula.{Formula, Children, Members, member, at_least, no_child, child, sat}
-use Rattle.volume_model.specs.Sets.{listed}
+use Rattle.volume_model.specs.Common.{Formula, Children, Members, at_least, no_child, child, sat, listed}
+use Rattle.volume_model.specs.Formula.{member}
 use Rattle.quorum_checker.specs.Tolerance.{all_of, taken, left_by}
-use Rattle.plan.specs.PlanData.{ConfigurationData, PlanData, group_at, configuration_at}
-use Rattle.plan.specs.PlanText.{plan_of}
-use Rattle.plan.specs.PlanFaults.{plan_fault}
+use Rattle.plan.specs.Common.{ConfigurationData, PlanData, group_at, configuration_at, plan_of, plan_fault}
 use Rattle.plan_edit.specs.Renamed.{two_of}
 use Rattle.plan_edit.specs.declared.plan_words.PlanWords.{PlanWords}
 use Rattle.plan_edit.specs.declared.plan_words.Quorums.{Quorums}

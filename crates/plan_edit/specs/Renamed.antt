@@ -1,6 +1,7 @@
 -- Formulas in which a member was replaced.
 use Rattle.std.specs.Prelude.{ℕ, ◌==◌, if◌then◌else◌}
-use Rattle.volume_model.specs.Formula.{Formula, Children, member, at_least, no_child, child}
+use Rattle.volume_model.specs.Common.{Formula, Children, at_least, no_child, child}
+use Rattle.volume_model.specs.Formula.{member}
 
 -- the member that stands in a member's place
 abbrev pub renamed_member : ℕ → ℕ → ℕ → ℕ

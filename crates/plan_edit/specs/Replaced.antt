@@ -2,8 +2,7 @@
 use Rattle.std.specs.Prelude.{ℕ, ◌<◌, if◌then◌else◌, List, [], ◌∷◌, length, Some, None}
 use Rattle.std.specs.Ordering.{nat_cmp}
 use Rattle.std.specs.FinSet.{FinSet, contains, insert, remove}
-use Rattle.plan.specs.Plan.{plan_data}
-use Rattle.plan.specs.PlanData.{ConfigurationData, configuration_at, group_at}
+use Rattle.plan.specs.Common.{plan_data, ConfigurationData, configuration_at, group_at}
 use Rattle.plan.specs.declared.configurations.Plan.{Plan}
 use Rattle.plan_edit.specs.declared.replacement.Replacement.{Replacement}
 use Rattle.plan_edit.specs.Renamed.{renamed, two_of}

@@ -1,7 +1,7 @@
 //! Checks what is asked for, and what was made.
 
 ghost use Rattle.std.specs.Prelude.{◌≡◌, ◌<◌, IfOk, OnOk, length, map};
-ghost use Rattle.plan.specs.Plan.{configuration_data, plan_data};
+ghost use Rattle.plan.specs.Common.{configuration_data, plan_data};
 ghost use Rattle.plan_edit.specs.Drafts.{draft_data};
 ghost use Rattle.plan_edit.specs.Replaced.{HasNumbers, edited_group};
 ghost use Rattle.plan_edit.specs.Edited.{IsExtension};

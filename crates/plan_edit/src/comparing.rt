@@ -1,7 +1,7 @@
 //! Compares a new plan with the plan that it was made of.
 
 ghost use Rattle.std.specs.Prelude.{◌≡◌, ◌++◌, [], if◌then◌else◌, map, true};
-ghost use Rattle.plan.specs.Plan.{configuration_data, plan_data};
+ghost use Rattle.plan.specs.Common.{configuration_data, plan_data};
 ghost use Rattle.plan_edit.specs.Drafts.{bare, draft_data, uncertified};
 ghost use Rattle.plan_edit.specs.Edited.{Extends};
 

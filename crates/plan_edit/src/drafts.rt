@@ -1,9 +1,8 @@
 //! The configurations that a replacement adds to a group.
 
 ghost use Rattle.std.specs.Prelude.{◌≡◌, ◌<◌, ◌∷◌, [], Ok, length, map};
-ghost use Rattle.volume_model.specs.Answer.{Gives};
-ghost use Rattle.quorum_expr.specs.Expr.{formula_of};
-ghost use Rattle.plan.specs.Plan.{configuration_data};
+ghost use Rattle.volume_model.specs.Common.{Gives};
+ghost use Rattle.plan.specs.Common.{configuration_data};
 ghost use Rattle.plan_edit.specs.Drafts.{draft_data};
 ghost use Rattle.plan_edit.specs.Replaced.{HasNumbers, full_with, joint, swapped, back, stepped, added};
 

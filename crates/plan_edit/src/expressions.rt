@@ -1,8 +1,8 @@
 //! Expressions over members of which one was replaced.
 
 ghost use Rattle.std.specs.Prelude.{◌≡◌, Ok, true};
-ghost use Rattle.volume_model.specs.Answer.{Gives};
-ghost use Rattle.quorum_expr.specs.Expr.{formula_of};
+ghost use Rattle.volume_model.specs.Common.{Gives};
+ghost use Rattle.quorum_expr.specs.Common.{formula_of};
 ghost use Rattle.plan_edit.specs.Renamed.{renamed, renamed_member, two_of};
 
 use quorum_expr::{Expr, copy_in};

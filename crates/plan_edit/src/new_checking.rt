@@ -1,12 +1,10 @@
 //! Checks that a new plan is the one that was asked for.
 
-ghost use Rattle.std.specs.Prelude.{◌≡◌, [], IfOk, OnOk, get_or, length, map, true};
-ghost use Rattle.volume_model.specs.Formula.{at_least, child, no_child};
-ghost use Rattle.volume_model.specs.Sets.{listed};
-ghost use Rattle.quorum_expr.specs.Expr.{formula_of, weighed};
-ghost use Rattle.plan.specs.Plan.{configuration_data, plan_data};
-ghost use Rattle.plan_edit.specs.NewPlans.{counted, weighing, HasRoot, IsAsked, IsNew, IsRoot, IsWanted, Outlasts, OutlastsOne, OutlastsZones, OutlastsZonesAndOne};
-ghost use Rattle.plan_edit.specs.NewPlans.{tail_read, tail_write};
+ghost use Rattle.std.specs.Prelude.{◌≡◌, [], IfOk, OnOk, get_or, map, true};
+ghost use Rattle.volume_model.specs.Common.{at_least, child, no_child, listed};
+ghost use Rattle.quorum_expr.specs.Common.{formula_of, weighed};
+ghost use Rattle.plan.specs.Common.{configuration_data, plan_data};
+ghost use Rattle.plan_edit.specs.NewPlans.{counted, weighing, HasRoot, IsAsked, IsNew, IsRoot, IsWanted, Outlasts, OutlastsOne, OutlastsZones, OutlastsZonesAndOne, tail_read, tail_write};
 ghost use Rattle.plan_edit.specs.Renamed.{two_of};
 
 use crate::comparing::is_same_set;

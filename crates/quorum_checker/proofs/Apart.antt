@@ -1,17 +1,12 @@
 -- Two sets that are left of a claim's named members are a witness.
-use Rattle.std.proofs.Common.{◌≡◌, ◌∙◌, ℕ, zero, suc, ◌<◌, ◌≤◌, Bool, true, false, List, [], ◌∷◌, ◌++◌, refl, sym, ap, subst, inl, inr, arith, not}
-use Rattle.std.specs.Prelude.{◌&&◌, nat_lt, if◌then◌else◌}
+use Rattle.std.proofs.Common.{◌≡◌, ◌∙◌, ℕ, zero, suc, ◌<◌, ◌≤◌, Bool, true, false, List, [], ◌∷◌, ◌++◌, refl, sym, ap, subst, inl, inr, arith, not, ◌&&◌, nat_lt, if◌then◌else◌, lt-ltb}
 use Rattle.std.specs.Ordering.{nat_cmp}
 use Rattle.std.specs.Cmp.{nat_cmp_total}
 use Rattle.std.specs.FinSet.{FinSet, empty, contains, difference, contains-difference, contains-intersection}
-use Rattle.std.proofs.lemmas.Bool.{lt-ltb}
 use Rattle.std.proofs.lemmas.Bool.Decides.{nat_tests}
-use Rattle.volume_model.specs.Formula.{Formula, sat}
-use Rattle.volume_model.specs.Lists.{IsIn, each_below}
-use Rattle.volume_model.specs.Sets.{listed}
-use Rattle.quorum_expr.specs.MemberSet.{all_members}
+use Rattle.volume_model.specs.Common.{Formula, sat, IsIn, each_below, listed}
+use Rattle.quorum_expr.specs.Common.{all_members, formula_of}
 use Rattle.quorum_expr.proofs.MemberSetLaws.{contains-all_members}
-use Rattle.quorum_expr.specs.Expr.{formula_of}
 use Rattle.quorum_checker.specs.declared.claim.Claim.{Claim}
 use Rattle.quorum_checker.specs.Witness.{IsWitnessOf}
 use Rattle.quorum_checker.specs.declared.showing.Witness.{Witness}

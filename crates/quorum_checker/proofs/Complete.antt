@@ -1,16 +1,12 @@
 -- The cases of members refute a claim, or leave two sets that satisfy both sides.
-use Rattle.std.proofs.Common.{◌≡◌, ◌∙◌, ℕ, zero, suc, ◌+◌, ◌*◌, ◌^◌, ◌≤◌, Bool, true, false, List, [], ◌∷◌, refl, ap, subst, inl, inr, arith, length, lit≤}
+use Rattle.std.proofs.Common.{◌≡◌, ◌∙◌, ℕ, zero, suc, ◌+◌, ◌*◌, ◌^◌, ◌≤◌, Bool, true, false, List, [], ◌∷◌, refl, ap, subst, inl, inr, arith, length, lit≤, ◌⊎◌, ◌&&◌, ◌||◌, max, nat_lt, nat_eq, if◌then◌else◌, lt-ltb}
 use Rattle.std.proofs.Math.Nat.{pow-suc}
-use Rattle.std.specs.Prelude.{◌⊎◌, ◌&&◌, ◌||◌, max, nat_lt, nat_eq, if◌then◌else◌}
 use Rattle.std.specs.Ordering.{nat_cmp}
 use Rattle.std.specs.FinSet.{FinSet, contains, insert}
-use Rattle.std.proofs.lemmas.Bool.{lt-ltb}
 use Rattle.std.proofs.lemmas.Bool.Decides.{nat_tests}
-use Rattle.volume_model.specs.Formula.{Formula, sat}
-use Rattle.volume_model.specs.Lists.{IsIn}
+use Rattle.volume_model.specs.Common.{Formula, sat, IsIn}
 use Rattle.volume_model.proofs.Sets.{contains-put}
-use Rattle.refutation.specs.Rule.{Rule, dead, split, depth_of}
-use Rattle.refutation.specs.Limits.{nodes_of, keeps_lists}
+use Rattle.refutation.specs.Common.{Rule, dead, split, depth_of, nodes_of, keeps_lists}
 use Rattle.refutation.specs.declared.Side.TheVariants.{Left, Right}
 use Rattle.quorum_checker.specs.Refutes.{Refutes}
 use Rattle.quorum_checker.specs.Cases.{Cases, refuted, apart, present, ends, both, cases, state_of, AreSmall}

@@ -1,10 +1,8 @@
 -- What the cases of members say of a claim.
-use Rattle.std.proofs.Common.{◌≡◌, ◌∙◌, ℕ, zero, suc, ◌+◌, ◌-◌, ◌^◌, ◌≤◌, Bool, true, false, refl, sym, ap, subst, arith}
+use Rattle.std.proofs.Common.{◌≡◌, ◌∙◌, ℕ, zero, suc, ◌+◌, ◌-◌, ◌^◌, ◌≤◌, Bool, true, false, refl, sym, ap, subst, arith, ◌&&◌, nat_le}
 use Rattle.std.proofs.Math.Nat.{pow-suc}
-use Rattle.std.specs.Prelude.{◌&&◌, nat_le}
 use Rattle.std.proofs.lemmas.Bool.Decides.{nat_tests}
-use Rattle.refutation.specs.Rule.{Rule, depth_of}
-use Rattle.refutation.specs.Limits.{nodes_of, keeps_lists, is_certificate}
+use Rattle.refutation.specs.Common.{Rule, depth_of, nodes_of, keeps_lists, is_certificate}
 use Rattle.quorum_checker.specs.declared.claim.Claim.{Claim}
 use Rattle.quorum_checker.specs.Claim.{first_state}
 use Rattle.quorum_checker.specs.Refutes.{Refutes}

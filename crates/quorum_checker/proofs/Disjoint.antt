@@ -1,12 +1,10 @@
 -- Disjoint sets of members, by the test for a subset of the complement.
-use Rattle.std.proofs.Common.{◌≡◌, ◌∙◌, Bool, true, false, sym, ap, refl, not}
-use Rattle.std.specs.Prelude.{◌&&◌}
+use Rattle.std.proofs.Common.{◌≡◌, ◌∙◌, Bool, true, false, sym, ap, refl, not, ◌&&◌, lt-ltb}
 use Rattle.std.specs.Ordering.{nat_cmp}
 use Rattle.std.specs.FinSet.{FinSet, contains, difference, is_subset, contains-difference, is_subset-contains, contains-is_subset}
 use Rattle.std.specs.Cmp.{nat_cmp_total}
-use Rattle.std.proofs.lemmas.Bool.{lt-ltb}
-use Rattle.volume_model.specs.Meets.{AreDisjoint, AreMembers}
-use Rattle.quorum_expr.specs.MemberSet.{all_members}
+use Rattle.volume_model.specs.Common.{AreDisjoint, AreMembers}
+use Rattle.quorum_expr.specs.Common.{all_members}
 use Rattle.quorum_expr.proofs.MemberSetLaws.{contains-all_members}
 
 not_both : (p q : Bool) → (p && not q) ≡ true → q ≡ true → ⊥

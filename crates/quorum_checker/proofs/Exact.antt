@@ -1,16 +1,15 @@
 -- No fault means that the rule refutes.
-use Rattle.std.proofs.Common.{◌≡◌, ℕ, zero, suc, ◌+◌, ◌<◌, List, [], ◌∷◌, length, map, arith, refl, ap, ◌∙◌, sym}
-use mathlib.Core.Bool.{true≢false}
-use Rattle.std.specs.Prelude.{Bool, true, false, not, ◌&&◌, ◌||◌, ◌==◌, nat_eq, nat_lt, if◌then◌else◌, Option, Some, None, slice_get}
+use Rattle.std.proofs.Common.{◌≡◌, ℕ, zero, suc, ◌+◌, ◌<◌, List, [], ◌∷◌, length, map, arith, refl, ap, ◌∙◌, sym, true≢false, Bool, true, false, not, ◌&&◌, ◌||◌, ◌==◌, nat_eq, nat_lt, if◌then◌else◌, Option, Some, None, slice_get}
 use Rattle.std.specs.List.{list_any, IsDistinct, AllByRecursion}
 use Rattle.std.specs.FinSet.{contains, difference}
 use Rattle.std.proofs.lemmas.Bool.Decides.{nat_tests}
-use Rattle.volume_model.specs.Formula.{Formula, Children, member, at_least, sat, total_weight, formulas, each_weighs, EachWeighs}
+use Rattle.volume_model.specs.Common.{Formula, Children, at_least, sat, total_weight, formulas, each_weighs, EachWeighs}
+use Rattle.volume_model.specs.Formula.{member}
 use Rattle.volume_model.proofs.FormulaLaws.{EachWeighs-from, EachWeighs-to}
-use Rattle.quorum_expr.specs.MemberSet.{all_members}
+use Rattle.quorum_expr.specs.Common.{all_members}
 use Rattle.refutation.specs.declared.Side.{Side}
 use Rattle.refutation.specs.declared.Side.TheVariants.{Left, Right}
-use Rattle.refutation.specs.Rule.{Rule, Branches, dead, clash, open_all, pick, pair_up, split, no_branch, branch, branch_count}
+use Rattle.refutation.specs.Common.{Rule, Branches, dead, clash, open_all, pick, pair_up, split, no_branch, branch, branch_count}
 use Rattle.volume_model.specs.declared.fault.Fault.{Fault}
 use Rattle.volume_model.specs.declared.fault.Fault.TheVariants.{NotDead, NoClash, NotAll, TooFewPicked, BadPair, CountTooSmall, BranchCount}
 use Rattle.quorum_checker.specs.declared.fault.FaultAt.{FaultAt}

@@ -1,14 +1,10 @@
 -- Losses of members: how large they are, and what they leave.
-use Rattle.std.proofs.Common.{◌≡◌, ◌∙◌, ℕ, zero, suc, ◌+◌, ◌-◌, ◌<◌, ◌≤◌, Bool, true, false, List, [], ◌∷◌, refl, sym, ap, subst, inl, inr, arith, length, not, take, drop}
-use Rattle.std.specs.Prelude.{◌&&◌, ◌||◌, nat_eq, nat_lt, get_or, if◌then◌else◌, Option, Some, None, IfSome}
-use Rattle.std.proofs.lemmas.List.{length-append}
+use Rattle.std.proofs.Common.{◌≡◌, ◌∙◌, ℕ, zero, suc, ◌+◌, ◌-◌, ◌<◌, ◌≤◌, Bool, true, false, List, [], ◌∷◌, refl, sym, ap, subst, inl, inr, arith, length, not, take, drop, ◌&&◌, ◌||◌, nat_eq, nat_lt, get_or, if◌then◌else◌, Option, Some, None, IfSome, length-append}
 use Rattle.std.proofs.lemmas.Bool.Decides.{nat_tests}
 use Rattle.std.specs.Ordering.{nat_cmp}
 use Rattle.std.specs.Cmp.{nat_cmp_total}
 use Rattle.std.specs.FinSet.{FinSet, empty, insert, contains, difference, contains-empty, contains-difference}
-use Rattle.volume_model.specs.Formula.{Formula, Members, sat, HasCounts}
-use Rattle.volume_model.specs.Lists.{IsIn, each_below}
-use Rattle.volume_model.specs.Sets.{listed}
+use Rattle.volume_model.specs.Common.{Formula, Members, sat, HasCounts, IsIn, each_below, listed}
 use Rattle.volume_model.proofs.Sets.{contains-put}
 use Rattle.volume_model.proofs.FormulaLaws.{sat-some}
 use Rattle.quorum_checker.specs.Cases.{AreSmall}

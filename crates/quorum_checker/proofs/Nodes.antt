@@ -1,17 +1,14 @@
 -- The items of a node, by their formulas.
-use Rattle.std.proofs.Common.{◌≡◌, ℕ, zero, suc, ◌+◌, ◌<◌, ◌≤◌, List, [], ◌∷◌, arith, length, map, refl, ap, ◌∙◌, sym, subst}
-use Rattle.std.specs.Prelude.{Bool, true, false, not, ◌&&◌, nat_lt, Vec, Option, if◌then◌else◌, ◌==◌, None, Some, slice_get}
+use Rattle.std.proofs.Common.{◌≡◌, ℕ, zero, suc, ◌+◌, ◌<◌, ◌≤◌, List, [], ◌∷◌, arith, length, map, refl, ap, ◌∙◌, sym, subst, Bool, true, false, not, ◌&&◌, nat_lt, Vec, Option, if◌then◌else◌, ◌==◌, None, Some, slice_get, true≢false}
 use Rattle.std.specs.List.{list_any}
-use mathlib.Core.Bool.{true≢false}
 use Rattle.std.proofs.lemmas.Bool.Decides.{nat_tests}
 use Rattle.quorum_expr.specs.declared.expression.Expr.{Expr}
 use Rattle.quorum_expr.specs.declared.expression.Expr.TheVariants.{KOf}
-use Rattle.volume_model.specs.Formula.{Formula, member, at_least, total_weight, formulas, each_weighs, HasCounts}
-use Rattle.quorum_expr.specs.Expr.{formula_of, weighed}
-use Rattle.quorum_expr.specs.Forms.{formulas_of}
+use Rattle.volume_model.specs.Common.{Formula, at_least, total_weight, formulas, each_weighs, HasCounts}
+use Rattle.volume_model.specs.Formula.{member}
+use Rattle.quorum_expr.specs.Common.{formula_of, weighed, formulas_of, expression_fault}
 use Rattle.quorum_expr.proofs.Weighed.{length-weighed}
 use Rattle.quorum_expr.proofs.ExprLaws.{formula_of-KOf}
-use Rattle.quorum_expr.specs.Valid.{expression_fault}
 use Rattle.quorum_expr.proofs.ValidLaws.{HasCounts-from}
 use Rattle.volume_model.specs.declared.fault.Fault.{Fault}
 use Rattle.volume_model.specs.declared.fault.Fault.TheVariants.{NotAll, BadPair, TooFewPicked, CountTooSmall, BranchCount}

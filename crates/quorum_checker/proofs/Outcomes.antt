@@ -1,12 +1,10 @@
 -- What a check's outcome means.
-use Rattle.std.proofs.Common.{◌≡◌, ◌≢◌, ℕ, subst}
-use Rattle.std.specs.Prelude.{Ok, Err, Some, OnOk, IfErr}
+use Rattle.std.proofs.Common.{◌≡◌, ◌≢◌, ℕ, subst, Ok, Err, Some, OnOk, IfErr}
 use Rattle.std.specs.Ordering.{nat_cmp}
 use Rattle.std.specs.FinSet.{FinSet}
-use Rattle.volume_model.specs.Formula.{Formula}
-use Rattle.refutation.specs.Rule.{Rule, depth_of}
+use Rattle.volume_model.specs.Common.{Formula, Meets}
+use Rattle.refutation.specs.Common.{Rule, depth_of}
 use Rattle.volume_model.specs.declared.fault.Fault.TheVariants.{NoMemory}
-use Rattle.volume_model.specs.Meets.{Meets}
 use Rattle.quorum_checker.specs.Refutes.{State, Refutes, claim_state}
 use Rattle.quorum_checker.specs.FirstFault.{first_fault}
 use Rattle.quorum_checker.specs.Outcome.{Outcome, Answers}

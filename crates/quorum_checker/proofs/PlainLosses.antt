@@ -1,12 +1,10 @@
 -- What a threshold over different members that weigh one each survives.
-use Rattle.std.proofs.Common.{◌≡◌, ◌∙◌, ℕ, zero, suc, ◌+◌, ◌<◌, ◌≤◌, Bool, true, false, List, [], ◌∷◌, ◌++◌, refl, sym, ap, arith, length, not}
-use Rattle.std.specs.Prelude.{◌&&◌, ◌||◌, nat_eq, nat_lt, nat_le, if◌then◌else◌}
+use Rattle.std.proofs.Common.{◌≡◌, ◌∙◌, ℕ, zero, suc, ◌+◌, ◌<◌, ◌≤◌, Bool, true, false, List, [], ◌∷◌, ◌++◌, refl, sym, ap, arith, length, not, ◌&&◌, ◌||◌, nat_eq, nat_lt, nat_le, if◌then◌else◌}
 use Rattle.std.proofs.lemmas.Bool.Decides.{nat_tests}
 use Rattle.std.specs.Ordering.{nat_cmp}
 use Rattle.std.specs.FinSet.{FinSet, empty, insert, contains, difference, contains-empty}
-use Rattle.volume_model.specs.Formula.{Formula, Children, Members, member, at_least, no_child, child, formulas, sat, weight_held}
-use Rattle.volume_model.specs.Lists.{each_below}
-use Rattle.volume_model.specs.Sets.{listed}
+use Rattle.volume_model.specs.Common.{Formula, Children, Members, at_least, no_child, child, formulas, sat, weight_held, each_below, listed}
+use Rattle.volume_model.specs.Formula.{member}
 use Rattle.volume_model.proofs.Sets.{contains-put}
 use Rattle.quorum_checker.specs.PlainChildren.{are_plain}
 use Rattle.quorum_checker.specs.Tolerance.{all_of, count_of, left_by, taken, IsLeastLoss}

@@ -1,15 +1,13 @@
 -- What a rule answers where it is refused before its branches are checked.
-use Rattle.std.proofs.Common.{◌≡◌, ◌≢◌, ℕ, ◌+◌, ◌<◌, length, arith, ap, ◌∙◌, sym, subst}
-use Rattle.std.specs.Prelude.{Option, Some, None, Ok, Err}
+use Rattle.std.proofs.Common.{◌≡◌, ◌≢◌, ℕ, ◌+◌, ◌<◌, length, arith, ap, ◌∙◌, sym, subst, Option, Some, None, Ok, Err}
 use Rattle.std.specs.Result.{IsErrAnd}
-use Rattle.volume_model.specs.Formula.{Formula}
+use Rattle.volume_model.specs.Common.{Formula}
 use Rattle.volume_model.specs.declared.fault.Fault.{Fault}
 use Rattle.volume_model.specs.declared.fault.Fault.TheVariants.{NoMemory, NoSuchItem}
 use Rattle.refutation.specs.declared.Side.{Side}
 use Rattle.refutation.specs.declared.Refutation.{Refutation}
 use Rattle.refutation.specs.declared.Refutation.TheVariants.{Dead, Clash}
-use Rattle.refutation.specs.Rule.{Rule, dead, clash, depth_of}
-use Rattle.refutation.specs.Refutation.{rule_of}
+use Rattle.refutation.specs.Common.{Rule, dead, clash, depth_of, rule_of}
 use Rattle.refutation.proofs.Rules.{rule_of-Dead, rule_of-Clash}
 use Rattle.quorum_checker.specs.declared.fault.FaultAt.{FaultAt}
 use Rattle.quorum_checker.specs.Refutes.{State}

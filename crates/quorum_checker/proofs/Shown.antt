@@ -1,15 +1,14 @@
 -- What items stand for, and lists of them.
-use Rattle.std.proofs.Common.{◌≡◌, ℕ, zero, suc, ◌+◌, ◌-◌, ◌<◌, ◌≤◌, List, [], ◌∷◌, ◌++◌, length, take, map, get_or, arith, refl, ap, ◌∙◌, sym, append_assoc}
-use Rattle.std.specs.Prelude.{Bool, true, false, Vec, Some, remove, insert, slice_get, if◌then◌else◌}
+use Rattle.std.proofs.Common.{◌≡◌, ℕ, zero, suc, ◌+◌, ◌-◌, ◌<◌, ◌≤◌, List, [], ◌∷◌, ◌++◌, length, take, map, get_or, arith, refl, ap, ◌∙◌, sym, append_assoc, Bool, true, false, Vec, Some, remove, insert, slice_get, if◌then◌else◌}
 use Rattle.std.specs.Ordering.{nat_cmp}
-use Rattle.std.specs.FinSet.{FinSet}
-use Rattle.std.specs.FinSet.{insert as put}
+use Rattle.std.specs.FinSet.{FinSet, insert as put}
 use Rattle.std.proofs.Math.Seq.{take-append_seam}
 use Rattle.std.proofs.lemmas.List.{map_more}
-use Rattle.volume_model.specs.Formula.{Formula, member, at_least, total_weight, dual_of}
+use Rattle.volume_model.specs.Common.{Formula, at_least, total_weight, dual_of}
+use Rattle.volume_model.specs.Formula.{member}
 use Rattle.quorum_expr.specs.declared.expression.Expr.{Expr}
 use Rattle.quorum_expr.specs.declared.expression.Expr.TheVariants.{Member, KOf}
-use Rattle.quorum_expr.specs.Expr.{formula_of, weighed}
+use Rattle.quorum_expr.specs.Common.{formula_of, weighed}
 use Rattle.quorum_expr.proofs.ExprLaws.{formula_of-Member, formula_of-KOf}
 use Rattle.quorum_expr.proofs.Rebuilt.{dual_of-KOf}
 use Rattle.refutation.specs.declared.Side.{Side}

@@ -1,20 +1,18 @@
 -- What a rule refutes can't be.
-use Rattle.std.proofs.Common.{◌≡◌, ℕ, zero, suc, ◌+◌, ◌<◌, ◌≤◌, min, arith, refl, ap, ◌∙◌, sym, take, drop}
-use mathlib.Core.Bool.{true≢false}
-use Rattle.std.specs.Prelude.{Bool, true, false, not, ◌&&◌, ◌||◌, nat_eq, nat_lt, if◌then◌else◌, List, [], ◌∷◌, ◌++◌, map, remove, Some, slice_get}
+use Rattle.std.proofs.Common.{◌≡◌, ℕ, zero, suc, ◌+◌, ◌<◌, ◌≤◌, min, arith, refl, ap, ◌∙◌, sym, take, drop, true≢false, Bool, true, false, not, ◌&&◌, ◌||◌, nat_eq, nat_lt, if◌then◌else◌, List, [], ◌∷◌, ◌++◌, map, remove, Some, slice_get}
 use Rattle.std.specs.Ordering.{nat_cmp}
 use Rattle.std.specs.Cmp.{nat_cmp_total}
 use Rattle.std.specs.FinSet.{FinSet, empty, insert, contains, difference, contains-empty, contains-difference}
 use Rattle.std.proofs.lemmas.Bool.Decides.{nat_tests}
-use Rattle.volume_model.specs.Formula.{Formula, Children, Members, member, at_least, no_child, child, sat, weight_held, total_weight, formulas, weight_at, EachWeighs}
+use Rattle.volume_model.specs.Common.{Formula, Children, Members, at_least, no_child, child, sat, weight_held, total_weight, formulas, weight_at, EachWeighs, AreMembers, AreDisjoint, Meets}
+use Rattle.volume_model.specs.Formula.{member}
 use Rattle.volume_model.proofs.FormulaLaws.{sat_more, unheld, item, picked, unheld-sum, unheld-at, picked_le}
-use Rattle.quorum_expr.specs.MemberSet.{all_members}
+use Rattle.quorum_expr.specs.Common.{all_members}
 use Rattle.quorum_expr.proofs.MemberSetLaws.{contains-all_members}
 use Rattle.volume_model.proofs.Sets.{contains-put}
 use Rattle.refutation.specs.declared.Side.{Side}
 use Rattle.refutation.specs.declared.Side.TheVariants.{Left, Right}
-use Rattle.refutation.specs.Rule.{Rule, Branches, dead, clash, open_all, pick, pair_up, split, no_branch, branch}
-use Rattle.volume_model.specs.Meets.{AreMembers, AreDisjoint, Meets}
+use Rattle.refutation.specs.Common.{Rule, Branches, dead, clash, open_all, pick, pair_up, split, no_branch, branch}
 use Rattle.quorum_checker.specs.Refutes.{State, items_of, absent_of, replaced, paired, without, picked_weight, paired_weight, Refutes, RefutesPicked, RefutesPaired, claim_state}
 
 -- each of these holds

@@ -1,10 +1,9 @@
 -- The steps of the cases of members.
-use Rattle.std.proofs.Common.{◌≡◌, ◌∙◌, ℕ, suc, ◌-◌, ◌<◌, ◌≤◌, true, false, List, [], ◌∷◌, refl, sym, ap, arith, length, take, drop}
-use Rattle.std.specs.Prelude.{get_or, if◌then◌else◌}
+use Rattle.std.proofs.Common.{◌≡◌, ◌∙◌, ℕ, suc, ◌-◌, ◌<◌, ◌≤◌, true, false, List, [], ◌∷◌, refl, sym, ap, arith, length, take, drop, get_or, if◌then◌else◌}
 use Rattle.std.specs.Ordering.{nat_cmp}
 use Rattle.std.specs.FinSet.{FinSet, insert}
-use Rattle.volume_model.specs.Formula.{Formula, sat}
-use Rattle.refutation.specs.Rule.{Rule, dead, split}
+use Rattle.volume_model.specs.Common.{Formula, sat}
+use Rattle.refutation.specs.Common.{Rule, dead, split}
 use Rattle.refutation.specs.declared.Side.TheVariants.{Left, Right}
 use Rattle.quorum_checker.specs.Cases.{Cases, refuted, apart, present, ends, both, cases}
 

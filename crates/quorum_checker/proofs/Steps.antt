@@ -1,12 +1,10 @@
 -- The steps from branch to branch.
-use Rattle.std.proofs.Common.{◌≡◌, ◌≢◌, ℕ, ◌+◌, ◌<◌, ◌≤◌, List, [], ◌∷◌, length, get_or, drop, map, arith, ap, ◌∙◌, sym, subst, add-one, drop-cons}
+use Rattle.std.proofs.Common.{◌≡◌, ◌≢◌, ℕ, ◌+◌, ◌<◌, ◌≤◌, List, [], ◌∷◌, length, get_or, drop, map, arith, ap, ◌∙◌, sym, subst, add-one, drop-cons, Option, Some, None, Ok, Err, OnOk, IfErr, slice_get, true}
 use Rattle.std.proofs.lemmas.List.{drop_all}
-use Rattle.std.specs.Prelude.{Option, Some, None, Ok, Err, OnOk, IfErr, slice_get, true}
-use Rattle.volume_model.specs.Formula.{Formula}
+use Rattle.volume_model.specs.Common.{Formula}
 use Rattle.refutation.specs.declared.Side.{Side}
 use Rattle.refutation.specs.declared.Refutation.{Refutation}
-use Rattle.refutation.specs.Rule.{Rule, Branches, open_all, pick, pair_up, branches_of, branch_count, depth_of}
-use Rattle.refutation.specs.Refutation.{rule_of}
+use Rattle.refutation.specs.Common.{Rule, Branches, open_all, pick, pair_up, branches_of, branch_count, depth_of, rule_of}
 use Rattle.refutation.proofs.Rules.{branches_step}
 use Rattle.volume_model.specs.declared.fault.Fault.TheVariants.{NoMemory}
 use Rattle.quorum_checker.specs.declared.fault.FaultAt.{FaultAt}

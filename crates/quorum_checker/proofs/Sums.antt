@@ -1,8 +1,7 @@
 -- What the weights of children add up to, whatever their formulas are.
-use Rattle.std.proofs.Common.{◌≡◌, ℕ, zero, suc, ◌+◌, ◌<◌, ◌≤◌, List, [], ◌∷◌, length, get_or, map, min, arith, refl, ap, sym}
-use Rattle.std.specs.Prelude.{◌&&◌, nat_lt}
-use Rattle.volume_model.specs.Formula.{Formula, total_weight, formulas, weight_at, each_weighs}
-use Rattle.quorum_expr.specs.Expr.{weighed}
+use Rattle.std.proofs.Common.{◌≡◌, ℕ, zero, suc, ◌+◌, ◌<◌, ◌≤◌, List, [], ◌∷◌, length, get_or, map, min, arith, refl, ap, sym, ◌&&◌, nat_lt}
+use Rattle.volume_model.specs.Common.{Formula, total_weight, formulas, weight_at, each_weighs}
+use Rattle.quorum_expr.specs.Common.{weighed}
 use Rattle.quorum_checker.specs.Items.{bare}
 use Rattle.quorum_checker.specs.Refutes.{picked_weight, paired_weight}
 

@@ -2,9 +2,9 @@
 use Rattle.std.specs.Prelude.{ℕ, ◌<◌, if◌then◌else◌, List, [], ◌∷◌}
 use Rattle.std.specs.Ordering.{nat_cmp}
 use Rattle.std.specs.FinSet.{FinSet, contains, insert, difference}
-use Rattle.volume_model.specs.Formula.{Formula, Members, sat}
-use Rattle.quorum_expr.specs.MemberSet.{all_members}
-use Rattle.refutation.specs.Rule.{Rule, dead, split}
+use Rattle.volume_model.specs.Common.{Formula, Members, sat}
+use Rattle.quorum_expr.specs.Common.{all_members}
+use Rattle.refutation.specs.Common.{Rule, dead, split}
 use Rattle.refutation.specs.declared.Side.TheVariants.{Left, Right}
 use Rattle.quorum_checker.specs.Refutes.{State}
 

@@ -1,5 +1,5 @@
 -- The state in which the check of a claim begins.
-use Rattle.quorum_expr.specs.Expr.{formula_of}
+use Rattle.quorum_expr.specs.Common.{formula_of}
 use Rattle.quorum_checker.specs.declared.claim.Claim.{Claim}
 use Rattle.quorum_checker.specs.Refutes.{State, claim_state}
 

@@ -2,13 +2,9 @@
 use Rattle.std.specs.Prelude.{◌≡◌, ◌⊎◌, ℕ, true, false, length}
 use Rattle.std.specs.Ordering.{nat_cmp}
 use Rattle.std.specs.FinSet.{FinSet, contains, difference, intersection}
-use Rattle.volume_model.specs.Sets.{listed}
-use Rattle.volume_model.specs.Formula.{sat}
-use Rattle.quorum_expr.specs.Expr.{formula_of}
-use Rattle.refutation.specs.Rule.{Rule}
-use Rattle.refutation.specs.Limits.{is_certificate}
-use Rattle.refutation.specs.Refutation.{rule_of}
-use Rattle.refutation.specs.Certificate.{certificate_rule}
+use Rattle.volume_model.specs.Common.{listed, sat}
+use Rattle.quorum_expr.specs.Common.{formula_of}
+use Rattle.refutation.specs.Common.{Rule, is_certificate, rule_of, certificate_rule}
 use Rattle.quorum_checker.specs.declared.claim.Claim.{Claim}
 use Rattle.quorum_checker.specs.Claim.{first_state}
 use Rattle.quorum_checker.specs.Refutes.{Refutes}

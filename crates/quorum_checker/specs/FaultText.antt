@@ -1,6 +1,6 @@
 -- How a fault of a certificate is printed.
 use Rattle.std.specs.Prelude.{ℕ, List, ◌++◌, codes}
-use Rattle.volume_model.specs.Names.{fault_text}
+use Rattle.volume_model.specs.Common.{fault_text}
 use Rattle.quorum_checker.specs.declared.fault.FaultAt.{FaultAt}
 use Rattle.quorum_checker.specs.PathText.{path_text}
 

@@ -3,11 +3,12 @@ use Rattle.std.specs.Prelude.{ℕ, ◌+◌, Bool, true, not, ◌&&◌, ◌==◌,
 use Rattle.std.specs.List.{list_any}
 use Rattle.std.specs.Ordering.{nat_cmp}
 use Rattle.std.specs.FinSet.{FinSet, contains, difference}
-use Rattle.volume_model.specs.Formula.{Formula, member, at_least, sat, total_weight, formulas, each_weighs}
-use Rattle.quorum_expr.specs.MemberSet.{all_members}
+use Rattle.volume_model.specs.Common.{Formula, at_least, sat, total_weight, formulas, each_weighs}
+use Rattle.volume_model.specs.Formula.{member}
+use Rattle.quorum_expr.specs.Common.{all_members}
 use Rattle.refutation.specs.declared.Side.{Side}
 use Rattle.refutation.specs.declared.Side.TheVariants.{Left, Right}
-use Rattle.refutation.specs.Rule.{Rule, Branches, dead, clash, open_all, pick, pair_up, split, no_branch, branch, branch_count}
+use Rattle.refutation.specs.Common.{Rule, Branches, dead, clash, open_all, pick, pair_up, split, no_branch, branch, branch_count}
 use Rattle.volume_model.specs.declared.fault.Fault.{Fault}
 use Rattle.volume_model.specs.declared.fault.Fault.TheVariants.{NoSuchItem, NotDead, NoClash, NotAll, TooFewPicked, BadPair, CountTooSmall, BranchCount}
 use Rattle.quorum_checker.specs.declared.fault.FaultAt.{FaultAt}

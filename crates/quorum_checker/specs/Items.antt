@@ -1,8 +1,9 @@
 -- The formulas of a state's items.
-use Rattle.std.specs.Prelude.{◌≡◌, ℕ, Bool, if◌then◌else◌, List, length, map, Result, Ok, Err, Some, None, slice_get}
+use Rattle.std.specs.Prelude.{◌≡◌, ℕ, Bool, if◌then◌else◌, List, map, Result, Ok, Err, Some, None, slice_get}
 use Rattle.quorum_expr.specs.declared.expression.Expr.{Expr}
-use Rattle.volume_model.specs.Formula.{Formula, Children, member, at_least, total_weight, dual_of}
-use Rattle.quorum_expr.specs.Expr.{formula_of, weighed}
+use Rattle.volume_model.specs.Common.{Formula, Children, at_least, total_weight, dual_of}
+use Rattle.volume_model.specs.Formula.{member}
+use Rattle.quorum_expr.specs.Common.{formula_of, weighed}
 use Rattle.quorum_checker.specs.declared.item.Item.{Item}
 use Rattle.quorum_checker.specs.declared.item.Threshold.{Threshold}
 use Rattle.quorum_checker.specs.declared.items.Items.{Items}

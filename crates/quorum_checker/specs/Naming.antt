@@ -2,7 +2,8 @@
 use Rattle.std.specs.Prelude.{nat_lt, if◌then◌else◌}
 use Rattle.std.specs.Ordering.{nat_cmp}
 use Rattle.std.specs.FinSet.{FinSet, empty, insert, union}
-use Rattle.volume_model.specs.Formula.{Formula, Children, member, at_least, no_child, child}
+use Rattle.volume_model.specs.Common.{Formula, Children, at_least, no_child, child}
+use Rattle.volume_model.specs.Formula.{member}
 
 -- the members, below 64, that a formula names
 abbrev mutual

@@ -3,11 +3,12 @@ use Rattle.std.specs.Prelude.{◌≡◌, ℕ, ◌+◌, ◌<◌, min, false, List
 use Rattle.std.specs.List.{IsDistinct}
 use Rattle.std.specs.Ordering.{nat_cmp}
 use Rattle.std.specs.FinSet.{FinSet, empty, insert, contains, difference}
-use Rattle.volume_model.specs.Formula.{Formula, Children, member, at_least, sat, total_weight, formulas, weight_at, EachWeighs}
-use Rattle.quorum_expr.specs.MemberSet.{all_members}
+use Rattle.volume_model.specs.Common.{Formula, Children, at_least, sat, total_weight, formulas, weight_at, EachWeighs}
+use Rattle.volume_model.specs.Formula.{member}
+use Rattle.quorum_expr.specs.Common.{all_members}
 use Rattle.refutation.specs.declared.Side.{Side}
 use Rattle.refutation.specs.declared.Side.TheVariants.{Left, Right}
-use Rattle.refutation.specs.Rule.{Rule, Branches, dead, clash, open_all, pick, pair_up, split, no_branch, branch}
+use Rattle.refutation.specs.Common.{Rule, Branches, dead, clash, open_all, pick, pair_up, split, no_branch, branch}
 
 -- The items of both sides, and the members that are absent from each.
 pub record State : Type 0 where

@@ -2,9 +2,8 @@
 use Rattle.std.specs.Prelude.{◌≡◌, true}
 use Rattle.std.specs.Ordering.{nat_cmp}
 use Rattle.std.specs.FinSet.{FinSet, contains}
-use Rattle.volume_model.specs.Formula.{Formula, sat}
-use Rattle.volume_model.specs.Meets.{AreMembers, AreDisjoint}
-use Rattle.quorum_expr.specs.Expr.{formula_of}
+use Rattle.volume_model.specs.Common.{Formula, sat, AreMembers, AreDisjoint}
+use Rattle.quorum_expr.specs.Common.{formula_of}
 use Rattle.quorum_checker.specs.declared.claim.Claim.{Claim}
 use Rattle.quorum_checker.specs.declared.showing.Witness.{Witness}
 

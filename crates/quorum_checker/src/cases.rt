@@ -2,10 +2,10 @@
 
 ghost use Rattle.std.specs.Prelude.{◌≡◌, IfOk, IfErr};
 ghost use Rattle.volume_model.specs.declared.fault.Fault.TheVariants.{NoMemory};
-ghost use Rattle.quorum_expr.specs.Expr.{formula_of};
+ghost use Rattle.quorum_expr.specs.Common.{formula_of};
 ghost use Rattle.quorum_checker.specs.Cases.{AreSmall, both, cases, refuted};
 ghost use Rattle.refutation.specs.Rule as rules;
-ghost use Rattle.refutation.specs.Refutation.{rule_of};
+ghost use Rattle.refutation.specs.Common.{rule_of};
 ghost use Rattle.quorum_checker.specs.Decision.{cases_of};
 
 use crate::claim::Claim;

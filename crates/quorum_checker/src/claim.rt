@@ -1,8 +1,7 @@
 //! Claims, which certificates refute or not.
 
 ghost use Rattle.std.specs.Prelude.{◌≡◌, None};
-ghost use Rattle.quorum_expr.specs.Expr.{formula_of};
-ghost use Rattle.quorum_expr.specs.Valid.{expression_fault};
+ghost use Rattle.quorum_expr.specs.Common.{formula_of, expression_fault};
 
 use quorum_expr::{Expr, MemberSet};
 use std::alloc::Allocator;

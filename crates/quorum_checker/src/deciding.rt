@@ -3,7 +3,7 @@
 ghost use Rattle.std.specs.Prelude.{◌≡◌, ◌≤◌, IfErr, IfOk, IfSome};
 ghost use Rattle.volume_model.specs.declared.fault.Fault.TheVariants.{NoMemory};
 ghost use Rattle.quorum_checker.specs.Decision.{AreApart, IsCertifying, IsDecision, IsKnown, breadth, common};
-ghost use Rattle.refutation.specs.Refutation.{rule_of};
+ghost use Rattle.refutation.specs.Common.{rule_of};
 ghost use Rattle.quorum_checker.specs.Witness.{IsWitnessOf};
 
 use crate::cases::{Ended, split};

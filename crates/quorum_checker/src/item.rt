@@ -2,8 +2,8 @@
 
 ghost use Rattle.std.specs.Prelude.{◌≡◌, ◌<◌, ◌≤◌, ◌^◌, length, map, MatchOption, IfSome};
 ghost use Rattle.std.specs.FinSet.{contains};
-ghost use Rattle.volume_model.specs.Formula.{sat, dual_of};
-ghost use Rattle.quorum_expr.specs.Expr.{formula_of};
+ghost use Rattle.volume_model.specs.Common.{sat, dual_of};
+ghost use Rattle.quorum_expr.specs.Common.{formula_of};
 ghost use Rattle.quorum_checker.specs.Items.{shown, shown_as, IsMember, IsThreshold};
 ghost use Rattle.quorum_checker.specs.FirstFault.{children_of, place};
 

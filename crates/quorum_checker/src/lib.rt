@@ -5,11 +5,9 @@
 ghost use Rattle.std.specs.Prelude.{◌≡◌, ◌≢◌, None, Some, OnOk, IfErr};
 ghost use Rattle.std.specs.Ordering.{nat_cmp};
 ghost use Rattle.std.specs.FinSet.{FinSet};
-ghost use Rattle.volume_model.specs.Formula.{Formula};
-ghost use Rattle.volume_model.specs.Meets.{Meets};
-ghost use Rattle.quorum_expr.specs.Expr.{formula_of};
-ghost use Rattle.refutation.specs.Rule.{Rule};
-ghost use Rattle.refutation.specs.Certificate.{certificate_rule};
+ghost use Rattle.volume_model.specs.Common.{Formula, Meets};
+ghost use Rattle.quorum_expr.specs.Common.{formula_of};
+ghost use Rattle.refutation.specs.Common.{Rule, certificate_rule};
 ghost use Rattle.quorum_checker.specs.Refutes.{Refutes, State, claim_state};
 ghost use Rattle.quorum_checker.specs.Claim.{first_state};
 ghost use Rattle.quorum_checker.specs.FirstFault.{first_fault};

@@ -1,8 +1,8 @@
 //! The members that an expression names.
 
 ghost use Rattle.std.specs.Prelude.{◌≡◌, IfOk, IfErr};
-ghost use Rattle.volume_model.specs.Sets.{listed};
-ghost use Rattle.quorum_expr.specs.Expr.{formula_of};
+ghost use Rattle.volume_model.specs.Common.{listed};
+ghost use Rattle.quorum_expr.specs.Common.{formula_of};
 ghost use Rattle.quorum_checker.specs.Naming.{named};
 ghost use Rattle.volume_model.specs.declared.fault.Fault.TheVariants.{NoMemory};
 

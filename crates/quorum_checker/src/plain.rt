@@ -2,7 +2,7 @@
 
 ghost use Rattle.std.specs.Prelude.{◌≡◌, IfSome, true};
 ghost use Rattle.std.specs.FinSet.{empty};
-ghost use Rattle.quorum_expr.specs.Expr.{formula_of, weighed};
+ghost use Rattle.quorum_expr.specs.Common.{formula_of, weighed};
 ghost use Rattle.quorum_checker.specs.PlainChildren.{are_plain};
 ghost use Rattle.quorum_checker.specs.Tolerance.{IsLeastLoss};
 

@@ -1,8 +1,7 @@
 //! The check of a refutation, rule by rule.
 
 ghost use Rattle.std.specs.Prelude.{◌≡◌, ◌+◌, ◌<◌, ◌≤◌, map, OnOk};
-ghost use Rattle.refutation.specs.Rule.{dead, clash, open_all, pick, pair_up, branches_of, depth_of, HasLimits};
-ghost use Rattle.refutation.specs.Refutation.{rule_of};
+ghost use Rattle.refutation.specs.Common.{dead, clash, open_all, pick, pair_up, branches_of, depth_of, HasLimits, rule_of};
 ghost use Rattle.quorum_checker.specs.Items.{state_of};
 ghost use Rattle.quorum_checker.specs.Refutes.{without};
 ghost use Rattle.quorum_checker.specs.FirstFault.{first_fault, under};

@@ -3,9 +3,8 @@
 ghost use Rattle.std.specs.Prelude.{◌≡◌, true};
 ghost use Rattle.std.specs.Ordering.{nat_cmp};
 ghost use Rattle.std.specs.FinSet.{FinSet, contains};
-ghost use Rattle.volume_model.specs.Meets.{AreDisjoint, AreMembers};
-ghost use Rattle.volume_model.specs.Formula.{Formula};
-ghost use Rattle.refutation.specs.Rule.{Rule};
+ghost use Rattle.volume_model.specs.Common.{AreDisjoint, AreMembers, Formula};
+ghost use Rattle.refutation.specs.Common.{Rule};
 ghost use Rattle.quorum_checker.specs.Refutes.{Refutes, claim_state};
 ghost use Rattle.quorum_checker.specs.Witness.{IsWitness, IsWitnessOf};
 

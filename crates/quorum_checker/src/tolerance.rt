@@ -3,8 +3,7 @@
 ghost use Rattle.std.specs.Prelude.{◌≡◌, ℕ, ◌+◌, ◌<◌, ◌≤◌, None, IfErr, IfNone, IfOk, IfSome, IsSome, length};
 ghost use Rattle.std.specs.FinSet.{contains, difference, insert};
 ghost use Rattle.volume_model.specs.declared.fault.Fault.TheVariants.{NoMemory};
-ghost use Rattle.quorum_expr.specs.Expr.{formula_of};
-ghost use Rattle.quorum_expr.specs.Valid.{expression_fault};
+ghost use Rattle.quorum_expr.specs.Common.{formula_of, expression_fault};
 ghost use Rattle.quorum_checker.specs.Cases.{AreSmall};
 ghost use Rattle.quorum_checker.specs.Tolerance.{IsLeastAfter, IsLeastLoss, IsLoss, all_of, count_of, evaluations, is_stopping};
 

@@ -1,7 +1,7 @@
 //! Sums of the weights of children.
 
 ghost use Rattle.std.specs.Prelude.{◌≡◌, ◌≤◌, ◌*◌, length};
-ghost use Rattle.volume_model.specs.Formula.{total_weight, each_weighs, weight_at};
+ghost use Rattle.volume_model.specs.Common.{total_weight, each_weighs, weight_at};
 ghost use Rattle.quorum_checker.specs.Items.{bare};
 ghost use Rattle.quorum_checker.specs.Refutes.{picked_weight, paired_weight};
 

@@ -1,7 +1,7 @@
 -- The formulas of members and of thresholds.
-use Rattle.std.proofs.Common.{◌≡◌, ℕ, map, rules, ap, ◌∙◌}
-use Rattle.std.specs.Prelude.{Vec}
-use Rattle.volume_model.specs.Formula.{member, at_least}
+use Rattle.std.proofs.Common.{◌≡◌, ℕ, map, rules, ap, ◌∙◌, Vec}
+use Rattle.volume_model.specs.Common.{at_least}
+use Rattle.volume_model.specs.Formula.{member}
 use Rattle.quorum_expr.specs.declared.expression.Expr.{Expr}
 use Rattle.quorum_expr.specs.declared.expression.Expr.TheVariants.{Member, KOf}
 use Rattle.quorum_expr.specs.declared.expression.Expr.TheFolds.{the_lemmas}

@@ -3,7 +3,7 @@ use Rattle.std.proofs.Common.{◌≡◌, sym, subst, Result, Ok, Err}
 use Rattle.std.specs.Result.{IsErrAnd}
 use Rattle.volume_model.specs.declared.fault.Fault.{Fault}
 use Rattle.volume_model.specs.declared.fault.Fault.TheVariants.{NoMemory}
-use Rattle.volume_model.specs.Answer.{Fails, Gives}
+use Rattle.volume_model.specs.Common.{Fails, Gives}
 use Rattle.quorum_expr.proofs.Levels.{Fails-at}
 
 -- running out of memory fits each definition

@@ -1,7 +1,6 @@
 -- The weights of the children that hold, added up one after the other.
-use Rattle.std.proofs.Common.{◌≡◌, ℕ, ◌+◌, ◌-◌, ◌*◌, ◌==◌, ◌<◌, ◌≤◌, List, length, get_or, drop, arith, ap, ◌∙◌, sym}
-use Rattle.std.specs.Prelude.{true, false, nat_le, nat_lt, if◌then◌else◌, Vec}
-use Rattle.volume_model.specs.Formula.{Formula, Members, sat, weight_held, total_weight, dual_of}
+use Rattle.std.proofs.Common.{◌≡◌, ℕ, ◌+◌, ◌-◌, ◌*◌, ◌==◌, ◌<◌, ◌≤◌, List, length, get_or, drop, arith, ap, ◌∙◌, sym, true, false, nat_le, nat_lt, if◌then◌else◌, Vec}
+use Rattle.volume_model.specs.Common.{Formula, Members, sat, weight_held, total_weight, dual_of}
 use Rattle.quorum_expr.specs.declared.expression.Expr.{Expr}
 use Rattle.quorum_expr.specs.declared.expression.Expr.TheVariants.{Member, KOf}
 use Rattle.quorum_expr.specs.Expr.{formula_of, weighed}

@@ -3,7 +3,7 @@ use Rattle.std.proofs.Common.{◌≡◌, ◌<◌, ℕ, zero, suc, List, map, Res
 use Rattle.serde_json.specs.Data.{Data}
 use Rattle.volume_model.specs.declared.fault.Fault.{Fault}
 use Rattle.volume_model.specs.declared.fault.Fault.TheVariants.{NoMemory, TooDeep}
-use Rattle.volume_model.specs.Answer.{Fails}
+use Rattle.volume_model.specs.Common.{Fails}
 use Rattle.volume_model.specs.Formula.{member}
 use Rattle.quorum_expr.specs.declared.form.Lists.{Lists}
 use Rattle.quorum_expr.specs.Reading.{members_at, Form, form_of, formula_from, formula_at}

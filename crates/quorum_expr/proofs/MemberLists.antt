@@ -1,19 +1,16 @@
 -- The members of a set one after the other.
-use Rattle.std.proofs.Common.{◌≡◌, ℕ, zero, suc, ◌+◌, ◌*◌, ◌<◌, ◌≤◌, arith, refl, ap, ◌∙◌, sym, add-one, append_assoc}
-use Rattle.std.proofs.Common.{length-append}
-use Rattle.std.specs.Prelude.{count_ones, length, map, Bool, true, false, not, nat_eq, nat_lt, ◌^◌, ◌&&◌, if◌then◌else◌, ◌-◌, List, [], ◌∷◌, ◌++◌, slice_get, Some, None, IsTrue, ◌↔◌}
+use Rattle.std.proofs.Common.{◌≡◌, ℕ, zero, suc, ◌+◌, ◌*◌, ◌<◌, ◌≤◌, arith, refl, ap, ◌∙◌, sym, add-one, append_assoc, length-append, count_ones, length, map, Bool, true, false, not, nat_eq, nat_lt, ◌^◌, ◌&&◌, if◌then◌else◌, ◌-◌, List, [], ◌∷◌, ◌++◌, slice_get, Some, None, IsTrue, ◌↔◌, true≢false}
 use Rattle.std.specs.Ordering.{nat_cmp}
 use Rattle.std.specs.Cmp.{nat_cmp_total, unsigned_tied}
 use Rattle.std.specs.FinSet.{FinSet, empty, contains, difference, is_subset, remove, contains-remove, contains-empty, contains-difference, contains-is_subset, is_subset-contains}
-use Rattle.volume_model.specs.Formula.{member, each_once}
-use Rattle.volume_model.specs.Lists.{each_below}
+use Rattle.volume_model.specs.Common.{each_once, each_below, listed}
+use Rattle.volume_model.specs.Formula.{member}
 use Rattle.quorum_expr.specs.declared.expression.Expr.{Expr}
 use Rattle.quorum_expr.specs.declared.expression.Expr.TheVariants.{Member}
 use Rattle.quorum_expr.specs.Expr.{formula_of}
 use Rattle.quorum_expr.proofs.ExprLaws.{formula_of-Member}
 use Rattle.quorum_expr.specs.Forms.{formulas_of}
 use Rattle.quorum_expr.specs.Valid.{nodes, row_nodes}
-use Rattle.volume_model.specs.Sets.{listed}
 use Rattle.quorum_expr.specs.MemberSetBits.{contains-members_of, bits_of-members_of}
 use Rattle.quorum_expr.proofs.MemberSetLaws.{same_members}
 use Rattle.quorum_expr.specs.MemberSet.{members_of, bits_below, bits_of}
@@ -23,7 +20,6 @@ use lib.Count.{ones-ones}
 use Rattle.std.specs.Int.{bit_at, trailing_zeros, w64}
 use Rattle.std.proofs.lemmas.Nat.Bits.{bit_at-trailing_zeros}
 use Rattle.std.proofs.lemmas.Bool.Decides.{nat_tests}
-use mathlib.Core.Bool.{true≢false}
 
 -- one more number
 pub one_more : {A : Type 0} (n : ℕ) (test : ℕ → Bool) (f : ℕ → A) → test n ≡ true → each_below (n + 1) test f ≡ each_below n test f ++ f n ∷ []

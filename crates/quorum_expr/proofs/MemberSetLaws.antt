@@ -1,7 +1,6 @@
 -- What operations on bits do to the sets that they stand for.
-use Rattle.std.proofs.Common.{◌≡◌, ◌≢◌, ℕ, zero, suc, ◌*◌, ◌%◌, ◌^◌, ◌<◌, arith, refl, ap, ◌∙◌, sym}
+use Rattle.std.proofs.Common.{◌≡◌, ◌≢◌, ℕ, zero, suc, ◌*◌, ◌%◌, ◌^◌, ◌<◌, arith, refl, ap, ◌∙◌, sym, Bool, true, false, not, ◌&&◌, ◌||◌, nat_eq, nat_lt, ◌-◌, bit_or, bit_and, min, max}
 use Rattle.std.proofs.Math.Bool.{and-or_distrib_left}
-use Rattle.std.specs.Prelude.{Bool, true, false, not, ◌&&◌, ◌||◌, nat_eq, nat_lt, ◌-◌, bit_or, bit_and, min, max}
 use Rattle.std.specs.Ordering.{nat_cmp}
 use Rattle.std.specs.FinSet.{FinSet, empty, insert, contains, difference, union, intersection, remove, contains-empty, contains-difference, contains-union, contains-intersection, contains-remove, same_set, nat_cmp-IsAntisymmetric}
 use Rattle.std.specs.Cmp.{nat_cmp_total, unsigned_tied}

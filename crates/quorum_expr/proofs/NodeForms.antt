@@ -1,16 +1,12 @@
 -- What a node spells at its own level, and rows of children that weigh one each.
-use Rattle.std.proofs.Common.{◌≡◌, ℕ, zero, suc, ◌<◌, ◌≤◌, [], ◌∷◌, min, Bool, true, false, Some, None, Ok, Err, refl, sym, ap, ◌∙◌, arith, length, length-append}
-use Rattle.std.specs.Prelude.{nat_le, is_some, if◌then◌else◌, Option, ◌⊎◌}
-use Rattle.std.proofs.Common.{inl, inr}
+use Rattle.std.proofs.Common.{◌≡◌, ℕ, zero, suc, ◌<◌, ◌≤◌, [], ◌∷◌, min, Bool, true, false, Some, None, Ok, Err, refl, sym, ap, ◌∙◌, arith, length, length-append, nat_le, is_some, if◌then◌else◌, Option, ◌⊎◌, inl, inr}
 use Rattle.std.proofs.lemmas.Bool.Decides.{nat_tests}
 use Rattle.serde_json.specs.Data.{Data, null, boolean, number, string, array, object}
 use Rattle.serde_json.specs.Events.{members_len}
 use Rattle.serde_json.specs.Find.{as_number}
 use Rattle.quorum_expr.specs.Nodes.{keys_up_to}
 use Rattle.volume_model.specs.declared.fault.Fault.TheVariants.{Malformed}
-use Rattle.volume_model.specs.Answer.{◌>>=◌}
-use Rattle.volume_model.specs.Lists.{each_below}
-use Rattle.volume_model.specs.Sets.{listed}
+use Rattle.volume_model.specs.Common.{◌>>=◌, each_below, listed}
 use Rattle.std.specs.Ordering.{nat_cmp}
 use Rattle.std.specs.FinSet.{FinSet, contains}
 use Rattle.quorum_expr.specs.declared.form.Lists.{Lists}

@@ -1,7 +1,6 @@
 -- Nodes that pass are those of a text that serde_json reads.
-use Rattle.std.proofs.Common.{◌≡◌, ℕ, zero, suc, ◌≤◌, List, [], ◌∷◌, ◌++◌, Bool, true, false, ◌&&◌, Option, Some, None, is_some, option_map, option_and_then, refl, sym, ap, ◌∙◌, arith, append_assoc, append-nil, rules, ◌<◌, ◌+◌, length, get_or, drop, map, drop-cons, add-one}
+use Rattle.std.proofs.Common.{◌≡◌, ℕ, zero, suc, ◌≤◌, List, [], ◌∷◌, ◌++◌, Bool, true, false, ◌&&◌, Option, Some, None, is_some, option_map, option_and_then, refl, sym, ap, ◌∙◌, arith, append_assoc, append-nil, rules, ◌<◌, ◌+◌, length, get_or, drop, map, drop-cons, add-one, IsSome}
 use Rattle.std.proofs.lemmas.List.{drop_all}
-use Rattle.std.specs.Prelude.{IsSome}
 use Rattle.std.proofs.Math.Bool.{and_assoc}
 use Rattle.json.specs.Token.{Token}
 use Rattle.json.specs.Lex.{tokens}

@@ -1,14 +1,11 @@
 -- Expressions that are rebuilt child by child.
-use Rattle.std.proofs.Common.{◌≡◌, ℕ, suc, ◌+◌, ◌-◌, ◌*◌, ◌<◌, ◌≤◌, List, [], ◌∷◌, ◌++◌, length, get_or, drop, map, arith, refl, ap, subst, ◌∙◌, sym, append_assoc, add-one, drop-cons}
-use Rattle.std.specs.Prelude.{Vec, Result, Ok}
+use Rattle.std.proofs.Common.{◌≡◌, ℕ, suc, ◌+◌, ◌-◌, ◌*◌, ◌<◌, ◌≤◌, List, [], ◌∷◌, ◌++◌, length, get_or, drop, map, arith, refl, ap, subst, ◌∙◌, sym, append_assoc, add-one, drop-cons, Vec, Result, Ok, Fits}
 use mir.Syntax.{w16, w128}
-use mir.Val.{Fits}
 use Rattle.volume_model.specs.declared.fault.Fault.{Fault}
-use Rattle.std.proofs.lemmas.List.{drop_all}
-use Rattle.std.proofs.lemmas.List.{append-nil, map-append}
+use Rattle.std.proofs.lemmas.List.{drop_all, append-nil, map-append}
 use Rattle.quorum_expr.specs.declared.expression.Expr.{Expr}
 use Rattle.quorum_expr.specs.declared.expression.Expr.TheVariants.{Member, KOf}
-use Rattle.volume_model.specs.Formula.{Formula, at_least, child, total_weight, dual_of, duals_of, HasCounts, EachHasCounts}
+use Rattle.volume_model.specs.Common.{Formula, at_least, child, total_weight, dual_of, duals_of, HasCounts, EachHasCounts}
 use Rattle.quorum_expr.specs.Expr.{formula_of, weighed}
 use Rattle.quorum_expr.proofs.Weighed.{weighed-step, length-weighed}
 use Rattle.quorum_expr.proofs.ExprLaws.{formula_of-Member, formula_of-KOf}

@@ -1,8 +1,8 @@
 -- Rows of children whose weights are known before the children are.
-use Rattle.std.proofs.Common.{◌≡◌, ◌≢◌, ℕ, zero, suc, ◌+◌, ◌-◌, ◌*◌, ◌<◌, ◌≤◌, List, [], ◌∷◌, ◌++◌, length, arith, refl, ap, subst, ◌∙◌, sym}
-use Rattle.std.specs.Prelude.{Bool, true, false, ◌&&◌, nat_le, Vec}
+use Rattle.std.proofs.Common.{◌≡◌, ◌≢◌, ℕ, zero, suc, ◌+◌, ◌-◌, ◌*◌, ◌<◌, ◌≤◌, List, [], ◌∷◌, ◌++◌, length, arith, refl, ap, subst, ◌∙◌, sym, Bool, true, false, ◌&&◌, nat_le, Vec}
 use Rattle.std.proofs.lemmas.Bool.Decides.{nat_tests}
-use Rattle.volume_model.specs.Formula.{Formula, member, at_least, no_child, child, formulas, total_weight, each_once}
+use Rattle.volume_model.specs.Common.{Formula, at_least, no_child, child, formulas, total_weight, each_once}
+use Rattle.volume_model.specs.Formula.{member}
 use Rattle.quorum_expr.specs.declared.expression.Expr.{Expr}
 use Rattle.quorum_expr.specs.declared.expression.Expr.TheVariants.{KOf}
 use Rattle.quorum_expr.specs.Expr.{formula_of, weighed}

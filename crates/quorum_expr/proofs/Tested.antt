@@ -1,12 +1,12 @@
 -- The test of an expression, child by child.
-use Rattle.std.proofs.Common.{◌≡◌, ℕ, ◌+◌, ◌-◌, ◌<◌, ◌≤◌, List, length, get_or, drop, arith, ap, ◌∙◌, sym}
-use Rattle.std.specs.Prelude.{◌==◌, ◌≢◌, true, false, nat_lt, if◌then◌else◌, Option, Some, None, Vec}
+use Rattle.std.proofs.Common.{◌≡◌, ℕ, ◌+◌, ◌-◌, ◌<◌, ◌≤◌, List, length, get_or, drop, arith, ap, ◌∙◌, sym, ◌==◌, ◌≢◌, true, false, nat_lt, if◌then◌else◌, Option, Some, None, Vec}
 use Rattle.std.proofs.lemmas.Bool.Decides.{nat_tests}
 use Rattle.quorum_expr.specs.declared.expression.Expr.{Expr}
 use Rattle.quorum_expr.specs.declared.expression.Expr.TheVariants.{Member, KOf}
 use Rattle.volume_model.specs.declared.fault.Fault.{Fault}
 use Rattle.volume_model.specs.declared.fault.Fault.TheVariants.{BadCount, TooDeep, NotAMember}
-use Rattle.volume_model.specs.Formula.{Formula, member, at_least}
+use Rattle.volume_model.specs.Common.{Formula, at_least}
+use Rattle.volume_model.specs.Formula.{member}
 use Rattle.quorum_expr.specs.Expr.{formula_of, weighed}
 use Rattle.quorum_expr.specs.Valid.{or_then, good_choice, shape_fault, row_fault, nodes, row_nodes}
 use Rattle.quorum_expr.proofs.ExprLaws.{formula_of-Member, formula_of-KOf}

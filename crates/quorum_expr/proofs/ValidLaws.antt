@@ -1,10 +1,10 @@
 -- What follows from an expression having no fault.
-use Rattle.std.proofs.Common.{◌≡◌, ℕ, suc, ◌+◌, ◌-◌, ◌<◌, ◌≤◌, arith, refl, ap, ◌∙◌}
-use Rattle.std.specs.Prelude.{Bool, true, false, ◌&&◌, ◌==◌, nat_lt, nat_le, if◌then◌else◌, Option, Some, None, length}
+use Rattle.std.proofs.Common.{◌≡◌, ℕ, suc, ◌+◌, ◌-◌, ◌<◌, ◌≤◌, arith, refl, ap, ◌∙◌, Bool, true, false, ◌&&◌, ◌==◌, nat_lt, nat_le, if◌then◌else◌, Option, Some, None, length}
 use Rattle.std.proofs.lemmas.Bool.Decides.{nat_tests}
 use Rattle.volume_model.specs.declared.fault.Fault.{Fault}
 use Rattle.volume_model.specs.declared.fault.Fault.TheVariants.{BadCount, TooDeep, NotAMember, OverLimit}
-use Rattle.volume_model.specs.Formula.{Formula, Children, Members, member, at_least, no_child, child, formulas, total_weight, dual_of, duals_of, HasCounts, EachHasCounts, SpeaksOf, EachSpeaksOf}
+use Rattle.volume_model.specs.Common.{Formula, Children, Members, at_least, no_child, child, formulas, total_weight, dual_of, duals_of, HasCounts, EachHasCounts, SpeaksOf, EachSpeaksOf}
+use Rattle.volume_model.specs.Formula.{member}
 use Rattle.quorum_expr.specs.Valid.{or_then, each_fits, good_choice, good_threshold, shape_fault, row_fault, nodes, row_nodes, expression_fault}
 
 -- ---- the parts of a test without a fault

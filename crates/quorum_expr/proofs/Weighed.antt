@@ -1,11 +1,9 @@
 -- Lists of weighted things, one after the other.
-use Rattle.std.proofs.Common.{◌≡◌, ◌≢◌, ℕ, suc, ◌+◌, ◌*◌, ◌<◌, ◌≤◌, List, [], ◌∷◌, length, get_or, drop, map, arith, refl, ap, subst, ◌∙◌, sym, add-one, drop-cons}
+use Rattle.std.proofs.Common.{◌≡◌, ◌≢◌, ℕ, suc, ◌+◌, ◌*◌, ◌<◌, ◌≤◌, List, [], ◌∷◌, length, get_or, drop, map, arith, refl, ap, subst, ◌∙◌, sym, add-one, drop-cons, Fits, Bool, true, false, ◌&&◌, nat_le}
 use mir.Syntax.{w128}
-use mir.Val.{Fits}
-use Rattle.std.specs.Prelude.{Bool, true, false, ◌&&◌, nat_le}
 use Rattle.std.proofs.lemmas.Bool.Decides.{nat_tests}
 use Rattle.std.proofs.lemmas.List.{drop_all}
-use Rattle.volume_model.specs.Formula.{Formula, no_child, child, formulas, total_weight}
+use Rattle.volume_model.specs.Common.{Formula, no_child, child, formulas, total_weight}
 use Rattle.quorum_expr.specs.Expr.{weighed}
 use Rattle.quorum_expr.specs.Valid.{each_fits, good_choice}
 

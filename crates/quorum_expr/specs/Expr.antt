@@ -3,7 +3,8 @@ use Rattle.std.specs.Prelude.{ℕ, List, [], ◌∷◌}
 use Rattle.quorum_expr.specs.declared.expression.Expr.{Expr}
 use Rattle.quorum_expr.specs.declared.expression.Expr.TheOpen.{Expr-F, Member, KOf}
 use Rattle.quorum_expr.specs.declared.expression.Expr.TheFolds.{fold-Expr}
-use Rattle.volume_model.specs.Formula.{Formula, Children, member, at_least, no_child, child}
+use Rattle.volume_model.specs.Common.{Formula, Children, at_least, no_child, child}
+use Rattle.volume_model.specs.Formula.{member}
 
 -- children with their weights; f gives the formula of each
 abbrev pub weighed : {X : Type 0} → (X → Formula) → List (ℕ × X) → Children

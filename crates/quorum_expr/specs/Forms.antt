@@ -2,7 +2,7 @@
 use Rattle.std.specs.Prelude.{◌≡◌, ℕ, ◌+◌, List, [], ◌∷◌, map, Some, None}
 use Rattle.serde_json.specs.Data.{Data}
 use Rattle.quorum_expr.specs.Nodes.{items_in}
-use Rattle.volume_model.specs.Formula.{Formula}
+use Rattle.volume_model.specs.Common.{Formula}
 use Rattle.quorum_expr.specs.declared.expression.Expr.{Expr}
 use Rattle.quorum_expr.specs.declared.form.Children.{Children}
 use Rattle.quorum_expr.specs.declared.form.Children.TheVariants as children

@@ -7,3 +7,4 @@ pub mod Valid
 pub mod Nodes
 pub mod Placed
 pub mod Tapes
+pub mod Common

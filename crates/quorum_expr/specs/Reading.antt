@@ -8,9 +8,8 @@ use Rattle.serde_json.specs.Events.{members_len, items_len}
 use Rattle.serde_json.specs.Find.{get}
 use Rattle.volume_model.specs.declared.fault.Fault.{Fault}
 use Rattle.volume_model.specs.declared.fault.Fault.TheVariants.{BadCount, TooDeep, NotAMember, Malformed, OverLimit}
-use Rattle.volume_model.specs.Answer.{◌>>=◌}
-use Rattle.volume_model.specs.Formula.{Formula, Children, member, at_least, no_child, child}
-use Rattle.volume_model.specs.Sets.{listed}
+use Rattle.volume_model.specs.Common.{◌>>=◌, Formula, Children, at_least, no_child, child, listed}
+use Rattle.volume_model.specs.Formula.{member}
 use Rattle.quorum_expr.specs.declared.form.Lists.{Lists}
 use Rattle.quorum_expr.specs.declared.form.ListName.{ListName}
 use Rattle.quorum_expr.specs.declared.form.ListName.TheVariants.{All, Full, Tail}

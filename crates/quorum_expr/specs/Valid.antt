@@ -2,7 +2,8 @@
 use Rattle.std.specs.Prelude.{ℕ, ◌+◌, ◌-◌, Bool, true, ◌&&◌, ◌==◌, nat_lt, nat_le, if◌then◌else◌, Option, Some, None, length}
 use Rattle.volume_model.specs.declared.fault.Fault.{Fault}
 use Rattle.volume_model.specs.declared.fault.Fault.TheVariants.{BadCount, TooDeep, NotAMember, OverLimit}
-use Rattle.volume_model.specs.Formula.{Formula, Children, member, at_least, no_child, child, formulas, total_weight}
+use Rattle.volume_model.specs.Common.{Formula, Children, at_least, no_child, child, formulas, total_weight}
+use Rattle.volume_model.specs.Formula.{member}
 
 -- the first fault if there is one, else the next
 abbrev pub or_then : Option Fault → Option Fault → Option Fault

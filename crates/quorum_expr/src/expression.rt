@@ -2,7 +2,7 @@
 
 ghost use Rattle.std.specs.Prelude.{◌≡◌, ◌≤◌};
 ghost use Rattle.std.specs.FinSet as set;
-ghost use Rattle.volume_model.specs.Formula.{sat, dual_of};
+ghost use Rattle.volume_model.specs.Common.{sat, dual_of};
 ghost use Rattle.quorum_expr.specs.Expr.{formula_of};
 
 use crate::MemberSet;

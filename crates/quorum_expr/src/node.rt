@@ -1,6 +1,6 @@
 //! The trait for nodes of JSON.
 
-ghost use Rattle.std.specs.Prelude.{◌≡◌, ◌≤◌, Option, None, Some, MatchOption, option_map, option_and_then, is_some};
+ghost use Rattle.std.specs.Prelude.{◌≡◌, ◌≤◌, Option, MatchOption, option_map, option_and_then, is_some};
 ghost use Rattle.serde_json.specs.Data.{Data, Items, no_items, item};
 ghost use Rattle.serde_json.specs.Find.{get, as_null, as_number, as_u64, as_array};
 ghost use Rattle.quorum_expr.specs.Nodes.{says, keys_up_to};

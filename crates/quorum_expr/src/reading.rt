@@ -4,13 +4,11 @@ ghost use Rattle.std.specs.Prelude.{◌≡◌, ◌≤◌, ◌+◌, ◌-◌, ◌&
 ghost use Rattle.std.specs.FinSet as set;
 ghost use Rattle.serde_json.specs.View.{view};
 ghost use Rattle.serde_json.specs.Events.{items_len};
-ghost use Rattle.volume_model.specs.Answer.{Gives};
-ghost use Rattle.volume_model.specs.Formula.{member, each_once};
-ghost use Rattle.volume_model.specs.Sets.{listed};
+ghost use Rattle.volume_model.specs.Common.{Gives, each_once, listed};
+ghost use Rattle.volume_model.specs.Formula.{member};
 ghost use Rattle.quorum_expr.specs.Expr.{formula_of};
 ghost use Rattle.quorum_expr.specs.Valid.{nodes, row_nodes, expression_fault};
-ghost use Rattle.quorum_expr.specs.Reading.{at_key, whole_of, child_list_of, child_count, whole_list_of, weights_of};
-ghost use Rattle.quorum_expr.specs.Reading.{good_keys, good_row, choice_of, form_of, children_at, formula_from, formula_at, expression_in};
+ghost use Rattle.quorum_expr.specs.Reading.{at_key, whole_of, child_list_of, child_count, whole_list_of, weights_of, good_keys, good_row, choice_of, form_of, children_at, formula_from, formula_at, expression_in};
 ghost use Rattle.quorum_expr.specs.Nodes.{items_in};
 ghost use Rattle.quorum_expr.specs.Forms.{child_list, form_data, formulas_of, weights_data, HaveWeights};
 

@@ -1,8 +1,7 @@
 //! Expressions made from others: copies and duals.
 
 ghost use Rattle.std.specs.Prelude.{◌≡◌, IfOk, Ok, None, not};
-ghost use Rattle.volume_model.specs.Answer.{Gives};
-ghost use Rattle.volume_model.specs.Formula.{Members, sat, dual_of, HasCounts};
+ghost use Rattle.volume_model.specs.Common.{Gives, Members, sat, dual_of, HasCounts};
 ghost use Rattle.quorum_expr.specs.Expr.{formula_of};
 ghost use Rattle.quorum_expr.specs.Valid.{expression_fault};
 

@@ -1,25 +1,17 @@
 -- How many records a cut finds at most.
-use Rattle.std.proofs.Common.{◌≡◌, ℕ, zero, suc, ◌+◌, ◌-◌, ◌^◌, ◌<◌, ◌≤◌, min, ◌==◌, List, [], ◌∷◌, ◌++◌, Option, Some, None, option_map, length, map, get_or, take, drop, refl, sym, ap, ◌∙◌, subst, inl, inr, arith}
+use Rattle.std.proofs.Common.{◌≡◌, ℕ, zero, suc, ◌+◌, ◌-◌, ◌^◌, ◌<◌, ◌≤◌, min, ◌==◌, List, [], ◌∷◌, ◌++◌, Option, Some, None, option_map, length, map, get_or, take, drop, refl, sym, ap, ◌∙◌, subst, inl, inr, arith, take_all}
 use Rattle.std.specs.Arc.{arc_value}
-use Rattle.std.proofs.lemmas.List.{take_all}
 use Rattle.std.proofs.lemmas.Bool.{cases_Bool}
-use Rattle.volume_model.specs.Lists.{IsIn}
-use Rattle.volume_model.specs.Redo.{Redo, record_at, follow, chain_from, chain_or_none, cut_of}
-use Rattle.volume_model.specs.Lineage.{Contents, newest, found_in}
-use Rattle.volume_model.specs.Node.{contents_of}
-use Rattle.volume_model.specs.Client.{Client, ClientGroup, reports_of}
-use Rattle.volume_model.specs.ClientRecovery.{all_reports, reported, live_reported, log_reported}
-use Rattle.volume_model.specs.Leading.{VolumeLinksFall}
-use Rattle.volume_model.specs.Few.{StepsAreFew, records_in, records_said}
+use Rattle.volume_model.specs.Common.{IsIn, Redo, record_at, follow, chain_from, chain_or_none, cut_of, Contents, newest, contents_of, ClientGroup, reports_of, all_reports, reported, live_reported, log_reported, VolumeLinksFall, StepsAreFew, records_in, records_said}
+use Rattle.volume_model.specs.Lineage.{found_in}
+use Rattle.volume_model.specs.Client.{Client}
 use Rattle.volume_model.proofs.Basics.{IsIn-append}
 use Rattle.volume_model.proofs.Chains.{greatest_point-is}
 use Rattle.volume_model.proofs.Records.{found_in-from}
 use Rattle.redo_record.specs.declared.shared_record.SharedRecord.{SharedRecord}
 use Rattle.redo_record.specs.declared.record_set.RecordSet.{RecordSet}
-use Rattle.redo_record.specs.SharedRecord.{shared_redo}
+use Rattle.redo_record.specs.Common.{shared_redo, HasRanges, packets_of, records_of}
 use Rattle.redo_record.proofs.KeptRanges.{shared_redo-ranges}
-use Rattle.redo_record.specs.Ranges.{HasRanges}
-use Rattle.redo_record.specs.RecordSet.{packets_of, records_of}
 use Rattle.hydration.specs.declared.copied.Copied.{Copied}
 use Rattle.hydration.specs.Copies.{copies_in}
 use Rattle.wire.specs.Contents as wire

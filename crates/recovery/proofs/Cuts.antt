@@ -1,19 +1,16 @@
 -- The cut of the first records of a list.
-use Rattle.std.proofs.Common.{◌≡◌, ℕ, zero, suc, ◌+◌, ◌<◌, ◌≤◌, Bool, true, false, ◌&&◌, ◌||◌, nat_eq, nat_lt, cond, List, [], ◌∷◌, ◌++◌, map, take, length, get_or, inl, inr, if◌then◌else◌, refl, sym, ap, ap₂, ◌∙◌, subst, arith}
-use Rattle.std.specs.Prelude.{◌==◌}
+use Rattle.std.proofs.Common.{◌≡◌, ℕ, zero, suc, ◌+◌, ◌<◌, ◌≤◌, Bool, true, false, ◌&&◌, ◌||◌, nat_eq, nat_lt, cond, List, [], ◌∷◌, ◌++◌, map, take, length, get_or, inl, inr, if◌then◌else◌, refl, sym, ap, ap₂, ◌∙◌, subst, arith, ◌==◌}
 use Rattle.std.proofs.lemmas.Bool.{cases_Bool, cases_lt, or_right, and_from, true≢false, eqb-true, eq-eqb, ne_eqb, lt-ltb}
 use Rattle.std.proofs.lemmas.List.{take_more, map-append}
-use Rattle.volume_model.specs.Lists.{added}
-use Rattle.volume_model.specs.Redo.{Redo, last_lsn, cut_of}
+use Rattle.volume_model.specs.Common.{added, Redo, last_lsn, cut_of}
 use Rattle.redo_record.specs.declared.record_set.RecordSet.{RecordSet}
-use Rattle.redo_record.specs.RecordSet.{packets_of}
+use Rattle.redo_record.specs.Common.{packets_of, redo_of}
 use Rattle.redo_record.proofs.KeptRanges.{shared_redo-ranges}
 use Rattle.writer_core.specs.Logs.{log_of_set, is_growing}
 use Rattle.writer_core.proofs.Growing.{both}
 use Rattle.writer_core.proofs.Joined.{log_of-set, older-grows}
 use Rattle.writer_core.proofs.Finding.{all-log}
 use Rattle.redo_record.specs.declared.«record».Record.{Record}
-use Rattle.redo_record.specs.Record.{redo_of}
 use Rattle.recovery.specs.Chains.{leads}
 use Rattle.recovery.specs.CutReader.{log_of_records, IsCutOf}
 use Rattle.recovery.specs.GroundedLsns.{is_grounded}

@@ -1,11 +1,10 @@
 -- Where a chain ends.
-use Rattle.std.proofs.Common.{◌≡◌, ℕ, ◌<◌, true, ◌&&◌, nat_eq, List, [], ◌∷◌, ◌++◌, Option, Some, None, option_map, is_some, map, refl, sym, ap, ap₂, ◌∙◌, inl, inr, arith, append-nil, append_assoc}
-use Rattle.std.specs.Prelude.{reverse}
+use Rattle.std.proofs.Common.{◌≡◌, ℕ, ◌<◌, true, ◌&&◌, nat_eq, List, [], ◌∷◌, ◌++◌, Option, Some, None, option_map, is_some, map, refl, sym, ap, ap₂, ◌∙◌, inl, inr, arith, append-nil, append_assoc, reverse}
 use Rattle.std.proofs.lemmas.List.{map-append, reverse-append}
 use Rattle.std.proofs.lemmas.Bool.{cases_Bool, eqb-true, eqb-false, true≢false, lt-ltb}
-use Rattle.volume_model.specs.Redo.{Redo, record_at, follow, chain_from, last_lsn}
+use Rattle.volume_model.specs.Common.{Redo, record_at, follow, chain_from, last_lsn}
 use Rattle.redo_record.specs.declared.shared_record.SharedRecord.{SharedRecord}
-use Rattle.redo_record.specs.SharedRecord.{shared_redo}
+use Rattle.redo_record.specs.Common.{shared_redo}
 use Rattle.writer_core.specs.Logs.{log_of, is_growing}
 use Rattle.writer_core.proofs.Logs.{log_of-push}
 use Rattle.writer_core.proofs.Growing.{both}

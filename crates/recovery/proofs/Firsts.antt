@@ -1,10 +1,8 @@
 -- The first record of each number of a set.
-use Rattle.std.proofs.Common.{◌≡◌, ℕ, suc, ◌<◌, ◌≤◌, true, false, nat_lt, nat_eq, List, [], ◌∷◌, ◌++◌, Option, Some, None, if◌then◌else◌, refl, sym, ap, ap₂, ◌∙◌, inl, inr, arith}
-use Rattle.std.specs.Prelude.{◌==◌}
+use Rattle.std.proofs.Common.{◌≡◌, ℕ, suc, ◌<◌, ◌≤◌, true, false, nat_lt, nat_eq, List, [], ◌∷◌, ◌++◌, Option, Some, None, if◌then◌else◌, refl, sym, ap, ap₂, ◌∙◌, inl, inr, arith, ◌==◌}
 use Rattle.std.proofs.lemmas.Bool.{cases_Bool, or_cases, and_parts, eqb-true, eq-eqb, ltb-true}
-use Rattle.volume_model.specs.Lists.{IsIn}
-use Rattle.volume_model.specs.Redo.{Redo, spelling, numbers_before, first_of, record_at, last_lsn}
-use Rattle.redo_record.specs.Order.{IsInOrder}
+use Rattle.volume_model.specs.Common.{IsIn, Redo, spelling, numbers_before, first_of, record_at, last_lsn}
+use Rattle.redo_record.specs.Common.{IsInOrder}
 use Rattle.redo_record.proofs.Before.{before-trans, not_before}
 use Rattle.redo_record.proofs.Places.{list-all}
 use Rattle.writer_core.specs.Logs.{is_growing}

@@ -1,17 +1,10 @@
 -- What a cut leaves.
-use Rattle.std.proofs.Common.{◌≡◌, ℕ, zero, suc, ◌^◌, ◌≤◌, Bool, true, false, not, nat_lt, nat_eq, List, [], ◌∷◌, ◌++◌, Option, Some, None, Result, Ok, Err, is_some, length, take, get_or, if◌then◌else◌, refl, sym, ap, ap₂, ◌∙◌, inl, inr, arith, append-nil, add-one}
+use Rattle.std.proofs.Common.{◌≡◌, ℕ, zero, suc, ◌^◌, ◌≤◌, Bool, true, false, not, nat_lt, nat_eq, List, [], ◌∷◌, ◌++◌, Option, Some, None, Result, Ok, Err, is_some, length, take, get_or, if◌then◌else◌, refl, sym, ap, ap₂, ◌∙◌, inl, inr, arith, append-nil, add-one, IfOk}
 use Rattle.std.proofs.lemmas.List.{take_more, take_all}
 use Rattle.volume_model.specs.declared.fault.Fault.{Fault}
 use Rattle.volume_model.specs.declared.fault.Fault.TheVariants.{LsnSpent, NoMemory, NotReady}
-use Rattle.std.specs.Prelude.{IfOk}
-use Rattle.volume_model.specs.Answer.{◌>>=◌, AnswersAfterGrowth, AnswersNew, Fails, Gives, may_run_out_of_memory}
-use Rattle.volume_model.specs.Refusal.{refuse_if}
-use Rattle.volume_model.specs.Plan.{Plan}
-use Rattle.volume_model.specs.Redo.{Redo, record_at, follow, chain_from, chain_or_none, ends_at_point, cut_of, log_found}
-use Rattle.volume_model.specs.Lineage.{Lineage, Contents, last_start, extended, extension, newest, found_in}
-use Rattle.volume_model.specs.Node.{contents_of}
-use Rattle.volume_model.specs.Client.{ClientGroup, ClientStep, ClientAnswer, no_group, reports_of}
-use Rattle.volume_model.specs.ClientRecovery.{all_reports, has_read, cut_step, cut_client}
+use Rattle.volume_model.specs.Common.{◌>>=◌, AnswersAfterGrowth, AnswersNew, Fails, Gives, may_run_out_of_memory, refuse_if, Plan, Redo, record_at, follow, chain_from, chain_or_none, ends_at_point, cut_of, log_found, Lineage, Contents, last_start, extended, extension, newest, contents_of, ClientGroup, ClientStep, ClientAnswer, no_group, reports_of, all_reports, has_read, cut_step, cut_client}
+use Rattle.volume_model.specs.Lineage.{found_in}
 use Rattle.volume_model.proofs.Chains.{record_at-some, record_at-there, greatest_point-is, greatest_point-above}
 use Rattle.lineage.specs.Lineage.{lineage_of}
 use Rattle.writer_core.specs.Logs.{log_of_set}

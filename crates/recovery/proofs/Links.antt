@@ -1,9 +1,7 @@
 -- Chains in a log whose numbers grow.
-use Rattle.std.proofs.Common.{◌≡◌, ◌≢◌, ℕ, zero, suc, ◌<◌, ◌≤◌, max, Bool, true, false, ◌&&◌, nat_eq, List, [], ◌∷◌, Option, Some, None, option_map, is_some, if◌then◌else◌, refl, sym, ap, ap₂, ◌∙◌, inl, inr, arith}
-use Rattle.std.specs.Prelude.{◌==◌}
+use Rattle.std.proofs.Common.{◌≡◌, ◌≢◌, ℕ, zero, suc, ◌<◌, ◌≤◌, max, Bool, true, false, ◌&&◌, nat_eq, List, [], ◌∷◌, Option, Some, None, option_map, is_some, if◌then◌else◌, refl, sym, ap, ap₂, ◌∙◌, inl, inr, arith, ◌==◌}
 use Rattle.std.proofs.lemmas.Bool.{cases_Bool, eqb-true, eqb-false, ne_eqb, eq-eqb}
-use Rattle.volume_model.specs.Lists.{IsIn}
-use Rattle.volume_model.specs.Redo.{Redo, record_at, follow, chain_from, ends_at_point, greatest_point, cut_of, last_lsn}
+use Rattle.volume_model.specs.Common.{IsIn, Redo, record_at, follow, chain_from, ends_at_point, greatest_point, cut_of, last_lsn}
 use Rattle.volume_model.proofs.Chains.{record_at-some, greatest_point-is}
 use Rattle.writer_core.specs.Logs.{is_growing}
 use Rattle.recovery.specs.Chains.{leads}

@@ -1,13 +1,9 @@
 -- Reports under older lineages.
-use Rattle.std.proofs.Common.{◌≡◌, ℕ, zero, suc, ◌<◌, ◌≤◌, Bool, true, ◌&&◌, nat_lt, nat_le, List, [], ◌∷◌, ◌++◌, map, refl, ap₂, inl, inr}
-use Rattle.std.specs.Prelude.{slice_set}
+use Rattle.std.proofs.Common.{◌≡◌, ℕ, zero, suc, ◌<◌, ◌≤◌, Bool, true, ◌&&◌, nat_lt, nat_le, List, [], ◌∷◌, ◌++◌, map, refl, ap₂, inl, inr, slice_set}
 use Rattle.std.proofs.lemmas.Bool.{cases_Bool, and_parts, ltb-true, lt-ltb}
-use Rattle.volume_model.specs.Lists.{every}
-use Rattle.volume_model.specs.Lineage.{Contents, last_epoch, newest}
+use Rattle.volume_model.specs.Common.{every, Contents, last_epoch, newest, From, senders, contents_of, ClientGroup, group_of, newly_at, no_group, with_places, later_group, reread_group, is_later}
 use Rattle.volume_model.specs.Message as model
-use Rattle.volume_model.specs.Node.{From, with_first, senders, contents_of}
-use Rattle.volume_model.specs.Client.{ClientGroup, group_of, newly_at, no_group}
-use Rattle.volume_model.specs.ClientMessages.{with_places, later_group, reread_group, is_later}
+use Rattle.volume_model.specs.Node.{with_first}
 use Rattle.writer_core.specs.GroupStates.{counted_group, counted_in, reported_group, reported_in}
 use Rattle.recovery.specs.Cuts.{is_older, are_older}
 use Rattle.recovery.specs.Reported.{reports_in}

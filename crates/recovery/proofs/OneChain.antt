@@ -2,16 +2,11 @@
 use Rattle.std.proofs.Common.{◌≡◌, ℕ, zero, suc, ◌+◌, ◌-◌, ◌<◌, ◌≤◌, Bool, true, false, ◌&&◌, nat_eq, List, [], ◌∷◌, ◌++◌, length, length-append, get_or, take, drop, map, Some, is_some, if◌then◌else◌, append-nil, refl, sym, ap, ◌∙◌, subst, inl, inr, arith}
 use Rattle.std.proofs.lemmas.Bool.{and_parts, eq-eqb}
 use Rattle.std.proofs.lemmas.List.{take_more, take-append-le, take-append-drop, get_or-map, length-map}
-use Rattle.volume_model.specs.Lists.{added}
-use Rattle.volume_model.specs.Redo.{Redo, last_lsn, record_at, chain_from, chain_or_none, cut_of, log_found}
+use Rattle.volume_model.specs.Common.{added, Redo, last_lsn, record_at, chain_from, chain_or_none, cut_of, log_found}
 use Rattle.redo_record.specs.declared.record_set.RecordSet.{RecordSet}
 use Rattle.redo_record.specs.declared.run.Run.{Run}
 use Rattle.redo_record.specs.declared.shared_record.SharedRecord.{SharedRecord}
-use Rattle.redo_record.specs.SharedRecord.{shared_redo}
-use Rattle.redo_record.specs.Joined.{joined}
-use Rattle.redo_record.specs.RecordSet.{records_of}
-use Rattle.redo_record.specs.Run.{run_records, runs_in}
-use Rattle.redo_record.specs.SharedList.{IsVolumeChain}
+use Rattle.redo_record.specs.Common.{shared_redo, joined, records_of, run_records, runs_in, IsVolumeChain}
 use Rattle.redo_record.proofs.RunLists.{joined-append}
 use Rattle.writer_core.specs.Logs.{log_of_set, is_growing}
 use Rattle.writer_core.proofs.Joined.{growing-same}

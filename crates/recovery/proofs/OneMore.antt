@@ -1,9 +1,7 @@
 -- The reports of one group more.
-use Rattle.std.proofs.Common.{◌≡◌, ◌-◌, ◌<◌, List, [], ◌∷◌, ◌++◌, length, get_or, take, drop, refl, sym, ap, ◌∙◌, append_assoc, arith}
-use Rattle.std.proofs.lemmas.List.{take_all}
-use Rattle.volume_model.specs.Lineage.{Contents, Lineage, found_in, newer, newest_with, with_found, with_live}
-use Rattle.volume_model.specs.Node.{contents_of}
-use Rattle.volume_model.specs.Client.{ClientGroup}
+use Rattle.std.proofs.Common.{◌≡◌, ◌-◌, ◌<◌, List, [], ◌∷◌, ◌++◌, length, get_or, take, drop, refl, sym, ap, ◌∙◌, append_assoc, arith, take_all}
+use Rattle.volume_model.specs.Common.{Contents, Lineage, newer, newest_with, with_found, with_live, contents_of, ClientGroup}
+use Rattle.volume_model.specs.Lineage.{found_in}
 use Rattle.hydration.specs.Copies.{copies_in}
 use Rattle.writer_core.specs.declared.group_state.GroupState.{GroupState}
 use Rattle.writer_core.specs.GroupStates.{groups_of}

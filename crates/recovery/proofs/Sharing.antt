@@ -1,13 +1,9 @@
 -- What a log that is found shares with the records that were reported.
-use Rattle.std.proofs.Common.{◌≡◌, ℕ, zero, suc, ◌^◌, ◌<◌, ◌≤◌, true, ◌&&◌, nat_lt, nat_eq, List, [], ◌∷◌, ◌++◌, length, take, drop, Some, None, option_map, if◌then◌else◌, refl, sym, ap, ◌∙◌, subst, inl, inr, arith}
-use Rattle.std.specs.Prelude.{Result, Ok, Err, IfOk, MatchResult}
+use Rattle.std.proofs.Common.{◌≡◌, ℕ, zero, suc, ◌^◌, ◌<◌, ◌≤◌, true, ◌&&◌, nat_lt, nat_eq, List, [], ◌∷◌, ◌++◌, length, take, drop, Some, None, option_map, if◌then◌else◌, refl, sym, ap, ◌∙◌, subst, inl, inr, arith, Result, Ok, Err, IfOk, MatchResult, take-append-drop}
 use Rattle.std.proofs.lemmas.Bool.{and_parts, eq-eqb, eqb-true, lt-ltb, or_left}
-use Rattle.std.proofs.lemmas.List.{take-append-drop}
-use Rattle.volume_model.specs.Lists.{IsIn, added}
-use Rattle.volume_model.specs.Redo.{Redo, spelling, numbers_before, last_lsn, record_at, chain_from}
+use Rattle.volume_model.specs.Common.{IsIn, added, Redo, spelling, numbers_before, last_lsn, record_at, chain_from}
 use Rattle.redo_record.specs.declared.record_set.RecordSet.{RecordSet}
-use Rattle.redo_record.specs.Order.{IsInOrder, ComesAfter}
-use Rattle.redo_record.specs.RecordSet.{packets_of, records_of}
+use Rattle.redo_record.specs.Common.{IsInOrder, ComesAfter, packets_of, records_of}
 use Rattle.redo_record.proofs.Before.{IsBefore}
 use Rattle.redo_record.proofs.Places.{IsOrdered, in_order-from}
 use Rattle.writer_core.specs.Logs.{log_of_set, is_growing}

@@ -1,11 +1,10 @@
 -- Numbers that are looked for among growing ones
-use Rattle.std.proofs.Common.{◌≡◌, ◌≢◌, ℕ, zero, suc, ◌<◌, ◌≤◌, ◌==◌, ◌||◌, ◌++◌, ◌+◌, Bool, true, false, List, [], ◌∷◌, length, length-append, get_or, Result, Ok, Err, Less, Equal, Greater, refl, sym, ap, ◌∙◌, subst, inl, inr, if◌then◌else◌, arith}
-use Rattle.std.specs.Prelude.{is_ok}
+use Rattle.std.proofs.Common.{◌≡◌, ◌≢◌, ℕ, zero, suc, ◌<◌, ◌≤◌, ◌==◌, ◌||◌, ◌++◌, ◌+◌, Bool, true, false, List, [], ◌∷◌, length, length-append, get_or, Result, Ok, Err, Less, Equal, Greater, refl, sym, ap, ◌∙◌, subst, inl, inr, if◌then◌else◌, arith, is_ok}
 use Rattle.std.specs.Ordering.{nat_cmp, ordering_index}
 use Rattle.std.specs.List.Sorted.{IsNonDecreasing, IsNonDecreasingBy, IsPartitionPoint, IsBinarySearchResult, IsSearchInRange}
 use Rattle.std.proofs.lemmas.Bool.{cases_Bool, cases_lt, eqb-true, eq-eqb}
 use Rattle.std.proofs.lemmas.Bool.Decides.{nat_tests}
-use Rattle.volume_model.specs.Lists.{any}
+use Rattle.volume_model.specs.Common.{any}
 use Rattle.volume_model.proofs.Basics.{any_passes, any_from}
 use Rattle.redo_record.proofs.Places.{list-all, IsIn-get_or}
 

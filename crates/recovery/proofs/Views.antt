@@ -1,16 +1,8 @@
 -- What a View does to a recovery.
-use Rattle.std.proofs.Common.{◌≡◌, ℕ, Bool, true, List, Option, Some, None, Result, Ok, Err, length, map, refl, sym, ap, ap₂, ◌∙◌, subst}
-use Rattle.std.specs.Prelude.{OnOk, OnErr}
-use Rattle.std.proofs.lemmas.Bool.{eq-eqb}
+use Rattle.std.proofs.Common.{◌≡◌, ℕ, Bool, true, List, Option, Some, None, Result, Ok, Err, length, map, refl, sym, ap, ap₂, ◌∙◌, subst, OnOk, OnErr, eq-eqb}
 use Rattle.std.proofs.lemmas.List.{length-map}
-use Rattle.volume_model.specs.Plan.{Plan}
+use Rattle.volume_model.specs.Common.{Plan, place_in, Redo, Lineage, ClientGroup, unborn, newly_at, place_of, label_of, fences, installs, later_in, later_group, reread_group, with_places, are_places, taken}
 use Rattle.volume_model.specs.Message as model
-use Rattle.volume_model.specs.Message.{place_in}
-use Rattle.volume_model.specs.Redo.{Redo}
-use Rattle.volume_model.specs.Lineage.{Lineage}
-use Rattle.volume_model.specs.Client.{ClientGroup, unborn, newly_at, place_of, label_of}
-use Rattle.volume_model.specs.ClientRecovery.{fences, installs}
-use Rattle.volume_model.specs.ClientMessages.{later_in, later_group, reread_group, with_places, are_places, taken}
 use Rattle.volume_model.proofs.Groups.{group_of-new}
 use Rattle.lineage.specs.Lineage.{lineage_of}
 use Rattle.wire.specs.declared.label.Place.{Place}

@@ -1,7 +1,6 @@
 -- Chains of records by prev_volume.
 use Rattle.std.specs.Prelude.{◌≡◌, ℕ, Bool, true, ◌==◌, ◌&&◌, if◌then◌else◌, List, [], ◌∷◌}
-use Rattle.volume_model.specs.Lists.{added}
-use Rattle.volume_model.specs.Redo.{Redo}
+use Rattle.volume_model.specs.Common.{added, Redo}
 
 -- the list, newest first, is a chain: each record links to the one before it, the oldest to 0, and the newest has this
 -- LSN, which is 0 if there is none

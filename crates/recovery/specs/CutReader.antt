@@ -1,9 +1,8 @@
 -- The cut of a log, computed record by record.
 use Rattle.std.specs.Prelude.{◌≡◌, ℕ, ◌<◌, true, ◌||◌, ◌==◌, List, [], ◌∷◌, map}
-use Rattle.volume_model.specs.Lists.{IsIn, added}
-use Rattle.volume_model.specs.Redo.{Redo, cut_of, last_lsn}
+use Rattle.volume_model.specs.Common.{IsIn, added, Redo, cut_of, last_lsn}
 use Rattle.redo_record.specs.declared.«record».Record.{Record}
-use Rattle.redo_record.specs.Record.{redo_of}
+use Rattle.redo_record.specs.Common.{redo_of}
 use Rattle.writer_core.specs.Logs.{is_growing}
 use Rattle.recovery.specs.Chains.{leads}
 use Rattle.recovery.specs.GroundedLsns.{is_grounded}

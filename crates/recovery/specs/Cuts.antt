@@ -1,8 +1,6 @@
 -- Reports that a recovery may keep.
 use Rattle.std.specs.Prelude.{ℕ, Bool, nat_lt, List}
-use Rattle.volume_model.specs.Lists.{every}
-use Rattle.volume_model.specs.Lineage.{last_epoch}
-use Rattle.volume_model.specs.Client.{ClientGroup}
+use Rattle.volume_model.specs.Common.{every, last_epoch, ClientGroup}
 
 -- the lineage of each report of a group is older than this volume epoch
 abbrev pub is_older : ℕ → ClientGroup → Bool

@@ -2,9 +2,9 @@
 use Rattle.std.specs.Prelude.{◌≡◌, Bool, true, false, List}
 use Rattle.volume_model.specs.declared.fault.Fault.{Fault}
 use Rattle.volume_model.specs.declared.fault.Fault.TheVariants.{LsnSpent}
-use Rattle.volume_model.specs.Redo.{Redo}
-use Rattle.volume_model.specs.Lineage.{last_cut, newest, found_in}
-use Rattle.volume_model.specs.Client.{Client, ClientGroup}
+use Rattle.volume_model.specs.Common.{Redo, last_cut, newest, ClientGroup}
+use Rattle.volume_model.specs.Lineage.{found_in}
+use Rattle.volume_model.specs.Client.{Client}
 use Rattle.lineage.specs.Lineage.{lineage_of}
 use Rattle.writer_core.specs.Logs.{log_of_set}
 use Rattle.recovery.specs.declared.found.Found.{Found}

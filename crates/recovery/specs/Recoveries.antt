@@ -1,19 +1,14 @@
 -- The client of the model for a recovery, and a recovery's answers.
-use Rattle.std.specs.Prelude.{◌≡◌, ℕ, true, List, [], Option, Some, None, Result, Ok, Err}
-use Rattle.std.specs.Prelude.{Vec}
+use Rattle.std.specs.Prelude.{◌≡◌, ℕ, true, List, [], Option, Some, None, Result, Ok, Err, Vec}
 use Rattle.std.specs.Global.{Global}
 use Rattle.volume_model.specs.declared.fault.Fault.{Fault}
 use Rattle.volume_model.specs.declared.fault.Fault.TheVariants.{NotAddressed}
-use Rattle.volume_model.specs.Plan.{Plan}
+use Rattle.volume_model.specs.Common.{Plan, View, StepTo, Fence, Report, Install, Write, Gossip, Ack, CopyAsk, CopyReport, PageAsk, Page, ClientGroup, ClientStep, ClientAnswer, unborn, cut_step, has_installed, taken, Reading}
 use Rattle.volume_model.specs.Message as model
-use Rattle.volume_model.specs.Message.Message.{View, StepTo, Fence, Report, Install, Write, Gossip, Ack, CopyAsk, CopyReport, PageAsk, Page}
-use Rattle.volume_model.specs.Client.{Client, ClientGroup, ClientStep, ClientAnswer, unborn}
-use Rattle.volume_model.specs.ClientRecovery.{cut_step, has_installed}
-use Rattle.volume_model.specs.ClientMessages.{taken}
-use Rattle.volume_model.specs.Client.Stage.{Reading}
+use Rattle.volume_model.specs.Client.{Client}
 use Rattle.lineage.specs.Lineage.{lineage_of}
 use Rattle.wire.specs.declared.message.Message.{Message}
-use Rattle.wire.specs.Message.{messages_of}
+use Rattle.wire.specs.Common.{messages_of}
 use Rattle.writer_core.specs.declared.writer.Writer.{Writer}
 use Rattle.writer_core.specs.Logs.{log_of_set}
 use Rattle.writer_core.specs.Groups.{groups_in, keeping, group_states_plan}

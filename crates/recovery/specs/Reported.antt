@@ -1,8 +1,6 @@
 -- The reports of all groups.
 use Rattle.std.specs.Prelude.{List, [], ◌∷◌, ◌++◌}
-use Rattle.volume_model.specs.Lineage.{Contents}
-use Rattle.volume_model.specs.Node.{contents_of}
-use Rattle.volume_model.specs.Client.{ClientGroup}
+use Rattle.volume_model.specs.Common.{Contents, contents_of, ClientGroup}
 
 -- the contents of all reports, in order of group
 abbrev pub reports_in : List ClientGroup → List Contents

@@ -1,9 +1,8 @@
 //! Finds the log among records.
 
 ghost use Rattle.std.specs.Prelude.{◌≡◌, ◌≤◌, ℕ, true, [], take, length, IfOk, IfSome, is_some};
-ghost use Rattle.volume_model.specs.Lists.{added};
-ghost use Rattle.volume_model.specs.Redo.{record_at, chain_from, chain_or_none};
-ghost use Rattle.redo_record.specs.RecordSet.{records_of};
+ghost use Rattle.volume_model.specs.Common.{added, record_at, chain_from, chain_or_none};
+ghost use Rattle.redo_record.specs.Common.{records_of};
 ghost use Rattle.writer_core.specs.Logs.{log_of, log_of_set, is_growing};
 ghost use Rattle.recovery.specs.Chains.{IsChainTo};
 

@@ -1,8 +1,7 @@
 //! Computes the cut of a log.
 
-ghost use Rattle.std.specs.Prelude.{◌≡◌, true, Ok};
-ghost use Rattle.volume_model.specs.Answer.{Gives};
-ghost use Rattle.volume_model.specs.Redo.{cut_of};
+ghost use Rattle.std.specs.Prelude.{◌≡◌, true, Ok, ◌≤◌, ℕ, [], OnOk};
+ghost use Rattle.volume_model.specs.Common.{Gives, cut_of};
 ghost use Rattle.writer_core.specs.Logs.{log_of_set, is_growing};
 ghost use Rattle.recovery.specs.CutReader.{log_of_records};
 
@@ -20,8 +19,7 @@ pub struct CutReader {
 }
 
 impl CutReader {
-    ghost use Rattle.std.specs.Prelude.{◌≤◌, ℕ, [], OnOk};
-    ghost use Rattle.redo_record.specs.Record.{redo_of};
+    ghost use Rattle.redo_record.specs.Common.{redo_of};
     ghost use Rattle.recovery.specs.GroundedLsns.{is_grounded};
     ghost use Rattle.recovery.specs.CutReader.{IsCutOf, ReadsOneMore};
 

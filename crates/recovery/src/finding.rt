@@ -1,12 +1,10 @@
 //! Finds the log in a recovery's reports.
 
 ghost use Rattle.std.specs.Prelude.{◌≡◌, ◌≤◌, true, IfOk, Ok};
-ghost use Rattle.volume_model.specs.Answer.{Gives};
-ghost use Rattle.volume_model.specs.Lineage.{extension, newest};
-ghost use Rattle.volume_model.specs.Redo.{cut_of, log_found};
+ghost use Rattle.volume_model.specs.Common.{Gives, extension, newest, cut_of, log_found};
 ghost use Rattle.lineage.specs.Lineage.{lineage_of};
 ghost use Rattle.writer_core.specs.Groups.{groups_in, group_states_plan};
-ghost use Rattle.redo_record.specs.RecordSet.{records_of};
+ghost use Rattle.redo_record.specs.Common.{records_of};
 ghost use Rattle.writer_core.specs.Logs.{log_of_set, is_growing};
 ghost use Rattle.recovery.specs.Cuts.{are_older};
 ghost use Rattle.recovery.specs.Finds.{live_records};

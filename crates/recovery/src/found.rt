@@ -1,9 +1,9 @@
 //! The result of a recovery's cut.
 
-ghost use Rattle.std.specs.Prelude.{◌≡◌, true};
+ghost use Rattle.std.specs.Prelude.{◌≡◌, true, IfOk};
 ghost use Rattle.lineage.specs.Lineage.{lineage_of};
 ghost use Rattle.writer_core.specs.Logs.{log_of_set, is_growing};
-ghost use Rattle.volume_model.specs.Lineage.{last_cut};
+ghost use Rattle.volume_model.specs.Common.{last_cut};
 
 use lineage::Lineage;
 use redo_record::RecordSet;
@@ -24,7 +24,6 @@ pub struct Found {
 }
 
 impl Found {
-    ghost use Rattle.std.specs.Prelude.{IfOk};
     ghost use Rattle.writer_core.specs.Writers.{client_of};
     ghost use Rattle.recovery.specs.Finds.{IsFindOf};
 

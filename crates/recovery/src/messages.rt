@@ -1,13 +1,10 @@
 //! The messages of a recovery.
 
 ghost use Rattle.std.specs.Prelude.{◌≡◌, ◌≤◌, true, length, map, IfOk};
-ghost use Rattle.volume_model.specs.Message.{place_in};
-ghost use Rattle.volume_model.specs.Client.{place_of};
-ghost use Rattle.volume_model.specs.ClientRecovery.{fences, installs};
-ghost use Rattle.volume_model.specs.ClientMessages.{later_in};
+ghost use Rattle.volume_model.specs.Common.{place_in, place_of, fences, installs, later_in};
 ghost use Rattle.lineage.specs.Lineage.{lineage_of};
 ghost use Rattle.wire.specs.Message as wire;
-ghost use Rattle.wire.specs.Message.{messages_of};
+ghost use Rattle.wire.specs.Common.{messages_of};
 ghost use Rattle.writer_core.specs.Logs.{log_of_set};
 ghost use Rattle.writer_core.specs.Groups.{groups_in};
 

@@ -1,11 +1,8 @@
 //! Finds the last consistency point of records that are one chain.
 
 ghost use Rattle.std.specs.Prelude.{◌≡◌, ◌<◌, ◌≤◌, List, [], length, map, take, IfSome, IsTrue};
-ghost use Rattle.volume_model.specs.Lists.{added};
-ghost use Rattle.volume_model.specs.Redo.{Redo, last_lsn};
-ghost use Rattle.redo_record.specs.RecordSet.{records_of};
-ghost use Rattle.redo_record.specs.Run.{run_records};
-ghost use Rattle.redo_record.specs.SharedRecord.{shared_redo};
+ghost use Rattle.volume_model.specs.Common.{added, Redo, last_lsn};
+ghost use Rattle.redo_record.specs.Common.{records_of, run_records, shared_redo};
 ghost use Rattle.writer_core.specs.Logs.{log_of_set};
 ghost use Rattle.recovery.specs.Chains.{up_to_point, IsChainTo, GoesOn};
 

@@ -1,6 +1,6 @@
 //! Recoveries.
 
-ghost use Rattle.std.specs.Prelude.{◌≡◌, ◌≤◌, true};
+ghost use Rattle.std.specs.Prelude.{◌≡◌, ◌≤◌, true, ◌≢◌, false, length, map, IfErr, IfOk, MatchOption, OnOk};
 ghost use Rattle.writer_core.specs.Groups.{groups_in};
 ghost use Rattle.recovery.specs.Cuts.{are_older};
 
@@ -27,15 +27,11 @@ pub struct Recovery {
 }
 
 impl Recovery {
-    ghost use Rattle.std.specs.Prelude.{◌≢◌, false, length, map, IfErr, IfOk, MatchOption, OnOk};
     ghost use Rattle.std.specs.Arc.{arc_value};
-    ghost use Rattle.volume_model.specs.Answer.{Answers, AnswersAfterGrowth, AnswersNew, refusal_of};
+    ghost use Rattle.volume_model.specs.Common.{Answers, AnswersAfterGrowth, AnswersNew, refusal_of, has_cut, cut_client, log_reported, opened, are_places, is_for, taken};
     ghost use Rattle.volume_model.specs.declared.fault.Fault.TheVariants.{NoMemory};
-    ghost use Rattle.volume_model.specs.Client.{has_cut};
-    ghost use Rattle.volume_model.specs.ClientRecovery.{cut_client, log_reported, opened};
-    ghost use Rattle.volume_model.specs.ClientMessages.{are_places, is_for, taken};
-    ghost use Rattle.plan.specs.CheckedModel.{checked_model};
-    ghost use Rattle.wire.specs.Message.{message_of, place_of};
+    ghost use Rattle.plan.specs.Common.{checked_model};
+    ghost use Rattle.wire.specs.Common.{message_of, place_of};
     ghost use Rattle.writer_core.specs.Writers.{writer_plan, writer_volume, acted, silent};
     ghost use Rattle.recovery.specs.Recoveries.{client_of, recovery_groups, recovery_plan, recovery_volume, admitted, begun, birth_of, found_step, view_volume, HasInstalled, Opens};
     ghost use Rattle.recovery.specs.Finds.{is_spent, IsFindOf};

@@ -1,12 +1,11 @@
 //! The contents of all groups' reports together.
 
 ghost use Rattle.std.specs.Prelude.{◌≡◌, ◌-◌, ◌^◌, min, IfOk};
-ghost use Rattle.volume_model.specs.Few.{records_in};
-ghost use Rattle.volume_model.specs.Lineage.{found_in, newest, newest_with};
-ghost use Rattle.volume_model.specs.Node.{contents_of};
+ghost use Rattle.volume_model.specs.Common.{records_in, newest, newest_with, contents_of};
+ghost use Rattle.volume_model.specs.Lineage.{found_in};
 ghost use Rattle.hydration.specs.Copies.{copies_in};
 ghost use Rattle.lineage.specs.Lineage.{lineage_of};
-ghost use Rattle.redo_record.specs.RecordSet.{records_of};
+ghost use Rattle.redo_record.specs.Common.{records_of};
 ghost use Rattle.writer_core.specs.GroupStates.{groups_of};
 ghost use Rattle.recovery.specs.Reported.{reports_in};
 

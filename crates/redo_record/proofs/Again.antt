@@ -1,10 +1,8 @@
 -- What is spelled so is read again
-use Rattle.std.proofs.Common.{◌≡◌, ℕ, ◌+◌, ◌^◌, ◌<◌, Bool, true, false, not, nat_eq, nat_le, nat_lt, List, length, drop, Result, Ok, if◌then◌else◌, refl, sym, ap, ◌∙◌, arith}
+use Rattle.std.proofs.Common.{◌≡◌, ℕ, ◌+◌, ◌^◌, ◌<◌, Bool, true, false, not, nat_eq, nat_le, nat_lt, List, length, drop, Result, Ok, if◌then◌else◌, refl, sym, ap, ◌∙◌, arith, le-leb, le-ltb, lt-ltb}
 use Rattle.std.specs.Int.{w16, w32, w64}
-use Rattle.std.proofs.lemmas.Bool.{le-leb, le-ltb, lt-ltb}
 use Rattle.std.proofs.lemmas.Nat.{from_be_bytes-to_be_bytes_2, from_be_bytes-to_be_bytes_4, from_be_bytes-to_be_bytes_8}
-use Rattle.volume_model.specs.Redo.{Redo}
-use Rattle.volume_model.specs.Refusal.{refuse_if}
+use Rattle.volume_model.specs.Common.{Redo, refuse_if}
 use Rattle.volume_model.specs.declared.fault.Fault.{Fault}
 use Rattle.volume_model.specs.declared.fault.Fault.TheVariants.{Short, BadField, Trailing}
 use Rattle.redo_record.specs.declared.head.Head.{Head}

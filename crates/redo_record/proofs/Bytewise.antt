@@ -3,7 +3,7 @@ use Rattle.std.proofs.Common.{◌≡◌, ℕ, zero, suc, ◌<◌, ◌≤◌, ◌
 use Rattle.std.proofs.lemmas.Bool.{cases_lt, and_parts, and_from, eqb-true, eq-eqb}
 use Rattle.std.proofs.lemmas.List.{ext_get_or, get_or-drop, get_or-take, get_or_append_left, get_or_past, length-append, length-drop, length-replicate, length-take-le}
 use Rattle.std.proofs.Math.Seq.{get_or-append_right}
-use Rattle.volume_model.specs.Redo.{same_numbers}
+use Rattle.volume_model.specs.Common.{same_numbers}
 use Rattle.redo_record.specs.declared.payload.Payload.{Payload}
 use Rattle.redo_record.specs.Padding.{IsPadded}
 use Rattle.redo_record.specs.Payload.{payload_bytes}

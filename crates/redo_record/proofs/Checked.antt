@@ -1,7 +1,6 @@
 -- What bytes have that spell a record.
-use Rattle.std.proofs.Common.{◌≡◌, ℕ, ◌≤◌, Bool, true, false, not, nat_lt, List, length, drop, Result, Ok, is_ok, refl, ◌∙◌, arith}
-use Rattle.std.proofs.lemmas.Bool.{ltb-false}
-use Rattle.volume_model.specs.Refusal.{refuse_if}
+use Rattle.std.proofs.Common.{◌≡◌, ℕ, ◌≤◌, Bool, true, false, not, nat_lt, List, length, drop, Result, Ok, is_ok, refl, ◌∙◌, arith, ltb-false}
+use Rattle.volume_model.specs.Common.{refuse_if}
 use Rattle.volume_model.specs.declared.fault.Fault.{Fault}
 use Rattle.redo_record.specs.Head.{head_in, is_allowed, redo_in}
 use Rattle.redo_record.specs.Spelling.{spelled, decoded}

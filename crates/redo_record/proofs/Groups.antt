@@ -1,7 +1,6 @@
 -- Records of one group
 use Rattle.std.proofs.Common.{◌≡◌, ◌==◌, ◌&&◌, ℕ, Bool, true, false, List, [], ◌∷◌, ◌++◌, Option, Some, None, refl, sym, ap, subst, inl, inr, eq-eqb}
-use Rattle.volume_model.specs.Lists.{every}
-use Rattle.volume_model.specs.Redo.{Redo, with_record}
+use Rattle.volume_model.specs.Common.{every, Redo, with_record}
 use Rattle.volume_model.proofs.Basics.{IsIn-append}
 use Rattle.redo_record.specs.Groups.{AreOf, IsKnownGroup}
 use Rattle.redo_record.proofs.Places.{with_record-from}

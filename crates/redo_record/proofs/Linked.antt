@@ -1,8 +1,6 @@
 -- Records that are linked, and those of one volume epoch
-use Rattle.std.proofs.Common.{◌≡◌, ℕ, ◌+◌, ◌-◌, ◌<◌, min, List, length, get_or, take, drop, Option, Some, None, sym, ap, ◌∙◌, arith}
-use Rattle.std.proofs.lemmas.List.{get_or-take, get_or-drop, length-take, length-drop}
-use Rattle.volume_model.specs.Lists.{IsIn}
-use Rattle.volume_model.specs.Redo.{Redo}
+use Rattle.std.proofs.Common.{◌≡◌, ℕ, ◌+◌, ◌-◌, ◌<◌, min, List, length, get_or, take, drop, Option, Some, None, sym, ap, ◌∙◌, arith, get_or-take, get_or-drop, length-take, length-drop}
+use Rattle.volume_model.specs.Common.{IsIn, Redo}
 use Rattle.volume_model.proofs.Basics.{IsIn-take, IsIn-drop}
 use Rattle.redo_record.specs.SharedList.{IsKnownEpoch, AreLinked}
 

@@ -1,8 +1,7 @@
 -- Parts of a list of records
 use Rattle.std.proofs.Common.{◌≡◌, ℕ, zero, suc, ◌+◌, ◌-◌, ◌*◌, ◌≤◌, min, List, [], ◌∷◌, length, take, drop, map, Option, sym, ap, ◌∙◌, subst, arith}
 use Rattle.std.proofs.lemmas.List.{take-take, drop-take, drop-drop, drop_min, take_min, length-take, length-drop, take-map, drop-map}
-use Rattle.volume_model.specs.Pieces.{piece_records}
-use Rattle.volume_model.specs.Redo.{Redo}
+use Rattle.volume_model.specs.Common.{piece_records, Redo}
 use Rattle.volume_model.proofs.Basics.{IsIn-take, IsIn-drop}
 use Rattle.redo_record.specs.Groups.{IsKnownGroup}
 use Rattle.redo_record.specs.Order.{IsInOrder}

@@ -1,7 +1,6 @@
 -- Records of one group.
 use Rattle.std.specs.Prelude.{◌≡◌, ℕ, Option, Some, List}
-use Rattle.volume_model.specs.Lists.{IsIn}
-use Rattle.volume_model.specs.Redo.{Redo}
+use Rattle.volume_model.specs.Common.{IsIn, Redo}
 
 -- each of the records is of the group
 abbrev pub AreOf : ℕ → List Redo → Type 0

@@ -1,7 +1,7 @@
 -- Concatenation of lists.
 use Rattle.std.specs.Prelude.{List}
 use Rattle.std.specs.List.{flat_map}
-use Rattle.volume_model.specs.Redo.{Redo}
+use Rattle.volume_model.specs.Common.{Redo}
 
 -- the records of all runs, in order
 abbrev pub joined : List (List Redo) → List Redo

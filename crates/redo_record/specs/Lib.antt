@@ -18,3 +18,4 @@ pub mod Places
 pub mod Union
 pub mod Groups
 pub mod RecordSet
+pub mod Common

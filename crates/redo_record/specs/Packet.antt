@@ -1,5 +1,5 @@
 -- Records as canonical bytes.
-use Rattle.volume_model.specs.Redo.{Redo}
+use Rattle.volume_model.specs.Common.{Redo}
 use Rattle.redo_record.specs.declared.packet.Packet.{Packet}
 use Rattle.redo_record.specs.Head.{redo_in}
 use Rattle.redo_record.specs.RecordBuffer.{buffer_bytes}

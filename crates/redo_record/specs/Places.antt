@@ -1,6 +1,6 @@
 use Rattle.std.specs.Prelude.{◌≡◌, ℕ, ◌≤◌, true, false, List, length}
 use Rattle.std.specs.List.{insert}
-use Rattle.volume_model.specs.Redo.{Redo, with_record, holds_record}
+use Rattle.volume_model.specs.Common.{Redo, with_record, holds_record}
 
 -- the record is one of these
 pub record IsHeldIn (records : List Redo) (r : Redo) : Type 0 where

@@ -1,5 +1,5 @@
 use Rattle.std.specs.Prelude.{◌+◌, ◌^◌, ◌<◌, ◌≤◌, length}
-use Rattle.volume_model.specs.Redo.{Redo}
+use Rattle.volume_model.specs.Common.{Redo}
 use Rattle.redo_record.specs.Payload.{HasRoom}
 
 -- the ranges of a record's fields that its types don't give

@@ -1,7 +1,7 @@
 -- Sets of records.
 use Rattle.std.specs.Prelude.{◌+◌, ◌<◌, ◌≤◌, ◌^◌, List, length, vec_capacity, slice_index_or, IsSome}
 use Rattle.std.specs.List.{flat_map}
-use Rattle.volume_model.specs.Redo.{Redo}
+use Rattle.volume_model.specs.Common.{Redo}
 use Rattle.redo_record.specs.declared.record_set.RecordSet.{RecordSet}
 use Rattle.redo_record.specs.declared.run.Run.{Run}
 use Rattle.redo_record.specs.declared.run_place.RunPlace.{RunPlace}

@@ -1,7 +1,6 @@
 -- What is known of all records of a list.
 use Rattle.std.specs.Prelude.{◌≡◌, ℕ, ◌+◌, ◌<◌, Option, Some, List, length, slice_index_or}
-use Rattle.volume_model.specs.Lists.{IsIn}
-use Rattle.volume_model.specs.Redo.{Redo}
+use Rattle.volume_model.specs.Common.{IsIn, Redo}
 
 -- if a volume epoch is kept, each of the records is of it
 abbrev pub IsKnownEpoch : Option ℕ → List Redo → Type 0

@@ -1,8 +1,7 @@
 -- The canonical bytes of a record, and the decoding of bytes.
 use Rattle.std.specs.Prelude.{ℕ, not, nat_lt, List, ◌∷◌, ◌++◌, length, drop, Result, Ok, if◌then◌else◌}
 use Rattle.std.specs.Int.{w16, w32, w64, to_be_bytes}
-use Rattle.volume_model.specs.Redo.{Redo}
-use Rattle.volume_model.specs.Refusal.{refuse_if}
+use Rattle.volume_model.specs.Common.{Redo, refuse_if}
 use Rattle.volume_model.specs.declared.fault.Fault.{Fault}
 use Rattle.volume_model.specs.declared.fault.Fault.TheVariants.{Short, BadField, Trailing}
 use Rattle.redo_record.specs.Head.{head_in, is_allowed, redo_from}

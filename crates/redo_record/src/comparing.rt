@@ -2,7 +2,7 @@
 
 ghost use Rattle.std.specs.Prelude.{◌≡◌, ◌∷◌, length};
 ghost use Rattle.std.specs.Ordering.{is_lt, is_eq};
-ghost use Rattle.volume_model.specs.Redo.{spelling, is_same, same_numbers, numbers_before};
+ghost use Rattle.volume_model.specs.Common.{spelling, is_same, same_numbers, numbers_before};
 ghost use Rattle.redo_record.specs.Payload.{payload_bytes};
 ghost use Rattle.redo_record.specs.Record.{redo_of};
 

@@ -1,7 +1,7 @@
 //! Checks the group of records.
 
 ghost use Rattle.std.specs.Prelude.{◌≡◌, ◌==◌, map};
-ghost use Rattle.volume_model.specs.Lists.{every};
+ghost use Rattle.volume_model.specs.Common.{every};
 ghost use Rattle.redo_record.specs.SharedRecord.{shared_redo};
 
 use crate::shared_record::SharedRecord;

@@ -1,6 +1,6 @@
 //! Packets: records as canonical bytes.
 
-ghost use Rattle.std.specs.Prelude.{◌≡◌, IsTrue, is_ok};
+ghost use Rattle.std.specs.Prelude.{◌≡◌, IsTrue, is_ok, Ok, Err, MatchResult};
 ghost use Rattle.redo_record.specs.Head.{redo_in};
 ghost use Rattle.redo_record.specs.Spelling.{spelled, decoded};
 ghost use Rattle.redo_record.specs.RecordBuffer.{buffer_bytes};
@@ -23,7 +23,6 @@ pub struct Packet {
 }
 
 impl Packet {
-    ghost use Rattle.std.specs.Prelude.{Ok, Err, MatchResult};
     ghost use Rattle.redo_record.specs.Packet.{packet_redo};
     ghost use Rattle.redo_record.specs.Record.{redo_of};
 

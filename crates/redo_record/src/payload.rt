@@ -1,6 +1,6 @@
 //! The bytes that a record writes.
 
-ghost use Rattle.std.specs.Prelude.{◌≤◌};
+ghost use Rattle.std.specs.Prelude.{◌≤◌, ◌≡◌, ◌↔◌, ◌∷◌, ℕ, length, slice_index, take, IsSome, IfSome};
 ghost use Rattle.redo_record.specs.Padding.{IsPadded};
 
 /// The most bytes that a record writes.
@@ -20,8 +20,7 @@ pub struct Payload {
 }
 
 impl Payload {
-    ghost use Rattle.std.specs.Prelude.{◌≡◌, ◌↔◌, ◌∷◌, ℕ, length, slice_index, take, IsSome, IfSome};
-    ghost use Rattle.volume_model.specs.Redo.{same_numbers};
+    ghost use Rattle.volume_model.specs.Common.{same_numbers};
     ghost use Rattle.redo_record.specs.Payload.{payload_bytes, HasRoom};
 
     /// Returns these bytes as a payload, if there are 1 to 64.

@@ -1,6 +1,6 @@
 //! A byte buffer on the stack, which is appended to.
 
-ghost use Rattle.std.specs.Prelude.{◌≤◌};
+ghost use Rattle.std.specs.Prelude.{◌≤◌, ◌≡◌, ◌+◌, [], ◌++◌, length};
 
 /// The most bytes of an encoded record.
 pub const MOST_RECORD_BYTES: usize = 109;
@@ -14,7 +14,6 @@ pub struct RecordBuffer {
 }
 
 impl RecordBuffer {
-    ghost use Rattle.std.specs.Prelude.{◌≡◌, ◌+◌, [], ◌++◌, length};
     ghost use Rattle.redo_record.specs.RecordBuffer.{buffer_bytes};
 
     /// Makes an empty buffer.

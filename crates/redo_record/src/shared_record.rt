@@ -17,7 +17,7 @@ pub struct SharedRecord {
 impl SharedRecord {
     ghost use Rattle.std.specs.Prelude.{◌≡◌, IfOk};
     ghost use Rattle.std.specs.Ordering.{is_lt, is_eq};
-    ghost use Rattle.volume_model.specs.Redo.{spelling, is_same, numbers_before};
+    ghost use Rattle.volume_model.specs.Common.{spelling, is_same, numbers_before};
     ghost use Rattle.redo_record.specs.Record.{redo_of};
 
     /// Shares a record. Fails only with `NoMemory`.

@@ -1,6 +1,5 @@
 -- Lists that are copied entry by entry.
-use Rattle.std.proofs.Common.{◌≡◌, ℕ, List, ap, ◌∙◌, sym, Result, Ok}
-use Rattle.std.specs.Prelude.{Vec}
+use Rattle.std.proofs.Common.{◌≡◌, ℕ, List, ap, ◌∙◌, sym, Result, Ok, Vec}
 use Rattle.volume_model.specs.declared.fault.Fault.{Fault}
 use Rattle.refutation.specs.declared.Side.{Side}
 use Rattle.refutation.specs.declared.Refutation.{Refutation}

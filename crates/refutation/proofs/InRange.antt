@@ -1,6 +1,5 @@
 -- The ranges of rules, branch by branch.
-use Rattle.std.proofs.Common.{◌≡◌, ℕ, ◌+◌, ◌<◌, ◌≤◌, ◌∙◌, length, get_or, drop, List, map, ap, subst, sym, Result, Ok, Err}
-use Rattle.std.specs.Prelude.{All, IfOk, OnOk, Vec}
+use Rattle.std.proofs.Common.{◌≡◌, ℕ, ◌+◌, ◌<◌, ◌≤◌, ◌∙◌, length, get_or, drop, List, map, ap, subst, sym, Result, Ok, Err, All, IfOk, OnOk, Vec}
 use Rattle.std.specs.Result.{IsErrAnd}
 use Rattle.refutation.specs.declared.Side.{Side}
 use Rattle.refutation.specs.declared.Refutation.{Refutation}

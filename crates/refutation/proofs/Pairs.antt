@@ -2,7 +2,7 @@
 use Rattle.std.proofs.Common.{◌≡◌, suc, Ok, refl, arith, false, nat_eq}
 use Rattle.serde_json.specs.Data.{Data, array, no_items, item}
 use Rattle.serde_json.specs.Events.{items_len}
-use Rattle.volume_model.specs.Answer.{◌>>=◌}
+use Rattle.volume_model.specs.Common.{◌>>=◌}
 use Rattle.refutation.specs.Reading.{two_of, number_to, pair_of}
 
 pub pair_of-two : (d : Data) → pair_of d ≡ (two_of d >>= λ p. number_to 255 p.0 >>= λ a. number_to 255 p.1 >>= λ b. Ok (a, b))

@@ -1,13 +1,12 @@
 -- A certificate that was written is read back.
-use Rattle.std.proofs.Common.{◌≡◌, ℕ, zero, suc, ◌≤◌, ◌∙◌, List, [], ◌∷◌, length, Ok, refl, ap, arith, codes}
-use Rattle.std.specs.Prelude.{true, ◌&&◌, nat_le, nat_lt, All}
+use Rattle.std.proofs.Common.{◌≡◌, ℕ, zero, suc, ◌≤◌, ◌∙◌, List, [], ◌∷◌, length, Ok, refl, ap, arith, codes, true, ◌&&◌, nat_le, nat_lt, All}
 use Rattle.std.proofs.lemmas.List.Elements.{All-head, All-tail}
 use Rattle.std.proofs.lemmas.Bool.{and_parts}
 use Rattle.std.proofs.lemmas.Bool.Decides.{nat_tests}
 use Rattle.serde_json.specs.Data as json
 use Rattle.serde_json.specs.Data.{Data, Items}
 use Rattle.serde_json.specs.Events.{items_len}
-use Rattle.quorum_expr.specs.Reading.{at_key}
+use Rattle.quorum_expr.specs.Common.{at_key}
 use Rattle.refutation.specs.declared.Side.{Side}
 use Rattle.refutation.specs.declared.Side.TheVariants.{Left, Right}
 use Rattle.refutation.specs.Rule.{Rule, Branches, dead, clash, open_all, pick, pair_up, split, no_branch, branch, branches_of, branch_count, depth_of, branch_depth}

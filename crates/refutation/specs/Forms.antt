@@ -1,7 +1,7 @@
 -- Views of the types that the reader uses.
 use Rattle.std.specs.Prelude.{List, map}
 use Rattle.serde_json.specs.Data.{Data}
-use Rattle.quorum_expr.specs.Nodes.{items_in}
+use Rattle.quorum_expr.specs.Common.{items_in}
 use Rattle.refutation.specs.declared.Refutation.{Refutation}
 use Rattle.refutation.specs.declared.form.Form as declared
 use Rattle.refutation.specs.declared.form.Form.TheVariants as forms

@@ -6,8 +6,8 @@ use Rattle.serde_json.specs.Events.{members_len, items_len}
 use Rattle.serde_json.specs.Find.{at}
 use Rattle.volume_model.specs.declared.fault.Fault.{Fault}
 use Rattle.volume_model.specs.declared.fault.Fault.TheVariants.{Malformed, OverLimit}
-use Rattle.volume_model.specs.Answer.{◌>>=◌}
-use Rattle.quorum_expr.specs.Reading.{found_or_malformed, at_key, whole_of}
+use Rattle.volume_model.specs.Common.{◌>>=◌}
+use Rattle.quorum_expr.specs.Common.{found_or_malformed, at_key, whole_of}
 use Rattle.refutation.specs.declared.Side.{Side}
 use Rattle.refutation.specs.declared.Side.TheVariants.{Left, Right}
 use Rattle.refutation.specs.declared.form.RuleName.{RuleName}

@@ -1,6 +1,6 @@
 //! Refutations within the limits.
 
-ghost use Rattle.std.specs.Prelude.{◌≡◌, ◌≤◌, true, false, OnOk, IfErr};
+ghost use Rattle.std.specs.Prelude.{◌≡◌, ◌≤◌, true, false, OnOk, IfErr, IfOk, Ok};
 ghost use Rattle.refutation.specs.Rule.{depth_of, HasLimits};
 ghost use Rattle.refutation.specs.Refutation.{rule_of};
 ghost use Rattle.refutation.specs.Limits.{is_certificate};
@@ -26,8 +26,7 @@ pub struct Certificate<A: Allocator> {
 }
 
 impl<A: Allocator> Certificate<A> {
-    ghost use Rattle.std.specs.Prelude.{IfOk, Ok};
-    ghost use Rattle.volume_model.specs.Answer.{Gives};
+    ghost use Rattle.volume_model.specs.Common.{Gives};
     ghost use Rattle.refutation.specs.Certificate.{certificate_rule};
 
     /// Returns a refutation as a certificate. Returns it with `OverLimit` if it passes a limit.

@@ -1,7 +1,7 @@
 //! Copies refutations into another allocator.
 
-ghost use Rattle.std.specs.Prelude.{◌≡◌, Ok};
-ghost use Rattle.volume_model.specs.Answer.{Gives};
+ghost use Rattle.std.specs.Prelude.{Ok};
+ghost use Rattle.volume_model.specs.Common.{Gives};
 ghost use Rattle.refutation.specs.Rule.{open_all, pick, pair_up, split, branches_of};
 ghost use Rattle.refutation.specs.Refutation.{rule_of};
 ghost use Rattle.refutation.specs.Forms.{rules_of};

@@ -3,8 +3,8 @@
 ghost use Rattle.std.specs.Prelude.{◌≡◌, ◌≢◌, ◌≤◌, IfOk, IfErr};
 ghost use Rattle.serde_json.specs.Data.{put as with_member};
 ghost use Rattle.serde_json.specs.View.{view, members_view};
-ghost use Rattle.volume_model.specs.Answer.{Gives};
-ghost use Rattle.quorum_expr.specs.Nodes.{items_in};
+ghost use Rattle.volume_model.specs.Common.{Gives};
+ghost use Rattle.quorum_expr.specs.Common.{items_in};
 ghost use Rattle.refutation.specs.Reading.{has_keys, array_of, two_of, number_to, number_at};
 
 use quorum_expr::{Node, value_at, whole};

@@ -2,14 +2,12 @@
 
 ghost use Rattle.std.specs.Prelude.{◌≡◌, ◌≢◌, IfErr};
 ghost use Rattle.serde_json.specs.View.{view};
-ghost use Rattle.volume_model.specs.Answer.{Gives};
-ghost use Rattle.quorum_expr.specs.Nodes.{items_in};
+ghost use Rattle.volume_model.specs.Common.{Gives};
+ghost use Rattle.quorum_expr.specs.Common.{items_in};
 ghost use Rattle.refutation.specs.Refutation.{rule_of};
 ghost use Rattle.refutation.specs.Certificate.{certificate_rule};
 ghost use Rattle.refutation.specs.Forms.{form_data, rules_of};
-ghost use Rattle.refutation.specs.Reading.{side_of, numbers_of, pair_of, pairs_of, rule_name_of};
-ghost use Rattle.refutation.specs.Reading.{dead_in, clash_in, open_in, pick_in, match_in, split_in, fields_of, form_of};
-ghost use Rattle.refutation.specs.Reading.{each_rule, rule_from, rule_level, rule_at, certificate_in};
+ghost use Rattle.refutation.specs.Reading.{side_of, numbers_of, pair_of, pairs_of, rule_name_of, dead_in, clash_in, open_in, pick_in, match_in, split_in, fields_of, form_of, each_rule, rule_from, rule_level, rule_at, certificate_in};
 
 use crate::certificate::{Certificate, MAX_DEPTH};
 use crate::form::{Form, RuleName};

@@ -1,7 +1,7 @@
 //! Writes certificates as JSON.
 
 ghost use Rattle.std.specs.Prelude.{◌≡◌, ◌≤◌, All, IfOk, OnOk, Ok, codes, map};
-ghost use Rattle.volume_model.specs.Answer.{Gives};
+ghost use Rattle.volume_model.specs.Common.{Gives};
 ghost use Rattle.serde_json.specs.Data.{depth, string, no_members, put as with_member};
 ghost use Rattle.serde_json.specs.View.{view, items_view, members_view};
 ghost use Rattle.refutation.specs.Rule.{branches_of};

@@ -4,9 +4,8 @@ use Rattle.std.proofs.lemmas.Bool.{cases_lt, eq-eqb, le-leb}
 use Rattle.std.proofs.lemmas.Option.{get_or_from_slice_get}
 use Rattle.std.specs.Global.{Box}
 use Rattle.std.specs.List.{All, slice_get}
-use Rattle.volume_model.specs.Redo.{Redo, spelling, numbers_before, with_record}
-use Rattle.volume_model.specs.Node.{page_from, page_of, written}
-use Rattle.redo_record.specs.Order.{ComesAfter, IsInOrder}
+use Rattle.volume_model.specs.Common.{Redo, spelling, numbers_before, with_record, page_from, page_of, written}
+use Rattle.redo_record.specs.Common.{ComesAfter, IsInOrder}
 use Rattle.redo_record.proofs.Finding.{lsn-rises}
 use Rattle.redo_record.proofs.Merging.{merged-after}
 use Rattle.redo_record.proofs.Places.{before_from, with_record-after}

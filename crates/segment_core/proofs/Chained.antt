@@ -1,9 +1,6 @@
 -- Complete points with one record more.
 use Rattle.std.proofs.Common.{◌≡◌, ℕ, ◌<◌, ◌≤◌, List, refl, ap, ◌∙◌, subst, inl, inr, arith}
-use Rattle.volume_model.specs.Redo.{Redo, scl, with_record}
-use Rattle.volume_model.specs.Greatest.{IsGreatest}
-use Rattle.volume_model.specs.Grounded.{IsGrounded, IsGroundedNumber, GroupLinksFall}
-use Rattle.volume_model.specs.Grounded.IsGrounded.{from_none, from_one}
+use Rattle.volume_model.specs.Common.{Redo, scl, with_record, IsGreatest, IsGrounded, IsGroundedNumber, GroupLinksFall, from_none, from_one}
 use Rattle.volume_model.proofs.Grounded.{complete_point_is_greatest}
 use Rattle.volume_model.proofs.Records.{with_record-keeps, with_record-from}
 

@@ -1,11 +1,8 @@
 -- The records with a chain down to 0, collected in order.
 use Rattle.std.proofs.Common.{◌≡◌, ℕ, ◌<◌, ◌≤◌, ◌⊎◌, true, List, [], ◌∷◌, ◌++◌, refl, sym, ap, ◌∙◌, subst, inl, inr, arith}
-use Rattle.volume_model.specs.Lists.{IsIn}
-use Rattle.volume_model.specs.Redo.{Redo, spelling, numbers_before, scl}
-use Rattle.volume_model.specs.Grounded.{IsGrounded, IsGroundedNumber, GroupLinksFall}
-use Rattle.volume_model.specs.Grounded.IsGrounded.{from_none, from_one}
+use Rattle.volume_model.specs.Common.{IsIn, Redo, spelling, numbers_before, scl, IsGrounded, IsGroundedNumber, GroupLinksFall, from_none, from_one}
 use Rattle.volume_model.proofs.Basics.{IsIn-append, IsIn-append_left, IsIn-append_right}
-use Rattle.redo_record.specs.Order.{IsInOrder, ComesAfter}
+use Rattle.redo_record.specs.Common.{IsInOrder, ComesAfter}
 use Rattle.redo_record.proofs.Before.{IsBefore}
 use Rattle.redo_record.proofs.Finding.{lsn-rises}
 use Rattle.redo_record.proofs.Places.{IsOrdered, ordered-from}

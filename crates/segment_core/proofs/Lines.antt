@@ -1,21 +1,16 @@
 -- Lines of records, and their complete points.
-use Rattle.std.proofs.Common.{◌≡◌, ℕ, zero, suc, ◌+◌, ◌<◌, ◌≤◌, ◌==◌, nat_le, true, false, ◌⊎◌, Option, Some, None, List, [], ◌∷◌, ◌++◌, length, get_or, take, drop, refl, sym, ap, ◌∙◌, subst, inl, inr, arith}
+use Rattle.std.proofs.Common.{◌≡◌, ℕ, zero, suc, ◌+◌, ◌<◌, ◌≤◌, ◌==◌, nat_le, true, false, ◌⊎◌, Option, Some, None, List, [], ◌∷◌, ◌++◌, length, get_or, take, drop, refl, sym, ap, ◌∙◌, subst, inl, inr, arith, take-append-drop}
 use Rattle.std.proofs.lemmas.Bool.{cases_Bool, and_parts, and_from, eqb-true, eqb-false, eq-eqb, ne_eqb}
 use Rattle.std.proofs.lemmas.Bool.Decides.{nat_tests}
-use Rattle.std.proofs.lemmas.List.{take-append-drop}
 use Rattle.std.proofs.lemmas.Option.{slice_get-get_or, get_or_from_slice_get}
 use Rattle.std.specs.Borrow.{Bor}
 use Rattle.std.specs.List.{insert, slice_get}
-use Rattle.volume_model.specs.Lists.{IsIn}
-use Rattle.volume_model.specs.Redo.{Redo, scl, with_record}
-use Rattle.volume_model.specs.Grounded.{IsGrounded, IsGroundedNumber, GroupLinksFall}
-use Rattle.volume_model.specs.Grounded.IsGrounded.{from_none, from_one}
+use Rattle.volume_model.specs.Common.{IsIn, Redo, scl, with_record, IsGrounded, IsGroundedNumber, GroupLinksFall, from_none, from_one}
 use Rattle.volume_model.proofs.Basics.{IsIn-append_right}
 use Rattle.redo_record.specs.declared.record_set.RecordSet.{RecordSet}
 use Rattle.redo_record.specs.declared.run_place.RunPlace.{RunPlace}
 use Rattle.redo_record.specs.declared.shared_record.SharedRecord.{SharedRecord}
-use Rattle.redo_record.specs.RecordSet.{records_of, runs_of}
-use Rattle.redo_record.specs.RunPlaces.{index_of, record_before, IsPlaceIn}
+use Rattle.redo_record.specs.Common.{records_of, runs_of, index_of, record_before, IsPlaceIn}
 use Rattle.segment_core.specs.Chains.{chain_end, is_line, lsn_before, IsFoundAt}
 use Rattle.segment_core.proofs.Chained.{fewer_fall, point_is}
 

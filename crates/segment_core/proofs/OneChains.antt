@@ -1,9 +1,7 @@
 -- Records that are one chain.
-use Rattle.std.proofs.Common.{◌≡◌, ℕ, zero, suc, ◌+◌, true, List, [], ◌∷◌, ◌++◌, length, get_or, refl, sym, ap, ◌∙◌, subst, arith}
-use Rattle.std.proofs.lemmas.Bool.{eq-eqb}
-use Rattle.volume_model.specs.Redo.{Redo, scl}
-use Rattle.volume_model.specs.Grounded.{GroupLinksFall}
-use Rattle.redo_record.specs.SharedList.{IsGroupChain}
+use Rattle.std.proofs.Common.{◌≡◌, ℕ, zero, suc, ◌+◌, true, List, [], ◌∷◌, ◌++◌, length, get_or, refl, sym, ap, ◌∙◌, subst, arith, eq-eqb}
+use Rattle.volume_model.specs.Common.{Redo, scl, GroupLinksFall}
+use Rattle.redo_record.specs.Common.{IsGroupChain}
 use Rattle.segment_core.specs.Chains.{chain_end, is_line}
 use Rattle.segment_core.specs.OneChain.{IsOneChain}
 use Rattle.segment_core.proofs.Lines.{IsLine, line-to, line-point}

@@ -1,8 +1,7 @@
 -- Pages with all records of a block applied.
 use Rattle.std.specs.Prelude.{◌≡◌, ℕ, List, [], ◌∷◌, Option, Some, replicate}
 use Rattle.std.specs.Global.{Box}
-use Rattle.volume_model.specs.Redo.{Redo}
-use Rattle.volume_model.specs.Node.{written}
+use Rattle.volume_model.specs.Common.{Redo, written}
 
 -- the page with the writes of these records applied, in order
 abbrev pub applied : List Redo → List ℕ → List ℕ

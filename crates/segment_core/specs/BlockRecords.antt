@@ -2,11 +2,8 @@
 use Rattle.std.specs.Prelude.{◌≡◌, ◌<◌, ◌-◌, List, [], Option, Some, Vec, length, map, slice_get, vec_capacity, MatchOption}
 use Rattle.std.specs.Borrow.{Bor}
 use Rattle.std.specs.Global.{Global}
-use Rattle.volume_model.specs.Redo.{Redo}
-use Rattle.redo_record.specs.Order.{ComesAfter}
-use Rattle.redo_record.specs.Places.{IsHeldIn}
-use Rattle.redo_record.specs.RecordSet.{records_of, HasRoomAt, StandsAt}
-use Rattle.redo_record.specs.SharedRecord.{shared_redo}
+use Rattle.volume_model.specs.Common.{Redo}
+use Rattle.redo_record.specs.Common.{ComesAfter, IsHeldIn, records_of, HasRoomAt, StandsAt, shared_redo}
 use Rattle.redo_record.specs.declared.record_set.RecordSet.{RecordSet}
 use Rattle.redo_record.specs.declared.run_place.RunPlace.{RunPlace}
 use Rattle.redo_record.specs.declared.shared_record.SharedRecord.{SharedRecord}

@@ -1,11 +1,8 @@
 -- The complete point of a group's records, and whether they form a line.
 use Rattle.std.specs.Prelude.{◌≡◌, ◌==◌, ◌&&◌, ◌⊎◌, ℕ, zero, suc, Bool, true, nat_le, if◌then◌else◌, List, [], ◌∷◌, Option, option_map, slice_get}
 use Rattle.std.specs.Borrow.{Bor}
-use Rattle.volume_model.specs.Lists.{IsIn}
-use Rattle.volume_model.specs.Redo.{Redo, scl}
-use Rattle.redo_record.specs.RecordSet.{records_of, runs_of}
-use Rattle.redo_record.specs.RunPlaces.{index_of}
-use Rattle.redo_record.specs.SharedRecord.{shared_redo}
+use Rattle.volume_model.specs.Common.{IsIn, Redo, scl}
+use Rattle.redo_record.specs.Common.{records_of, runs_of, index_of, shared_redo}
 use Rattle.redo_record.specs.declared.record_set.RecordSet.{RecordSet}
 use Rattle.redo_record.specs.declared.run_place.RunPlace.{RunPlace}
 use Rattle.redo_record.specs.declared.shared_record.SharedRecord.{SharedRecord}

@@ -1,6 +1,6 @@
 -- Records that are one chain.
 use Rattle.std.specs.Prelude.{◌≡◌, ℕ, List, [], ◌∷◌}
-use Rattle.volume_model.specs.Redo.{Redo}
+use Rattle.volume_model.specs.Common.{Redo}
 
 -- each record links to the one before it in the group, the first one to n; m is the LSN of the last one, or n if there
 -- is none

@@ -3,11 +3,10 @@ use Rattle.std.specs.Prelude.{ℕ, not, [], None, Result, Ok}
 use Rattle.std.specs.Arc.{arc_value}
 use Rattle.volume_model.specs.Plan as model
 use Rattle.volume_model.specs.Node.{Node}
-use Rattle.volume_model.specs.Refusal.{refuse_if}
+use Rattle.volume_model.specs.Common.{refuse_if}
 use Rattle.volume_model.specs.declared.fault.Fault.{Fault}
 use Rattle.volume_model.specs.declared.fault.Fault.TheVariants.{NoActor}
-use Rattle.wire.specs.Contents.{contents_of}
-use Rattle.wire.specs.Message.{place_of}
+use Rattle.wire.specs.Common.{contents_of, place_of}
 use Rattle.segment_core.specs.declared.snapshot.SegmentSnapshot.{SegmentSnapshot}
 
 -- the node of the model for a snapshot

@@ -1,7 +1,7 @@
 -- What a segment says of itself.
 use Rattle.std.specs.Prelude.{length}
 use Rattle.volume_model.specs.Node.{Node}
-use Rattle.volume_model.specs.Redo.{scl}
+use Rattle.volume_model.specs.Common.{scl}
 use Rattle.segment_core.specs.declared.status.SegmentStatus.{SegmentStatus}
 
 -- the epochs, the configuration, whether it is whole, the complete point and the number of records of a node

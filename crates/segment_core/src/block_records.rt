@@ -1,10 +1,8 @@
 //! The records of one block: a list while they come in order, else a set.
 
-ghost use Rattle.std.specs.Prelude.{◌≡◌, List, IfOk, IsTrue};
-ghost use Rattle.volume_model.specs.Redo.{Redo};
-ghost use Rattle.redo_record.specs.Order.{ComesAfter, IsInOrder};
-ghost use Rattle.redo_record.specs.RecordSet.{records_of};
-ghost use Rattle.redo_record.specs.SharedRecord.{shared_redo};
+ghost use Rattle.std.specs.Prelude.{◌≡◌, List, IfOk, IsTrue, [], All, length};
+ghost use Rattle.volume_model.specs.Common.{Redo, page_of, with_record};
+ghost use Rattle.redo_record.specs.Common.{ComesAfter, IsInOrder, records_of, shared_redo};
 ghost use Rattle.segment_core.specs.BlockRecords.{IsLastOf, IsReadyIn};
 
 use pages::{BLOCK, page_of, page_of_set};
@@ -54,9 +52,6 @@ pub enum BlockRecords {
 }
 
 impl BlockRecords {
-    ghost use Rattle.std.specs.Prelude.{[], All, length};
-    ghost use Rattle.volume_model.specs.Node.{page_of};
-    ghost use Rattle.volume_model.specs.Redo.{with_record};
     ghost use Rattle.segment_core.specs.BlockRecords.{records_in, IsReadyAt};
 
     /// Makes an empty list.

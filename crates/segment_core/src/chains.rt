@@ -16,9 +16,8 @@ pub struct Chains {
 
 impl Chains {
     ghost use Rattle.std.specs.Prelude.{◌≡◌, [], IfOk};
-    ghost use Rattle.volume_model.specs.Redo.{with_record};
-    ghost use Rattle.redo_record.specs.RecordSet.{records_of, StandsAt};
-    ghost use Rattle.redo_record.specs.SharedRecord.{shared_redo};
+    ghost use Rattle.volume_model.specs.Common.{with_record};
+    ghost use Rattle.redo_record.specs.Common.{records_of, StandsAt, shared_redo};
     ghost use Rattle.segment_core.specs.Chains.{AreChainsOf};
 
     /// Makes the chains of no records.

@@ -1,9 +1,8 @@
 //! Computes the complete point of any records.
 
 ghost use Rattle.std.specs.Prelude.{◌≡◌, IfOk, MatchBool};
-ghost use Rattle.volume_model.specs.Redo.{scl};
-ghost use Rattle.redo_record.specs.RecordSet.{records_of};
-ghost use Rattle.redo_record.specs.SharedRecord.{shared_redo};
+ghost use Rattle.volume_model.specs.Common.{scl};
+ghost use Rattle.redo_record.specs.Common.{records_of, shared_redo};
 ghost use Rattle.segment_core.specs.Chains.{IsLinkedTo};
 
 use redo_record::{RecordSet, SharedRecord};

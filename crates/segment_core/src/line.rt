@@ -1,10 +1,8 @@
 //! Lines of records. In a line no record links to an LSN below that of the record before it in order.
 
 ghost use Rattle.std.specs.Prelude.{◌≡◌, true, drop, IsTrue};
-ghost use Rattle.volume_model.specs.Redo.{with_record};
-ghost use Rattle.redo_record.specs.RecordSet.{records_of, runs_of, StandsAt};
-ghost use Rattle.redo_record.specs.RunPlaces.{index_of, IsPlaceIn};
-ghost use Rattle.redo_record.specs.SharedRecord.{shared_redo};
+ghost use Rattle.volume_model.specs.Common.{with_record};
+ghost use Rattle.redo_record.specs.Common.{records_of, runs_of, StandsAt, index_of, IsPlaceIn, shared_redo};
 ghost use Rattle.segment_core.specs.Chains as chains;
 ghost use Rattle.segment_core.specs.Chains.{IsFoundAt};
 

@@ -5,10 +5,10 @@ mod hydrating;
 mod paging;
 mod saving;
 
-ghost use Rattle.std.specs.Prelude.{◌≡◌, true, IfOk};
+ghost use Rattle.std.specs.Prelude.{◌≡◌, true, IfOk, ◌==◌, false, not, [], ◌∷◌, Ok, Err, IfErr, MatchResult, ◌≢◌};
 ghost use Rattle.std.specs.Arc.{arc_value};
-ghost use Rattle.volume_model.specs.Plan.{is_named};
-ghost use Rattle.plan.specs.CheckedModel.{checked_model};
+ghost use Rattle.volume_model.specs.Common.{is_named, Answers, AnswersAlways, AnswersAfterGrowth, AnswersNew, refuse_if, record_at, scl, NodeAnswer, gossip_of, installed, label_checks, lineage_epoch, offered, restarted, take_record, is_bad_piece};
+ghost use Rattle.plan.specs.Common.{checked_model};
 
 use crate::action::NodeAction;
 use crate::assembly::Assembly;
@@ -55,19 +55,11 @@ pub struct Segment {
 }
 
 impl Segment {
-    ghost use Rattle.std.specs.Prelude.{◌==◌, false, not, [], ◌∷◌, Ok, Err, IfErr, MatchResult, ◌≢◌};
-    ghost use Rattle.volume_model.specs.Answer.{Answers, AnswersAlways, AnswersAfterGrowth, AnswersNew};
-    ghost use Rattle.volume_model.specs.Refusal.{refuse_if};
     ghost use Rattle.volume_model.specs.declared.fault.Fault.TheVariants.{NoMemory, NotAddressed, NotInstalled};
-    ghost use Rattle.volume_model.specs.Redo.{record_at, scl};
-    ghost use Rattle.volume_model.specs.Node.{NodeAnswer, gossip_of, installed, label_checks, lineage_epoch, offered, restarted, take_record};
-    ghost use Rattle.volume_model.specs.Pieces.{is_bad_piece};
-    ghost use Rattle.redo_record.specs.SharedRecord.{shared_redo};
+    ghost use Rattle.redo_record.specs.Common.{shared_redo};
     ghost use Rattle.redo_record.specs.RecordSet.{records_of as set_records};
     ghost use Rattle.volume_model.specs.Message as model;
-    ghost use Rattle.wire.specs.Contents.{contents_of, piece_in};
-    ghost use Rattle.wire.specs.Listed.{listed};
-    ghost use Rattle.wire.specs.Message.{label_of, message_of, messages_of};
+    ghost use Rattle.wire.specs.Common.{contents_of, piece_in, listed, label_of, message_of, messages_of};
     ghost use Rattle.segment_core.specs.Actions.{action_after_growth};
     ghost use Rattle.segment_core.specs.Prepared.{answers_of, effected, step_of};
     ghost use Rattle.segment_core.specs.Status.{status_of};

@@ -1,9 +1,7 @@
 //! The contents of a segment, and its last report.
 
-ghost use Rattle.std.specs.Prelude.{option_map};
+ghost use Rattle.std.specs.Prelude.{option_map, ◌≡◌, IfOk};
 ghost use Rattle.std.specs.Arc.{arc_value};
-ghost use Rattle.lineage.specs.Lineage.{lineage_of};
-ghost use Rattle.segment_core.specs.Records.{records_of};
 ghost use Rattle.segment_core.specs.Reported.{IsReported, contents_with};
 
 use crate::pending_insert::PendingInsert;
@@ -28,12 +26,9 @@ pub struct SegmentState {
 }
 
 impl SegmentState {
-    ghost use Rattle.std.specs.Prelude.{◌≡◌, IfOk};
-    ghost use Rattle.volume_model.specs.Node.{page_of};
-    ghost use Rattle.volume_model.specs.Redo.{with_record};
-    ghost use Rattle.redo_record.specs.RecordSet.{StandsAt};
-    ghost use Rattle.redo_record.specs.SharedRecord.{shared_redo};
-    ghost use Rattle.wire.specs.Contents.{contents_of};
+    ghost use Rattle.volume_model.specs.Common.{page_of};
+    ghost use Rattle.redo_record.specs.Common.{StandsAt, shared_redo};
+    ghost use Rattle.wire.specs.Common.{contents_of};
     ghost use Rattle.segment_core.specs.SegmentState.{state_contents, entered};
     ghost use Rattle.segment_core.specs.Records.{CanEnter};
 

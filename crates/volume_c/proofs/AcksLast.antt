@@ -1,17 +1,10 @@
 -- Of the acknowledgements of one segment under one label the last suffices, if none before it says more.
-use Rattle.std.proofs.Common.{◌≡◌, ℕ, zero, suc, ◌≤◌, max, Bool, true, false, not, ◌&&◌, ◌||◌, nat_le, eqb, ◌⊎◌, List, [], ◌∷◌, if◌then◌else◌, Ok, refl, sym, ap, ◌∙◌, subst, inl, inr, arith, le_refl}
-use Rattle.std.specs.Prelude.{slice_set}
+use Rattle.std.proofs.Common.{◌≡◌, ℕ, zero, suc, ◌≤◌, max, Bool, true, false, not, ◌&&◌, ◌||◌, nat_le, eqb, ◌⊎◌, List, [], ◌∷◌, if◌then◌else◌, Ok, refl, sym, ap, ◌∙◌, subst, inl, inr, arith, le_refl, slice_set}
 use Rattle.std.proofs.lemmas.Bool.{cases_Bool, eq-eqb, eqb-true, true≢false}
-use Rattle.volume_model.specs.Lists.{IsIn}
-use Rattle.volume_model.specs.Formula.{Formula, Children, Members, member, at_least, no_child, child, sat, weight_held}
-use Rattle.volume_model.specs.Plan.{Plan}
-use Rattle.volume_model.specs.Message.{Label}
-use Rattle.volume_model.specs.Message.Message.{Ack}
-use Rattle.volume_model.specs.Refusal.{refuse_if}
+use Rattle.volume_model.specs.Common.{IsIn, Formula, Children, Members, at_least, no_child, child, sat, weight_held, Plan, Label, Ack, refuse_if, ClientGroup, Count, group_of, has_cut, is_born, is_open, place_configuration, stays, best, counted_by, raised, raised_from, raised_group, reaching, with_count, ack_taken, is_for, taken}
+use Rattle.volume_model.specs.Formula.{member}
 use Rattle.volume_model.specs.declared.fault.Fault.TheVariants.{NoActor, NotAddressed}
-use Rattle.volume_model.specs.Client.{Client, ClientGroup, Count, group_of, has_cut, is_born, is_open, place_configuration, stays}
-use Rattle.volume_model.specs.ClientPoints.{best, counted_by, raised, raised_from, raised_group, reaching, with_count}
-use Rattle.volume_model.specs.ClientMessages.{ack_taken, is_for, taken}
+use Rattle.volume_model.specs.Client.{Client}
 use Rattle.volume_model.proofs.FormulaLaws.{sat_more}
 use Rattle.volume_model.proofs.Filled.{IsFilled}
 use Rattle.volume_model.proofs.Points.{best-greatest, reaching-some, reaching-from}

@@ -1,6 +1,5 @@
 -- Members by their numbers, one after the other.
-use Rattle.std.proofs.Common.{◌≡◌, ℕ, ◌+◌, ◌<◌, ◌≤◌, Bool, List, ◌∷◌, length, drop, get_or, nat_eq, nat_lt, ◌&&◌, sym, ap, ap₂, ◌∙◌, arith, drop-cons, add-one}
-use Rattle.std.specs.Prelude.{◌||◌}
+use Rattle.std.proofs.Common.{◌≡◌, ℕ, ◌+◌, ◌<◌, ◌≤◌, Bool, List, ◌∷◌, length, drop, get_or, nat_eq, nat_lt, ◌&&◌, sym, ap, ap₂, ◌∙◌, arith, drop-cons, add-one, ◌||◌}
 use Rattle.std.proofs.lemmas.Bool.Decides.{nat_tests}
 use Rattle.std.specs.Ordering.{nat_cmp}
 use Rattle.std.specs.FinSet.{FinSet, contains, insert}

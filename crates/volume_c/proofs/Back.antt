@@ -1,10 +1,7 @@
 -- Snapshots are read back.
-use Rattle.std.proofs.Common.{◌≡◌, ℕ, ◌^◌, ◌<◌, Bool, true, false, List, [], ◌∷◌, ◌++◌, Ok, refl, sym, ap, ◌∙◌}
-use Rattle.std.specs.Prelude.{None}
+use Rattle.std.proofs.Common.{◌≡◌, ℕ, ◌^◌, ◌<◌, Bool, true, false, List, [], ◌∷◌, ◌++◌, Ok, refl, sym, ap, ◌∙◌, None, append-nil}
 use Rattle.std.specs.Int.{w32, w64, to_be_bytes}
-use Rattle.std.proofs.lemmas.List.{append-nil}
-use Rattle.volume_model.specs.Lineage.{Contents}
-use Rattle.volume_model.specs.Message.{Place}
+use Rattle.volume_model.specs.Common.{Contents, Place}
 use Rattle.message_bytes.specs.Contents.{contents_at}
 use Rattle.message_bytes.specs.Spelling.{place_spelled, contents_spelled}
 use Rattle.message_bytes.proofs.Fields.{wide32, wide64, number_again}

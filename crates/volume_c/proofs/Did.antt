@@ -1,11 +1,8 @@
 -- A refusal of a client, as a call of a handle that holds it.
 use Rattle.std.proofs.Common.{◌≡◌, ℕ, List, Bool, Option, Some, Result, Err, refl, sym, ap, ◌∙◌, subst}
-use Rattle.volume_model.specs.Answer.{AnswersAfterGrowth, Fails}
-use Rattle.volume_model.specs.Numbers.{number_of}
-use Rattle.volume_model.specs.Plan.{Plan}
+use Rattle.volume_model.specs.Common.{AnswersAfterGrowth, Fails, number_of, Plan, ClientAnswer}
 use Rattle.volume_model.specs.Message as model
 use Rattle.volume_model.specs.Client as client
-use Rattle.volume_model.specs.Client.{ClientAnswer}
 use Rattle.volume_model.specs.declared.fault.Fault.{Fault}
 use Rattle.volume_model.specs.declared.fault.Fault.TheVariants.{NoMemory}
 use Rattle.message_bytes.proofs.Handed.{Fails-at}

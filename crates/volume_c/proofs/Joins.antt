@@ -1,14 +1,8 @@
 -- Joined answers leave a client as the answers do that they are joined from.
-use Rattle.std.proofs.Common.{◌≡◌, ℕ, ◌≤◌, true, nat_le, eqb, List, [], ◌∷◌, ◌++◌, Ok, Err, refl, sym, ap, ◌∙◌, append_assoc, inl, inr}
+use Rattle.std.proofs.Common.{◌≡◌, ℕ, ◌≤◌, true, nat_le, eqb, List, [], ◌∷◌, ◌++◌, Ok, Err, refl, sym, ap, ◌∙◌, append_assoc, inl, inr, append-nil}
 use Rattle.std.proofs.lemmas.Bool.{cases_Bool, and_parts, eqb-true, leb-true}
-use Rattle.std.proofs.lemmas.List.{append-nil}
-use Rattle.volume_model.specs.Answer.{◌>>=◌}
-use Rattle.volume_model.specs.Plan.{Plan}
-use Rattle.volume_model.specs.Message.{Label, Message}
-use Rattle.volume_model.specs.Message.Message.{Ack}
-use Rattle.volume_model.specs.Node.{NodeStep, NodeAnswer, reaction}
+use Rattle.volume_model.specs.Common.{◌>>=◌, Plan, Label, Message, Ack, NodeStep, NodeAnswer, reaction, taken}
 use Rattle.volume_model.specs.Client.{Client}
-use Rattle.volume_model.specs.ClientMessages.{taken}
 use Rattle.volume_c.specs.Joined.{covers, from_node, in_turn, is_covered, joined}
 use Rattle.volume_c.specs.Replay.{answers_and, answers_in_turn, client_after, client_or, LastAckSuffices}
 use Rattle.volume_c.proofs.AcksLast.{last_suffices}

@@ -1,21 +1,14 @@
 -- Handles that are filled.
-use Rattle.std.proofs.Common.{◌≡◌, ◌≢◌, ◌<◌, ℕ, Bool, false, not, List, [], Option, Some, None, Result, Ok, Err, refl, sym, ap, ◌∙◌, subst, arith, inl, inr, ◌⊎◌}
-use Rattle.std.specs.Prelude.{is_some, nat_le, option_map}
-use Rattle.std.proofs.lemmas.Bool.{true≢false}
+use Rattle.std.proofs.Common.{◌≡◌, ◌≢◌, ◌<◌, ℕ, Bool, false, not, List, [], Option, Some, None, Result, Ok, Err, refl, sym, ap, ◌∙◌, subst, arith, inl, inr, ◌⊎◌, is_some, nat_le, option_map, true≢false}
 use Rattle.std.proofs.lemmas.Bool.Decides.{nat_tests}
-use Rattle.volume_model.specs.Answer.{Fails}
-use Rattle.volume_model.specs.Numbers.{number_of}
+use Rattle.volume_model.specs.Common.{Fails, number_of, refuse_if, Plan, ClientAnswer, unborn, taken}
 use Rattle.volume_model.specs.Message as model
 use Rattle.volume_model.specs.declared.fault.Fault.{Fault}
 use Rattle.volume_model.specs.declared.fault.Fault.TheVariants.{NoMemory, NotOpen}
-use Rattle.volume_model.specs.Refusal.{refuse_if}
 use Rattle.volume_c.specs.declared.actor.Held.{Held}
-use Rattle.volume_model.specs.Plan.{Plan}
 use Rattle.volume_model.specs.Client as client
-use Rattle.volume_model.specs.Client.{ClientAnswer, unborn}
-use Rattle.volume_model.specs.ClientMessages.{taken}
 use Rattle.wire.specs.declared.message.Message.{Message}
-use Rattle.wire.specs.Message.{messages_of}
+use Rattle.wire.specs.Common.{messages_of}
 use Rattle.epochs.specs.declared.authority.Authority.{Authority}
 use Rattle.epochs.specs.Authority.{authority_of, authority_plan}
 use Rattle.segment_core.specs.declared.segment.Segment.{Segment}

@@ -1,15 +1,11 @@
 -- The turns of a segment.
-use Rattle.std.proofs.Common.{◌≡◌, ℕ, false, true, List, [], ◌∷◌, ◌++◌, Option, Some, None, Result, Ok, Err, IfOk, sym, ap, ◌∙◌, subst}
-use Rattle.std.specs.Prelude.{is_some, slice_get}
-use Rattle.std.proofs.lemmas.Bool.{true≢false}
+use Rattle.std.proofs.Common.{◌≡◌, ℕ, false, true, List, [], ◌∷◌, ◌++◌, Option, Some, None, Result, Ok, Err, IfOk, sym, ap, ◌∙◌, subst, is_some, slice_get, true≢false}
 use Rattle.std.proofs.lemmas.List.{map-append}
-use Rattle.volume_model.specs.Answer.{Gives}
+use Rattle.volume_model.specs.Common.{Gives, NodeStep, Plan}
 use Rattle.volume_model.specs.Message as model
-use Rattle.volume_model.specs.Node.{NodeStep}
-use Rattle.volume_model.specs.Plan.{Plan}
 use Rattle.volume_model.specs.declared.fault.Fault.{Fault}
 use Rattle.wire.specs.declared.message.Message.{Message}
-use Rattle.wire.specs.Message.{message_of, messages_of}
+use Rattle.wire.specs.Common.{message_of, messages_of}
 use Rattle.message_bytes.proofs.Fields.{IsBytes}
 use Rattle.segment_core.specs.declared.segment.Segment.{Segment}
 use Rattle.segment_core.specs.Segment.{segment_plan, segment_group, segment_member, IsSameActor}

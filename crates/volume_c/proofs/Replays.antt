@@ -1,10 +1,8 @@
 -- A log is replayed.
 use Rattle.std.proofs.Common.{◌≡◌, ℕ, List, [], ◌∷◌, Result, Ok, Err, refl, ap, ◌∙◌}
-use Rattle.volume_model.specs.Answer.{◌>>=◌}
+use Rattle.volume_model.specs.Common.{◌>>=◌, Plan, Message, NodeStep, NodeAnswer, reaction}
 use Rattle.volume_model.specs.declared.fault.Fault.{Fault}
-use Rattle.volume_model.specs.Plan.{Plan}
-use Rattle.volume_model.specs.Message.{Message}
-use Rattle.volume_model.specs.Node.{Node, NodeStep, NodeAnswer, reaction}
+use Rattle.volume_model.specs.Node.{Node}
 use Rattle.segment_core.specs.Snapshot.{resumed}
 use Rattle.volume_c.specs.Joined.{in_turn, joined}
 use Rattle.volume_c.specs.Replay.{logged, node_after, node_or, replayed, with_taken, ReplayReaches}

@@ -1,9 +1,10 @@
 -- A segment that a handle holds is saved.
 use Rattle.std.proofs.Common.{◌≡◌, ◌≢◌, ◌<◌, ◌⊎◌, ℕ, [], Option, Some, None, Ok, inl, inr, refl, sym, ap, subst, arith}
-use Rattle.wire.specs.Message.{messages_of}
+use Rattle.wire.specs.Common.{messages_of}
 use Rattle.segment_core.specs.declared.segment.Segment.{Segment}
 use Rattle.segment_core.specs.Segment.{node_of, segment_plan, segment_group, segment_member, IsSameActor}
-use Rattle.volume_model.specs.Node.{Node, restarted}
+use Rattle.volume_model.specs.Common.{restarted}
+use Rattle.volume_model.specs.Node.{Node}
 use Rattle.volume_c.specs.declared.actor.Actor.{Actor}
 use Rattle.volume_c.specs.declared.actor.Actor.TheVariants as actor
 use Rattle.volume_c.specs.declared.actor.Held.{Held}

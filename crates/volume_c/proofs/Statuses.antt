@@ -1,6 +1,6 @@
 -- What a status says of a call.
 use Rattle.std.proofs.Common.{◌≢◌, ◌≤◌, ℕ, Option, refl, arith}
-use Rattle.volume_model.specs.Numbers.{number_of}
+use Rattle.volume_model.specs.Common.{number_of}
 use Rattle.volume_model.specs.declared.fault.Fault.{Fault}
 use Rattle.volume_model.specs.declared.fault.Fault.TheVariants.{NoMemory}
 use Rattle.volume_c.specs.declared.actor.Held.{Held}

@@ -1,16 +1,10 @@
 -- Frames, and the turns of the messages in them.
-use Rattle.std.proofs.Common.{◌≡◌, ◌≢◌, ℕ, ◌+◌, ◌-◌, ◌^◌, ◌<◌, ◌≤◌, true, false, nat_lt, List, [], ◌∷◌, ◌++◌, length, take, drop, Option, Some, Result, Ok, Err, refl, sym, ap, ◌∙◌, subst, append_assoc, take-append-drop, arith}
+use Rattle.std.proofs.Common.{◌≡◌, ◌≢◌, ℕ, ◌+◌, ◌-◌, ◌^◌, ◌<◌, ◌≤◌, true, false, nat_lt, List, [], ◌∷◌, ◌++◌, length, take, drop, Option, Some, Result, Ok, Err, refl, sym, ap, ◌∙◌, subst, append_assoc, take-append-drop, arith, ltb-false, append-nil, drop_at, length-append, length-take, take_at}
 use Rattle.std.specs.Int.{w32, to_be_bytes}
-use Rattle.std.proofs.lemmas.Bool.{ltb-false}
-use Rattle.std.proofs.lemmas.List.{append-nil, drop_at, length-append, length-take, take_at}
-use Rattle.volume_model.specs.Answer.{◌>>=◌, Fails}
-use Rattle.volume_model.specs.Numbers.{number_of}
-use Rattle.volume_model.specs.Refusal.{refuse_if}
+use Rattle.volume_model.specs.Common.{◌>>=◌, Fails, number_of, refuse_if, Plan, Message, NodeStep, NodeAnswer, reaction}
 use Rattle.volume_model.specs.declared.fault.Fault.{Fault}
 use Rattle.volume_model.specs.declared.fault.Fault.TheVariants.{NoMemory, Short}
-use Rattle.volume_model.specs.Plan.{Plan}
-use Rattle.volume_model.specs.Message.{Message}
-use Rattle.volume_model.specs.Node.{Node, NodeStep, NodeAnswer, reaction}
+use Rattle.volume_model.specs.Node.{Node}
 use Rattle.message_bytes.specs.Numbers.{number_at}
 use Rattle.message_bytes.specs.Reading.{message_in}
 use Rattle.message_bytes.specs.Spelling.{message_spelled}

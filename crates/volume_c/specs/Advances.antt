@@ -1,7 +1,6 @@
 -- What whole members allow after an advance, as a call gives it.
 use Rattle.std.specs.Prelude.{ℕ, List, ◌&&◌, ◌==◌, nat_lt}
-use Rattle.volume_model.specs.Lists.{any}
-use Rattle.volume_model.specs.Formula.{Members}
+use Rattle.volume_model.specs.Common.{any, Members}
 use Rattle.epochs.specs.Waiting.{Allowed, ready_to_advance}
 use Rattle.volume_c.specs.declared.advance_calls.VolumeReadiness.{VolumeReadiness}
 use Rattle.volume_c.specs.View.{View}

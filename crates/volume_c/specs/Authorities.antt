@@ -1,9 +1,8 @@
 -- The results of the authority's calls.
 use Rattle.std.specs.Prelude.{List, [], ℕ, Result, Ok, Err}
 use Rattle.volume_model.specs.declared.fault.Fault.{Fault}
-use Rattle.volume_model.specs.Plan.{Plan}
+use Rattle.volume_model.specs.Common.{Plan, Authority, opening}
 use Rattle.volume_model.specs.Message as model
-use Rattle.volume_model.specs.World.{Authority, opening}
 use Rattle.epochs.specs.Snapshot.{resumed}
 use Rattle.volume_c.specs.View.{View, AnAuthority}
 use Rattle.volume_c.specs.Calls.{Step, Value, of_plan, of_authority, with_value}

@@ -1,15 +1,11 @@
 -- What the calls of a handle do.
 use Rattle.std.specs.Prelude.{◌≡◌, ◌≢◌, ◌<◌, ℕ, List, [], Option, Some, None, Result, Ok, Err}
 use Rattle.volume_model.specs.declared.fault.Fault.{Fault}
-use Rattle.volume_model.specs.Answer.{Fails}
-use Rattle.volume_model.specs.Numbers.{number_of}
-use Rattle.volume_model.specs.Plan.{Plan}
+use Rattle.volume_model.specs.Common.{Fails, number_of, Plan, NodeAnswer, ClientAnswer, AuthorityStep}
 use Rattle.volume_model.specs.Message as model
-use Rattle.volume_model.specs.Node.{Node, NodeAnswer}
+use Rattle.volume_model.specs.Node.{Node}
 use Rattle.volume_model.specs.Client as client
-use Rattle.volume_model.specs.Client.{ClientAnswer}
 use Rattle.volume_model.specs.World as world
-use Rattle.volume_model.specs.World.{AuthorityStep}
 use Rattle.message_bytes.specs.Reading.{message_in}
 use Rattle.volume_c.specs.declared.actor.Held.{Held}
 use Rattle.volume_c.specs.View.{View, Nothing, APlan, ANode, AClient, AnAuthority, ASnapshot, seen, unsent}

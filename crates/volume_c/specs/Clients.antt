@@ -2,13 +2,9 @@
 use Rattle.std.specs.Prelude.{◌≡◌, ℕ, Bool, false, not, List, [], Result, Ok, nat_le, length}
 use Rattle.volume_model.specs.declared.fault.Fault.{Fault}
 use Rattle.volume_model.specs.declared.fault.Fault.TheVariants.{NotOpen, NoGroup}
-use Rattle.volume_model.specs.Refusal.{refuse_if}
-use Rattle.volume_model.specs.Plan.{Plan}
+use Rattle.volume_model.specs.Common.{refuse_if, Plan, last_lsn, last_start, first_writer, group_point_of, is_open, acknowledged, complete_point, durable_point}
 use Rattle.volume_model.specs.Message as model
-use Rattle.volume_model.specs.Redo.{last_lsn}
-use Rattle.volume_model.specs.Lineage.{last_start}
-use Rattle.volume_model.specs.Client.{Client, first_writer, group_point_of, is_open}
-use Rattle.volume_model.specs.ClientPoints.{acknowledged, complete_point, durable_point}
+use Rattle.volume_model.specs.Client.{Client}
 use Rattle.recovery.specs.Recoveries.{birth_of, view_volume}
 use Rattle.volume_c.specs.declared.client_calls.VolumePoints.{VolumePoints}
 use Rattle.volume_c.specs.View.{View, Nothing, APlan, ANode, AClient, AnAuthority, ASnapshot}

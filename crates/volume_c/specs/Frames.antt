@@ -1,12 +1,8 @@
 -- Frames: messages for one node in one buffer, each after its length. A segment takes them in order.
 use Rattle.std.specs.Prelude.{◌≡◌, ◌<◌, ◌≤◌, ℕ, nat_lt, List, [], ◌∷◌, ◌++◌, length, take, drop, Option, Some, Ok}
 use Rattle.std.specs.Int.{w32, to_be_bytes}
-use Rattle.volume_model.specs.Answer.{◌>>=◌}
-use Rattle.volume_model.specs.Refusal.{refuse_if}
+use Rattle.volume_model.specs.Common.{◌>>=◌, refuse_if, Plan, Message, NodeStep, NodeAnswer, reaction}
 use Rattle.volume_model.specs.declared.fault.Fault.TheVariants.{Short}
-use Rattle.volume_model.specs.Plan.{Plan}
-use Rattle.volume_model.specs.Message.{Message}
-use Rattle.volume_model.specs.Node.{NodeStep, NodeAnswer, reaction}
 use Rattle.message_bytes.specs.Numbers.{number_at}
 use Rattle.message_bytes.specs.Contents.{Read}
 use Rattle.message_bytes.specs.Reading.{message_in}

@@ -1,10 +1,7 @@
 -- Messages that a node takes in order, and answers of which one is dropped if the next includes it.
 use Rattle.std.specs.Prelude.{ℕ, Bool, false, ◌&&◌, ◌==◌, nat_le, if◌then◌else◌, List, [], ◌∷◌, Ok}
-use Rattle.volume_model.specs.Answer.{◌>>=◌}
-use Rattle.volume_model.specs.Plan.{Plan}
-use Rattle.volume_model.specs.Message.{Label, Message}
-use Rattle.volume_model.specs.Message.Message.{View, StepTo, Fence, Report, Install, Write, Gossip, Ack, CopyAsk, CopyReport, PageAsk, Page}
-use Rattle.volume_model.specs.Node.{Node, NodeStep, NodeAnswer, reaction}
+use Rattle.volume_model.specs.Common.{◌>>=◌, Plan, Label, Message, View, StepTo, Fence, Report, Install, Write, Gossip, Ack, CopyAsk, CopyReport, PageAsk, Page, NodeStep, NodeAnswer, reaction}
+use Rattle.volume_model.specs.Node.{Node}
 
 -- the message is an acknowledgement of the same segment with the same label, and its complete point is at most this one
 abbrev pub is_covered : ℕ → Label → ℕ → ℕ → Message → Bool

@@ -1,8 +1,7 @@
 -- The messages that weren't taken.
 use Rattle.std.specs.Prelude.{◌≡◌, ℕ, List, ◌∷◌, drop}
 use Rattle.wire.specs.declared.message.Message.{Message}
-use Rattle.wire.specs.Listed.{listed}
-use Rattle.wire.specs.Message.{message_of}
+use Rattle.wire.specs.Common.{listed, message_of}
 use Rattle.message_bytes.specs.Spelling.{message_spelled}
 use Rattle.volume_c.specs.declared.outbox.Outbox.{Outbox}
 

@@ -1,9 +1,6 @@
 -- Reading plans.
 use Rattle.std.specs.Prelude.{◌≡◌, ◌≢◌, ℕ, List, Option, None, Ok}
-use Rattle.plan.specs.PlanText.{plan_of}
-use Rattle.plan.specs.PlanFaults.{plan_fault}
-use Rattle.plan.specs.Plan.{plan_data}
-use Rattle.plan.specs.CheckedModel.{checked_model}
+use Rattle.plan.specs.Common.{plan_of, plan_fault, plan_data, checked_model}
 use Rattle.plan.specs.declared.checked.CheckedPlan.{CheckedPlan}
 use Rattle.volume_c.specs.declared.actor.Held.{Held}
 use Rattle.volume_c.specs.View.{APlan, seen}

@@ -1,13 +1,9 @@
 -- Laws of the messages that a node logs, and of dropped answers.
 use Rattle.std.specs.Prelude.{◌≡◌, ◌≤◌, ℕ, List, [], ◌∷◌, ◌++◌, Result, Ok, Err}
-use Rattle.volume_model.specs.Answer.{◌>>=◌}
+use Rattle.volume_model.specs.Common.{◌>>=◌, Plan, Label, Message, Ack, NodeStep, NodeAnswer, reaction, ClientAnswer, taken}
 use Rattle.volume_model.specs.declared.fault.Fault.{Fault}
-use Rattle.volume_model.specs.Plan.{Plan}
-use Rattle.volume_model.specs.Message.{Label, Message}
-use Rattle.volume_model.specs.Message.Message.{Ack}
-use Rattle.volume_model.specs.Node.{Node, NodeStep, NodeAnswer, reaction}
-use Rattle.volume_model.specs.Client.{Client, ClientAnswer}
-use Rattle.volume_model.specs.ClientMessages.{taken}
+use Rattle.volume_model.specs.Node.{Node}
+use Rattle.volume_model.specs.Client.{Client}
 use Rattle.segment_core.specs.Snapshot.{resumed}
 use Rattle.volume_c.specs.Saved.{segment_in}
 use Rattle.volume_c.specs.Joined.{from_node, in_turn, joined}

@@ -1,10 +1,8 @@
 -- The bytes of snapshots.
 use Rattle.std.specs.Prelude.{ℕ, Bool, true, false, not, ◌==◌, nat_lt, List, [], ◌∷◌, ◌++◌, None, Result, Ok}
 use Rattle.std.specs.Int.{w32, w64, to_be_bytes}
-use Rattle.volume_model.specs.Answer.{◌>>=◌}
-use Rattle.volume_model.specs.Refusal.{refuse_if}
+use Rattle.volume_model.specs.Common.{◌>>=◌, refuse_if, Authority}
 use Rattle.volume_model.specs.Node.{Node}
-use Rattle.volume_model.specs.World.{Authority}
 use Rattle.volume_model.specs.declared.fault.Fault.{Fault}
 use Rattle.volume_model.specs.declared.fault.Fault.TheVariants.{BadField}
 use Rattle.message_bytes.specs.Numbers.{byte_at, number_at}

@@ -1,10 +1,9 @@
 -- The results of a segment's calls.
 use Rattle.std.specs.Prelude.{◌≡◌, ℕ, List, [], length, Result, Ok, Err}
 use Rattle.volume_model.specs.declared.fault.Fault.{Fault}
-use Rattle.volume_model.specs.Plan.{Plan}
+use Rattle.volume_model.specs.Common.{Plan, scl, NodeAnswer, restarted}
 use Rattle.volume_model.specs.Message as model
-use Rattle.volume_model.specs.Redo.{scl}
-use Rattle.volume_model.specs.Node.{Node, NodeAnswer, restarted}
+use Rattle.volume_model.specs.Node.{Node}
 use Rattle.segment_core.specs.Segment.{born, paged}
 use Rattle.segment_core.specs.Snapshot.{resumed}
 use Rattle.volume_c.specs.View.{View, Nothing, APlan, ANode, AClient, AnAuthority, ASnapshot}

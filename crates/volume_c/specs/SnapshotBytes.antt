@@ -1,7 +1,7 @@
 -- The bytes of a snapshot that weren't handed out.
 use Rattle.std.specs.Prelude.{ℕ, List, ◌++◌, drop}
 use Rattle.std.specs.Arc.{arc_value}
-use Rattle.wire.specs.Contents.{contents_of}
+use Rattle.wire.specs.Common.{contents_of}
 use Rattle.message_bytes.specs.Spelling.{records_spelled}
 use Rattle.volume_c.specs.declared.snapshot_bytes.SnapshotBytes.{SnapshotBytes}
 

@@ -1,12 +1,10 @@
 -- A segment's turns, with its answers that weren't taken.
 use Rattle.std.specs.Prelude.{◌≡◌, ℕ, List}
-use Rattle.volume_model.specs.Answer.{Fails}
-use Rattle.volume_model.specs.Numbers.{number_of}
+use Rattle.volume_model.specs.Common.{Fails, number_of, NodeStep, NodeAnswer}
 use Rattle.volume_model.specs.declared.fault.Fault.{Fault}
 use Rattle.volume_model.specs.Message as model
-use Rattle.volume_model.specs.Node.{NodeStep, NodeAnswer}
 use Rattle.wire.specs.declared.message.Message.{Message}
-use Rattle.wire.specs.Message.{messages_of}
+use Rattle.wire.specs.Common.{messages_of}
 use Rattle.segment_core.specs.declared.segment.Segment.{Segment}
 use Rattle.segment_core.specs.Segment.{node_of, segment_plan, segment_group, segment_member}
 use Rattle.volume_c.specs.Frames.{next_step, TookFront}

@@ -1,13 +1,13 @@
 -- The contents of a handle, as the model has them.
 use Rattle.std.specs.Prelude.{ℕ, List, [], Option, None, Some}
 use Rattle.std.specs.Arc.{arc_value}
-use Rattle.volume_model.specs.Plan.{Plan}
+use Rattle.volume_model.specs.Common.{Plan}
 use Rattle.volume_model.specs.Message as model
 use Rattle.volume_model.specs.Node.{Node}
 use Rattle.volume_model.specs.Client as client
 use Rattle.volume_model.specs.World as world
-use Rattle.plan.specs.CheckedModel.{checked_model}
-use Rattle.wire.specs.Message.{messages_of}
+use Rattle.plan.specs.Common.{checked_model}
+use Rattle.wire.specs.Common.{messages_of}
 use Rattle.epochs.specs.Authority.{authority_of, authority_plan}
 use Rattle.segment_core.specs.Segment.{node_of, segment_plan, segment_group, segment_member}
 use Rattle.world.specs.Clients.{client_plan, client_volume, seen_client}

@@ -1,9 +1,8 @@
 //! Steps of the actors that handles hold.
 
-ghost use Rattle.std.specs.Prelude.{◌≡◌, Some};
-ghost use Rattle.volume_model.specs.Answer.{AnswersAfterGrowth};
-ghost use Rattle.volume_model.specs.Node.{reaction};
-ghost use Rattle.wire.specs.Message.{message_of};
+ghost use Rattle.std.specs.Prelude.{Some};
+ghost use Rattle.volume_model.specs.Common.{AnswersAfterGrowth, reaction};
+ghost use Rattle.wire.specs.Common.{message_of};
 ghost use Rattle.segment_core.specs.Actions.{acted, action_after_growth};
 ghost use Rattle.segment_core.specs.Segment.{node_of, action_of, answered, IsSameActor};
 ghost use Rattle.world.specs.Actions.{authority_acted, client_acted, message_found};

@@ -1,7 +1,7 @@
 //! The authority.
 
 ghost use Rattle.std.specs.Prelude.{◌≡◌, ◌≢◌, Some, take};
-ghost use Rattle.volume_model.specs.World.{assigned, advanced, refreshed, grown};
+ghost use Rattle.volume_model.specs.Common.{assigned, advanced, refreshed, grown};
 ghost use Rattle.volume_c.specs.View.{seen};
 ghost use Rattle.volume_c.specs.Calls.{authority_does, Does, Makes, Reads};
 ghost use Rattle.volume_c.specs.Authorities.{opening_step, resumed_step, snapshot_value};

@@ -1,6 +1,6 @@
 //! Results in the caller's buffer.
 
-ghost use Rattle.std.specs.Prelude.{◌≡◌, ◌≢◌, ◌≤◌, length, take};
+ghost use Rattle.std.specs.Prelude.{◌≡◌, ◌≢◌, length, take};
 
 use crate::status::TOO_SMALL;
 

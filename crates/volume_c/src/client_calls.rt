@@ -2,18 +2,14 @@
 
 ghost use Rattle.std.specs.Prelude.{◌≡◌, ◌≢◌, Some, map, IfErr, IfOk};
 ghost use Rattle.std.specs.Arc.{arc_value};
-ghost use Rattle.volume_model.specs.Answer.{Gives};
-ghost use Rattle.volume_model.specs.ClientMessages.{taken};
-ghost use Rattle.volume_model.specs.ClientRecovery.{cut_client, opened};
-ghost use Rattle.volume_model.specs.ClientWriter.{issued, page_asked, resent};
-ghost use Rattle.plan.specs.CheckedModel.{checked_model};
-ghost use Rattle.wire.specs.Message.{message_of};
+ghost use Rattle.volume_model.specs.Common.{Gives, taken, cut_client, opened, issued, page_asked, resent};
+ghost use Rattle.plan.specs.Common.{checked_model};
+ghost use Rattle.wire.specs.Common.{message_of};
 ghost use Rattle.writer_core.specs.Writers.{client_of};
 ghost use Rattle.volume_c.specs.View.{client_in, held_now, seen};
 ghost use Rattle.volume_c.specs.Calls.{client_does, with_message, Does, Makes, Reads};
 ghost use Rattle.volume_c.specs.Changes.{given_change};
-ghost use Rattle.volume_c.specs.Clients.{acknowledged_value, birth_in, birth_step, first_step};
-ghost use Rattle.volume_c.specs.Clients.{point_value, points_of, points_value, IsNoWriter};
+ghost use Rattle.volume_c.specs.Clients.{acknowledged_value, birth_in, birth_step, first_step, point_value, points_of, points_value, IsNoWriter};
 
 use crate::actor::{Actor, Held};
 use crate::acts::client_step;

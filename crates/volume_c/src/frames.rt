@@ -1,9 +1,8 @@
 //! Frames: messages for one node in one buffer, each after its length. A segment takes them in order.
 
 ghost use Rattle.std.specs.Prelude.{◌≡◌, ◌≢◌, ◌+◌, ◌++◌, ◌≤◌, ◌<◌, [], Some, IfOk, IfErr, length, vec_capacity, vec_len};
-ghost use Rattle.volume_model.specs.Answer.{Fails, Gives};
-ghost use Rattle.wire.specs.Listed.{listed};
-ghost use Rattle.wire.specs.Message.{message_of, messages_of};
+ghost use Rattle.volume_model.specs.Common.{Fails, Gives};
+ghost use Rattle.wire.specs.Common.{listed, message_of, messages_of};
 ghost use Rattle.segment_core.specs.Segment.{IsSameActor};
 ghost use Rattle.volume_c.specs.Joined.{covers, joined};
 ghost use Rattle.volume_c.specs.Frames.{framed, next_in, TakesFrame};

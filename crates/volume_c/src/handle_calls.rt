@@ -1,7 +1,6 @@
 //! Calls of any handle.
 
 ghost use Rattle.std.specs.Prelude.{◌≡◌, ◌≢◌, None, Some, take, length};
-ghost use Rattle.volume_c.specs.View.{seen, unsent};
 ghost use Rattle.volume_c.specs.Given.{Hands};
 
 use crate::actor::Held;

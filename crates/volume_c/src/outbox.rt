@@ -23,7 +23,7 @@ fn free_list(list: Vec<Message>) {
 
 impl Outbox {
     ghost use Rattle.std.specs.Prelude.{◌≡◌, ◌≢◌, ◌<◌, [], true, drop, length, take};
-    ghost use Rattle.wire.specs.Listed.{listed};
+    ghost use Rattle.wire.specs.Common.{listed};
     ghost use Rattle.volume_c.specs.Outbox.{left_in, WritesFirst};
 
     /// Returns an outbox of these messages.

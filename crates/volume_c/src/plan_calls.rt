@@ -1,11 +1,7 @@
 //! Plans.
 
-ghost use Rattle.std.specs.Prelude.{◌≡◌, ◌≢◌, None, Ok, IfOk, IfErr};
-ghost use Rattle.std.specs.Arc.{arc_value};
-ghost use Rattle.plan.specs.CheckedModel.{checked_model};
-ghost use Rattle.plan.specs.PlanText.{plan_of};
-ghost use Rattle.plan.specs.PlanFaults.{plan_fault};
-ghost use Rattle.plan.specs.Plan.{plan_data};
+ghost use Rattle.std.specs.Prelude.{◌≡◌, ◌≢◌, None, Ok, IfOk};
+ghost use Rattle.plan.specs.Common.{checked_model, plan_of, plan_fault, plan_data};
 ghost use Rattle.volume_c.specs.View.{View, seen};
 ghost use Rattle.volume_c.specs.Plans.{ReadsPlan};
 

@@ -1,7 +1,7 @@
 //! The bytes of snapshots.
 
 ghost use Rattle.std.specs.Prelude.{◌≡◌, ◌++◌, Ok, IfErr, IfOk};
-ghost use Rattle.volume_model.specs.Answer.{Gives};
+ghost use Rattle.volume_model.specs.Common.{Gives};
 ghost use Rattle.volume_model.specs.declared.fault.Fault.TheVariants.{NoMemory};
 ghost use Rattle.epochs.specs.Authority.{authority_of};
 ghost use Rattle.epochs.specs.Snapshot.{authority_in as snapshot_authority};

@@ -1,7 +1,7 @@
 //! Segments.
 
 ghost use Rattle.std.specs.Prelude.{◌≡◌, ◌≢◌, Some, take};
-ghost use Rattle.volume_model.specs.Node.{hydrated, offered, reaction};
+ghost use Rattle.volume_model.specs.Common.{hydrated, offered, reaction};
 ghost use Rattle.volume_c.specs.View.{seen};
 ghost use Rattle.volume_c.specs.Calls.{node_does, with_message, Does, Makes, Reads};
 ghost use Rattle.volume_c.specs.Segments.{born_step, page_value, resumed_step, scl_value, state_of, state_value};

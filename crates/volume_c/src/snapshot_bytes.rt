@@ -1,7 +1,7 @@
 //! The bytes of a segment's snapshot, handed out piece by piece.
 
 ghost use Rattle.std.specs.Prelude.{◌≡◌, ◌≤◌, ◌++◌, [], true, Ok, IfOk, drop, length, take};
-ghost use Rattle.volume_model.specs.Node.{restarted};
+ghost use Rattle.volume_model.specs.Common.{restarted};
 ghost use Rattle.segment_core.specs.Segment.{node_of, IsSameActor};
 ghost use Rattle.volume_c.specs.Saved.{segment_in, segment_spelled};
 

@@ -1,7 +1,7 @@
 //! Snapshots of segments.
 
 ghost use Rattle.std.specs.Prelude.{◌≡◌, ◌≢◌, ◌⊎◌, [], None, Some, Ok};
-ghost use Rattle.volume_model.specs.Node.{restarted};
+ghost use Rattle.volume_model.specs.Common.{restarted};
 ghost use Rattle.segment_core.specs.Segment.{node_of, IsSameActor};
 ghost use Rattle.volume_c.specs.View.{ASnapshot, seen, unsent};
 ghost use Rattle.volume_c.specs.Calls.{node_does, Does, Makes};

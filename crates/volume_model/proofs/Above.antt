@@ -1,7 +1,6 @@
 -- The configurations above one, step by step.
 use Rattle.std.proofs.Common.{◌≡◌, ℕ, zero, suc, ◌∙◌, arith}
-use Rattle.volume_model.specs.Plan.{Plan, parent_of, IsAbove}
-use Rattle.volume_model.specs.Plan.StandsAbove.{by_parent, by_ancestor}
+use Rattle.volume_model.specs.Common.{Plan, parent_of, IsAbove, by_parent, by_ancestor}
 
 -- the configuration so many steps above
 abbrev pub ancestor : Plan → ℕ → ℕ → ℕ → ℕ

@@ -1,17 +1,8 @@
 -- An acknowledgement says at least the number of each record of its group that the writer found
 use Rattle.std.proofs.Common.{◌≡◌, ℕ, zero, suc, ◌<◌, ◌≤◌, Bool, true, false, not, ◌&&◌, ◌||◌, nat_lt, eqb, ◌⊎◌, List, [], ◌∷◌, Result, Ok, Err, refl, sym, ap, ◌∙◌, subst, inl, inr, arith, le_refl}
 use Rattle.std.proofs.lemmas.Bool.{cases_Bool, and_parts, and_from, or_left, or_right, eqb-true, eq-eqb, ltb-true}
-use Rattle.volume_model.specs.Lists.{IsIn, put_at}
-use Rattle.volume_model.specs.Redo.{Redo, grounded, scl, last_lsn, last_of_group}
-use Rattle.volume_model.specs.Lineage.{last_epoch}
-use Rattle.volume_model.specs.Plan.{Plan, is_named, IsCertified}
-use Rattle.volume_model.specs.Message.{Label, Place}
-use Rattle.volume_model.specs.Message.Message.{View, StepTo, Ack}
-use Rattle.volume_model.specs.Refusal.{refuse_if}
-use Rattle.volume_model.specs.Node.{Node, NodeStep, NodeAnswer, restarted}
-use Rattle.volume_model.specs.Client.{ClientStep, ClientAnswer}
-use Rattle.volume_model.specs.World.{World, Event, AuthorityStep, of_authority, of_client, of_node, after_step, after, run, opening, assigned, advanced, refreshed, grown, if_there, groups_joined}
-use Rattle.volume_model.specs.World.Event.{Assign, Advance, Refresh, Grow, Issue, Take, Cut, Open, Resend, Read, Deliver, Hydrate, Restart, Offer}
+use Rattle.volume_model.specs.Common.{IsIn, put_at, Redo, grounded, scl, last_lsn, last_of_group, last_epoch, Plan, is_named, IsCertified, Label, Place, View, StepTo, Ack, refuse_if, NodeStep, NodeAnswer, restarted, ClientStep, ClientAnswer, World, Event, AuthorityStep, of_authority, of_client, of_node, after_step, after, run, opening, assigned, advanced, refreshed, grown, if_there, groups_joined, Assign, Advance, Refresh, Grow, Issue, Take, Cut, Open, Resend, Read, Deliver, Hydrate, Restart, Offer, StaysFound}
+use Rattle.volume_model.specs.Node.{Node}
 use Rattle.volume_model.proofs.Basics.{any_from, IsIn-added}
 use Rattle.volume_model.proofs.Logs.{IsChain, at_most_last}
 use Rattle.volume_model.proofs.Greatest.{greatest_where-above}
@@ -25,7 +16,6 @@ use Rattle.volume_model.proofs.Run.{event_kept, opening_kept}
 use Rattle.volume_model.proofs.Sound.{facts, cut_client}
 use Rattle.volume_model.proofs.Lasting.{IsChain-rest}
 use Rattle.volume_model.proofs.Finds.{event_keeps}
-use Rattle.volume_model.specs.Finds.{StaysFound}
 use Rattle.volume_model.specs.declared.fault.Fault.{Fault}
 use Rattle.volume_model.specs.declared.fault.Fault.TheVariants.{NoActor, EpochsSpent, NoGroup, NotInPlan, Superseded, AllGrown}
 

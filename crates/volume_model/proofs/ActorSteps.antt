@@ -1,12 +1,7 @@
 -- A step of the world, as that of one actor.
 use Rattle.std.proofs.Common.{◌≡◌, ℕ, refl, Result, Ok, Err}
 use Rattle.volume_model.specs.declared.fault.Fault.{Fault}
-use Rattle.volume_model.specs.Plan.{Plan}
-use Rattle.volume_model.specs.Node.{NodeAnswer}
-use Rattle.volume_model.specs.Client.{ClientAnswer}
-use Rattle.volume_model.specs.World.{Event, World, AuthorityStep, groups_joined, of_authority, of_client, of_node, step}
-use Rattle.volume_model.specs.World.Event.{Issue, Take, Cut, Open, Resend, Read, Deliver, Hydrate, Restart, Offer}
-use Rattle.volume_model.specs.Actor.{Actor, acted, actor_of, authority_acted, client_acted, in_world, node_acted, state_in}
+use Rattle.volume_model.specs.Common.{Plan, NodeAnswer, ClientAnswer, Event, World, AuthorityStep, groups_joined, of_authority, of_client, of_node, step, Issue, Take, Cut, Open, Resend, Read, Deliver, Hydrate, Restart, Offer, Actor, acted, actor_of, authority_acted, client_acted, in_world, node_acted, state_in}
 
 -- a step of the authority in a world is that of an actor
 in_world-authority : (w : World) (answer : Result AuthorityStep Fault) → of_authority w answer ≡ in_world w Actor.TheAuthority (authority_acted answer)

@@ -2,19 +2,9 @@
 use Rattle.std.proofs.Common.{◌≡◌, ◌≢◌, ℕ, not, ◌&&◌, nat_lt, Bool, true, false, List, [], Option, Some, None, Result, Ok, Err, refl, sym, ap, ◌∙◌, ⊎_elim}
 use Rattle.volume_model.specs.declared.fault.Fault.{Fault}
 use Rattle.volume_model.specs.declared.fault.Fault.TheVariants.{NoMessage, NoActor}
-use Rattle.volume_model.specs.Lists.{numbered}
-use Rattle.volume_model.specs.Refusal.{refuse_if}
-use Rattle.volume_model.specs.Plan.{Plan, is_named}
-use Rattle.volume_model.specs.Message.{Message}
-use Rattle.volume_model.specs.Node.{Node, NodeAnswer, hydrated, restarted, offered}
+use Rattle.volume_model.specs.Common.{numbered, refuse_if, Plan, is_named, Message, NodeAnswer, hydrated, restarted, offered, ClientAnswer, issued, resent, page_asked, cut_client, opened, Authority, World, Event, AuthorityStep, Step, assigned, advanced, refreshed, grown, deliver, take, if_there, of_authority, of_client, of_node, step, groups_joined, Assign, Advance, Refresh, Grow, Issue, Take, Cut, Open, Resend, Read, Deliver, Hydrate, Restart, Offer, actor_of, Agree, Keeps, JoinedAlike, answer, makes, refusal}
+use Rattle.volume_model.specs.Node.{Node}
 use Rattle.volume_model.specs.Client as model
-use Rattle.volume_model.specs.Client.{ClientAnswer}
-use Rattle.volume_model.specs.ClientWriter.{issued, resent, page_asked}
-use Rattle.volume_model.specs.ClientRecovery.{cut_client, opened}
-use Rattle.volume_model.specs.World.{Authority, World, Event, AuthorityStep, Step, assigned, advanced, refreshed, grown, deliver, take, if_there, of_authority, of_client, of_node, step, groups_joined}
-use Rattle.volume_model.specs.World.Event.{Assign, Advance, Refresh, Grow, Issue, Take, Cut, Open, Resend, Read, Deliver, Hydrate, Restart, Offer}
-use Rattle.volume_model.specs.Actor.{actor_of, Agree, Keeps, JoinedAlike}
-use Rattle.volume_model.specs.StepResults.{answer, makes, refusal}
 use Rattle.volume_model.proofs.ListFacts.{by_test, numbered_kept}
 
 -- the result of a step of each kind of actor

@@ -1,21 +1,8 @@
 -- A lineage that is carried is the one that the client of its last volume epoch has
 use Rattle.std.proofs.Common.{◌≡◌, ℕ, ◌<◌, ◌≤◌, Bool, true, false, not, ◌&&◌, ◌==◌, nat_lt, nat_le, ◌⊎◌, List, [], ◌∷◌, Option, Some, None, Result, Ok, Err, length, refl, sym, ap, ◌∙◌, subst, inl, inr, arith}
 use Rattle.std.proofs.lemmas.Bool.{cases_Bool, cases_lt, and_parts, both_ways, true≢false, not-false, ltb-true}
-use Rattle.volume_model.specs.Lists.{numbered}
-use Rattle.volume_model.specs.Redo.{Redo, holds_record, record_at}
-use Rattle.volume_model.specs.Lineage.{Lineage, birth, last_epoch, Contents}
-use Rattle.volume_model.specs.Pieces.{Piece, most_pieces, is_bad_piece, is_complete, with_install, pieces_from}
-use Rattle.volume_model.specs.Plan.{Plan, has_member, is_configuration, is_named, IsCertified}
-use Rattle.volume_model.specs.Message.{Label, Message}
-use Rattle.volume_model.specs.Message.Message.{StepTo, Fence, Report, Install, Write, Gossip, CopyAsk, CopyReport, PageAsk}
-use Rattle.volume_model.specs.Refusal.{refuse_if}
-use Rattle.volume_model.specs.Node.{Node, NodeStep, NodeAnswer, born_node, lineage_epoch, label_checks, most_records, most_copies, take_record, installed, in_group, reaction, hydrated, restarted, gossip_of, offered}
-use Rattle.volume_model.specs.Client.{has_cut}
-use Rattle.volume_model.specs.World.{World, Event, AuthorityStep, of_authority, of_client, of_node, after_step, after, run, opening, assigned, advanced, refreshed, grown, deliver, if_there, groups_joined}
-use Rattle.volume_model.specs.Client.{ClientAnswer}
-use Rattle.volume_model.specs.World.Event.{Assign, Advance, Refresh, Grow, Issue, Take, Cut, Open, Resend, Read, Deliver, Hydrate, Restart, Offer}
-use Rattle.volume_model.specs.Finds.{Carries, HasOneLineageAnEpoch, OneLineageAnEpoch}
-use Rattle.volume_model.specs.Finds.Carries.{by_node, by_client, by_report, by_install, by_copy}
+use Rattle.volume_model.specs.Common.{numbered, Redo, holds_record, record_at, Lineage, birth, last_epoch, Contents, Piece, most_pieces, is_bad_piece, is_complete, with_install, pieces_from, Plan, has_member, is_configuration, is_named, IsCertified, Label, Message, StepTo, Fence, Report, Install, Write, Gossip, CopyAsk, CopyReport, PageAsk, refuse_if, NodeStep, NodeAnswer, born_node, lineage_epoch, label_checks, most_records, most_copies, take_record, installed, in_group, reaction, hydrated, restarted, gossip_of, offered, has_cut, World, Event, AuthorityStep, of_authority, of_client, of_node, after_step, after, run, opening, assigned, advanced, refreshed, grown, deliver, if_there, groups_joined, ClientAnswer, Assign, Advance, Refresh, Grow, Issue, Take, Cut, Open, Resend, Read, Deliver, Hydrate, Restart, Offer, Carries, HasOneLineageAnEpoch, OneLineageAnEpoch, by_node, by_client, by_report, by_install, by_copy}
+use Rattle.volume_model.specs.Node.{Node}
 use Rattle.volume_model.proofs.Basics.{put_at-all}
 use Rattle.volume_model.proofs.Invariant.{Held, lineage_of, HasCut, IsCopy}
 use Rattle.volume_model.proofs.Renewed.{IsKeptWorld}

@@ -3,11 +3,8 @@ use Rattle.std.proofs.Common.{◌≡◌, ℕ, zero, suc, ◌<◌, Bool, true, fa
 use Rattle.std.proofs.lemmas.Bool.{cases_Bool, cases_lt, and_parts, and_from, both_ways, lt-ltb, ltb-true, not-true}
 use Rattle.std.specs.Ordering.{nat_cmp}
 use Rattle.std.specs.FinSet.{FinSet, empty, contains, contains-empty}
-use Rattle.volume_model.specs.Formula.{Formula, Members, sat, dual_of, SpeaksOf}
+use Rattle.volume_model.specs.Common.{Formula, Members, sat, dual_of, SpeaksOf, AreMembers, AreDisjoint, Meets, Configuration, has_member, parent_of, HaveCommonMember, KeepsClaim, KeepsStepClaim, ClaimsCertify}
 use Rattle.volume_model.proofs.FormulaLaws.{sat-own, sat-dual_of}
-use Rattle.volume_model.specs.Meets.{AreMembers, AreDisjoint, Meets}
-use Rattle.volume_model.specs.Plan.{Configuration, has_member, parent_of, HaveCommonMember}
-use Rattle.volume_model.specs.Claims.{KeepsClaim, KeepsStepClaim, ClaimsCertify}
 
 -- of a set, the members that there can be
 abbrev below_64 : Members → Members

@@ -1,20 +1,8 @@
 -- What holds of a client and itself after any event, from what each step that changes a client makes of it
 use Rattle.std.proofs.Common.{◌≡◌, ℕ, ◌+◌, ◌^◌, max, true, not, ◌&&◌, ◌==◌, nat_lt, List, [], ◌∷◌, Option, Some, None, Result, Ok, Err, length, refl, subst}
 use Rattle.std.proofs.lemmas.Bool.{not-false}
-use Rattle.volume_model.specs.Lists.{numbered}
-use Rattle.volume_model.specs.Redo.{Redo, last_lsn, record_at}
-use Rattle.volume_model.specs.Lineage.{last_start}
-use Rattle.volume_model.specs.Plan.{Plan}
-use Rattle.volume_model.specs.Message.{Label, Place, Message}
-use Rattle.volume_model.specs.Message.Message.{View, Report, Ack, Page}
-use Rattle.volume_model.specs.Node.{From, NodeAnswer, in_group}
-use Rattle.volume_model.specs.Client.{Client, Stage, ClientStep, ClientAnswer, is_born, is_open}
-use Rattle.volume_model.specs.ClientPoints.{durable_point}
-use Rattle.volume_model.specs.ClientWriter.{Change, have_joined, is_transaction, issue_step, issued, write_of, resent, page_asked}
-use Rattle.volume_model.specs.ClientRecovery.{report_taken, cut_client, opened}
-use Rattle.volume_model.specs.ClientMessages.{viewed, ack_taken, are_places, taken}
-use Rattle.volume_model.specs.World.{World, Event, AuthorityStep, of_authority, of_client, of_node, after_step, after, run, assigned, advanced, refreshed, grown, take}
-use Rattle.volume_model.specs.World.Event.{Assign, Advance, Refresh, Grow, Issue, Take, Cut, Open, Resend, Read, Deliver, Hydrate, Restart, Offer}
+use Rattle.volume_model.specs.Common.{numbered, Redo, last_lsn, record_at, last_start, Plan, Label, Place, Message, View, Report, Ack, Page, From, NodeAnswer, in_group, Stage, ClientStep, ClientAnswer, is_born, is_open, durable_point, Change, have_joined, is_transaction, issue_step, issued, write_of, resent, page_asked, report_taken, cut_client, opened, viewed, ack_taken, are_places, taken, World, Event, AuthorityStep, of_authority, of_client, of_node, after_step, after, run, assigned, advanced, refreshed, grown, take, Assign, Advance, Refresh, Grow, Issue, Take, Cut, Open, Resend, Read, Deliver, Hydrate, Restart, Offer}
+use Rattle.volume_model.specs.Client.{Client}
 use Rattle.volume_model.proofs.Basics.{put-all}
 use Rattle.volume_model.proofs.NodeSteps.{refuse_if-ok}
 use Rattle.volume_model.specs.declared.fault.Fault.{Fault}

@@ -1,29 +1,16 @@
 -- Each step of a client keeps the invariant
-use Rattle.std.proofs.Common.{◌≡◌, ℕ, ◌+◌, ◌<◌, ◌≤◌, max, Bool, true, false, not, ◌&&◌, ◌||◌, ◌==◌, nat_lt, nat_le, eqb, ◌⊎◌, List, [], ◌∷◌, ◌++◌, Option, Some, None, Ok, Err, length, refl, sym, ap, ◌∙◌, subst, inl, inr, arith}
+use Rattle.std.proofs.Common.{◌≡◌, ℕ, ◌+◌, ◌<◌, ◌≤◌, max, Bool, true, false, not, ◌&&◌, ◌||◌, ◌==◌, nat_lt, nat_le, eqb, ◌⊎◌, List, [], ◌∷◌, ◌++◌, Option, Some, None, Ok, Err, length, refl, sym, ap, ◌∙◌, subst, inl, inr, arith, map, slice_set}
 use Rattle.std.proofs.lemmas.Bool.{cases_Bool, cases_lt, and_parts, true≢false, both_ways, eqb-true, eq-eqb, ltb-true, lt-ltb, leb-true, not-true, not-false}
 use Rattle.std.proofs.lemmas.List.{length-map}
-use Rattle.volume_model.specs.Lists.{IsIn, every, each_below, numbered, put}
-use Rattle.volume_model.specs.Formula.{Formula, sat}
+use Rattle.volume_model.specs.Common.{IsIn, every, each_below, numbered, put, Formula, sat, Redo, of_group, record_at, cut_of, log_found, Lineage, last_epoch, last_start, extended, Contents, newest, in_pieces, Plan, IsCertified, Label, Place, Message, place_in, View, Fence, Report, Install, Write, Ack, PageAsk, Page, From, senders, in_group, Stage, Count, ClientStep, ClientAnswer, is_born, has_cut, is_open, unborn, place_configuration, ClientGroup, newly_at, group_of, place_of, reports_of, counts_of, label_of, stays, no_group, reaching, best, counted_by, with_count, raised_group, raised, groups_now, durable_point, Change, record_of, is_last, issued_log, issued_writes, is_change, issued, write_of, resent, last_of_group_below, page_asked, fences, to_install, installs, report_taken, all_reports, has_read, has_installed, cut_client, opened, is_later, later_in, later_unjoined, later_group, reread_group, with_places, viewed, ack_taken, are_places, taken, Unborn, Reading, Installing, Writing, World, groups_joined, of_client, after_step, take, IsPieceOf}
 use Rattle.volume_model.proofs.FormulaLaws.{sat-some}
-use Rattle.volume_model.specs.Redo.{Redo, of_group, record_at, cut_of, log_found}
-use Rattle.volume_model.specs.Lineage.{Lineage, last_epoch, last_start, extended, Contents, newest, found_in}
-use Rattle.volume_model.specs.Pieces.{in_pieces}
-use Rattle.volume_model.specs.Plan.{Plan, IsCertified}
-use Rattle.volume_model.specs.Message.{Label, Place, Message, place_in}
-use Rattle.volume_model.specs.Message.Message.{View, Fence, Report, Install, Write, Ack, PageAsk, Page}
-use Rattle.volume_model.specs.Node.{From, senders, with_first, in_group}
-use Rattle.volume_model.specs.Client.{Client, Stage, Count, ClientStep, ClientAnswer, is_born, has_cut, is_open, unborn, place_configuration, ClientGroup, newly_at, group_of, place_of, reports_of, counts_of, label_of, stays, place_of, reports_of, counts_of, no_group}
-use Rattle.volume_model.specs.ClientPoints.{reaching, best, counted_by, with_count, raised_group, raised, groups_now, durable_point}
-use Rattle.volume_model.specs.ClientWriter.{Change, record_of, is_last, issued_log, issued_writes, is_change, issued, write_of, resent, last_of_group_below, page_asked}
-use Rattle.volume_model.specs.ClientRecovery.{fences, to_install, installs, report_taken, all_reports, has_read, has_installed, cut_client, opened}
-use Rattle.volume_model.specs.ClientMessages.{is_later, later_in, later_unjoined, later_group, reread_group, with_places, viewed, ack_taken, are_places, taken}
-use Rattle.volume_model.specs.Client.Stage.{Unborn, Reading, Installing, Writing}
-use Rattle.volume_model.specs.World.{World, groups_joined, of_client, after_step, take}
+use Rattle.volume_model.specs.Lineage.{found_in}
+use Rattle.volume_model.specs.Node.{with_first}
+use Rattle.volume_model.specs.Client.{Client}
 use Rattle.volume_model.proofs.Basics.{any_passes, numbered-in, IsIn-append_right, every-all, every_below-all, each_below-chosen, each_below-from, neither, IsIn-joined}
 use Rattle.volume_model.proofs.Logs.{IsLink}
 use Rattle.volume_model.proofs.Chains.{record_at-some, log_found-within}
 use Rattle.volume_model.proofs.Invariant.{Held, log_of, found_of, lineage_of, HasCut, IsMade, label, WasAt, IsCopy, config}
-use Rattle.volume_model.specs.PieceLaws.{IsPieceOf}
 use Rattle.volume_model.proofs.Pieces.{in_pieces-from}
 use Rattle.volume_model.proofs.Kept.{install_of, IsPlace, IsGrown, HasRead, IsHeir, IsOwned, IsCutClient, IsReached, AreUnjoined, HasView, IsBorn, ClientKept, IsView, MessageKept, IsKept}
 use Rattle.volume_model.proofs.Added.{MessageNew, messages_added}
@@ -34,7 +21,6 @@ use Rattle.volume_model.proofs.Sound.{born_from_cut, is_sound}
 use Rattle.volume_model.proofs.NodeSteps.{refuse_if-ok, extension-ok}
 use Rattle.volume_model.proofs.Groups.{set-all, length-slice_set, length-with_places, length-raised, group_of-beyond, group_of-with_places, later_group-none, reread_group-none, group_of-new, group_of-raised, raised-keeps}
 use Rattle.volume_model.proofs.Views.{place_in-there}
-use Rattle.std.specs.Prelude.{map, slice_set}
 use Rattle.volume_model.specs.declared.fault.Fault.TheVariants.{AlreadyDone, NoActor, NoGroup, NotAddressed, NotInPlan, NotOpen, NotReady}
 
 cut_from_open : (stage : Stage) → is_open stage ≡ true → has_cut stage ≡ true

@@ -1,17 +1,9 @@
 -- A later world, and that every fact of the invariant stays true in it
 use Rattle.std.proofs.Common.{◌≡◌, ℕ, ◌≤◌, true, List, [], ◌∷◌, length, sym, ap, ◌∙◌, subst, inl, inr, arith}
-use Rattle.volume_model.specs.Lists.{IsIn}
-use Rattle.volume_model.specs.Formula.{Members, sat}
-use Rattle.volume_model.specs.Redo.{Redo, cut_of, log_found}
-use Rattle.volume_model.specs.Lineage.{last_epoch, extended, Contents, found_in}
-use Rattle.volume_model.specs.Plan.{Plan, has_member}
-use Rattle.volume_model.specs.Message.{Label, Place, Message, place_in}
-use Rattle.volume_model.specs.Message.Message.{View, StepTo, Fence, Report, Install, Write, Gossip, Ack, CopyAsk, CopyReport, PageAsk, Page}
-use Rattle.volume_model.specs.Node.{Node, senders}
-use Rattle.volume_model.specs.Client.{Client, place_of, reports_of, group_point_of}
-use Rattle.volume_model.specs.ClientRecovery.{to_install}
-use Rattle.volume_model.specs.World.{World, groups_joined}
-use Rattle.volume_model.specs.PieceLaws.{IsPieceOf}
+use Rattle.volume_model.specs.Common.{IsIn, Members, sat, Redo, cut_of, log_found, last_epoch, extended, Contents, Plan, has_member, Label, Place, Message, place_in, View, StepTo, Fence, Report, Install, Write, Gossip, Ack, CopyAsk, CopyReport, PageAsk, Page, senders, place_of, reports_of, group_point_of, to_install, World, groups_joined, IsPieceOf}
+use Rattle.volume_model.specs.Lineage.{found_in}
+use Rattle.volume_model.specs.Node.{Node}
+use Rattle.volume_model.specs.Client.{Client}
 use Rattle.volume_model.proofs.Pieces.{ArePieces-more}
 use Rattle.volume_model.proofs.Invariant.{Held, epoch_now, path, config, log_of, found_of, lineage_of, HasCut, IsMade, WasAt, IsCopy, IsSource, IsSourced, MessageSourced, IsHistory}
 use Rattle.volume_model.proofs.Kept.{IsPlace, Retains, NodeGrows, IsCopyOfPiece, IsInstallOfPiece, install_of, NodeKept, HasRead, reported_to, IsHeir, IsReached, ClientKept, IsWrite, MessageKept}

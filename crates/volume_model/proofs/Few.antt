@@ -1,24 +1,11 @@
 -- How many messages the step of a client makes at most.
-use Rattle.std.proofs.Common.{◌≡◌, ℕ, zero, suc, ◌+◌, ◌/◌, ◌<◌, ◌≤◌, ◌==◌, nat_le, eqb, Bool, true, false, List, [], ◌∷◌, ◌++◌, Option, Some, None, Result, Ok, Err, length, if◌then◌else◌, option_map, length-append, ap, sym, subst, refl, inl, inr, arith, le_trans, not, nat_le}
+use Rattle.std.proofs.Common.{◌≡◌, ℕ, zero, suc, ◌+◌, ◌/◌, ◌<◌, ◌≤◌, ◌==◌, nat_le, eqb, Bool, true, false, List, [], ◌∷◌, ◌++◌, Option, Some, None, Result, Ok, Err, length, if◌then◌else◌, option_map, length-append, ap, sym, subst, refl, inl, inr, arith, le_trans, not}
 use Rattle.std.proofs.lemmas.Bool.{cases_Bool, cases_eq, ne_eqb, leb-true, le-leb, lt-leb, and_parts}
 use Rattle.volume_model.proofs.Basics.{joined-append}
 use Rattle.volume_model.specs.declared.fault.Fault.{Fault}
-use Rattle.volume_model.specs.Lists.{IsIn, each_below, joined}
-use Rattle.volume_model.specs.Refusal.{refuse_if}
-use Rattle.volume_model.specs.Redo.{Redo, spelling, is_same, numbers_before, with_record, cut_of, log_found, of_group, record_at, follow, chain_from, chain_or_none}
-use Rattle.volume_model.specs.Lineage.{Lineage, Contents, extension, is_live, with_live, found_in, last_start, newest}
-use Rattle.volume_model.specs.Pieces.{Piece, most_in_piece, pieces_of, piece_of, in_pieces}
-use Rattle.volume_model.specs.Answer.{◌>>=◌}
-use Rattle.volume_model.specs.Plan.{Plan}
-use Rattle.volume_model.specs.Message.{Place, Message, place_in}
-use Rattle.volume_model.specs.Message.Message.{View, Report, Install, Ack, Page}
-use Rattle.volume_model.specs.Client.{Client, ClientAnswer, Stage, label_of, place_of}
-use Rattle.volume_model.specs.ClientWriter.{Change, issued, issued_writes, page_asked, record_of, resent, write_of, is_last}
-use Rattle.volume_model.specs.ClientRecovery.{to_install, installs, cut_step, live_reported, log_reported, cut_client, reported}
-use Rattle.volume_model.specs.ClientMessages.{later_group, later_in, taken, viewed, with_places, later_unjoined, are_places}
-use Rattle.volume_model.specs.Client.Stage.{Unborn, Reading, Installing, Writing}
-use Rattle.volume_model.specs.Leading.{VolumeLinksFall}
-use Rattle.volume_model.specs.Few.{Few, most_installs, records_in, records_said}
+use Rattle.volume_model.specs.Common.{IsIn, each_below, joined, refuse_if, Redo, spelling, is_same, numbers_before, with_record, cut_of, log_found, of_group, record_at, follow, chain_from, chain_or_none, Lineage, Contents, extension, is_live, with_live, last_start, newest, Piece, most_in_piece, pieces_of, piece_of, in_pieces, ◌>>=◌, Plan, Place, Message, place_in, View, Report, Install, Ack, Page, ClientAnswer, Stage, label_of, place_of, Change, issued, issued_writes, page_asked, record_of, resent, write_of, is_last, to_install, installs, cut_step, live_reported, log_reported, cut_client, reported, later_group, later_in, taken, viewed, with_places, later_unjoined, are_places, Unborn, Reading, Installing, Writing, VolumeLinksFall, Few, most_installs, records_in, records_said}
+use Rattle.volume_model.specs.Lineage.{found_in}
+use Rattle.volume_model.specs.Client.{Client}
 use Rattle.volume_model.proofs.Chains.{record_at-some}
 use Rattle.volume_model.specs.declared.fault.Fault.TheVariants.{NotInPlan, NotAddressed}
 

@@ -1,8 +1,7 @@
 -- A valid expression holds in the set of all members, and what meets it in no empty set
-use Rattle.std.proofs.Common.{◌≡◌, ℕ, ◌+◌, ◌≤◌, Bool, true, false, nat_le, if◌then◌else◌, refl, sym, arith}
-use Rattle.std.proofs.lemmas.Bool.{true≢false, le-leb}
-use Rattle.volume_model.specs.Formula.{Formula, Children, Members, member, at_least, no_child, child, sat, weight_held, total_weight, HasCounts, EachHasCounts}
-use Rattle.volume_model.specs.Plan.{HaveCommonMember}
+use Rattle.std.proofs.Common.{◌≡◌, ℕ, ◌+◌, ◌≤◌, Bool, true, false, nat_le, if◌then◌else◌, refl, sym, arith, true≢false, le-leb}
+use Rattle.volume_model.specs.Common.{Formula, Children, Members, at_least, no_child, child, sat, weight_held, total_weight, HasCounts, EachHasCounts, HaveCommonMember}
+use Rattle.volume_model.specs.Formula.{member}
 
 -- the expression holds in no empty set
 abbrev pub IsFilled : Formula → Type 0

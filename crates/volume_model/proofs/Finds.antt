@@ -1,19 +1,9 @@
 -- What a client that has cut keeps, and what one that hasn't lacks
 use Rattle.std.proofs.Common.{◌≡◌, ℕ, true, false, not, ◌&&◌, ◌==◌, nat_lt, nat_le, List, [], Ok, refl, sym, ap, ◌∙◌, subst, inl, inr}
 use Rattle.std.proofs.lemmas.Bool.{cases_Bool, both_ways, true≢false}
-use Rattle.volume_model.specs.Lists.{put}
-use Rattle.volume_model.specs.Redo.{cut_of}
-use Rattle.volume_model.specs.Lineage.{last_epoch, newest, found_in}
-use Rattle.volume_model.specs.Plan.{Plan}
-use Rattle.volume_model.specs.Message.{Label, Place}
-use Rattle.volume_model.specs.Node.{From}
-use Rattle.volume_model.specs.Client.{Client, Stage, ClientStep, ClientGroup, is_born, has_cut, is_open, place_of, first_writer, unborn}
-use Rattle.volume_model.specs.ClientWriter.{Change, issued}
-use Rattle.volume_model.specs.ClientRecovery.{report_taken, has_read, cut_client, opened, reported}
-use Rattle.volume_model.specs.ClientMessages.{viewed, ack_taken}
-use Rattle.volume_model.specs.Client.Stage.{Unborn, Reading, Installing, Writing}
-use Rattle.volume_model.specs.World.{World, Event, after, run, opening}
-use Rattle.volume_model.specs.Finds.{StaysFound, FindsLast}
+use Rattle.volume_model.specs.Common.{put, cut_of, last_epoch, newest, Plan, Label, Place, From, Stage, ClientStep, ClientGroup, is_born, has_cut, is_open, place_of, first_writer, unborn, Change, issued, report_taken, has_read, cut_client, opened, reported, viewed, ack_taken, Unborn, Reading, Installing, Writing, World, Event, after, run, opening, StaysFound, FindsLast}
+use Rattle.volume_model.specs.Lineage.{found_in}
+use Rattle.volume_model.specs.Client.{Client}
 use Rattle.volume_model.proofs.Basics.{put-all}
 use Rattle.volume_model.proofs.ClientRelations.{AreSteps, Ok-is, event_on, issued-ok, run_on}
 use Rattle.volume_model.proofs.NodeSteps.{refuse_if-ok, extension-ok}

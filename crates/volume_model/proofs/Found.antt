@@ -1,9 +1,7 @@
 -- What was found, and the newest lineage
 use Rattle.std.proofs.Common.{List}
-use Rattle.volume_model.specs.Lists.{IsIn}
-use Rattle.volume_model.specs.Redo.{Redo}
-use Rattle.volume_model.specs.Lineage.{Lineage, Contents, found_in}
-use Rattle.volume_model.specs.Found.{IsReportedLive, FoundIsReported, NewestIsNewest}
+use Rattle.volume_model.specs.Common.{IsIn, Redo, Lineage, Contents, IsReportedLive, FoundIsReported, NewestIsNewest}
+use Rattle.volume_model.specs.Lineage.{found_in}
 use Rattle.volume_model.proofs.Records.{found_in-from, found_in-has, newest-most, newest-of}
 
 reported : (lineage : Lineage) (reports : List Contents) (r : Redo) → IsIn r (found_in lineage reports) → IsReportedLive lineage reports r

@@ -1,18 +1,10 @@
 -- Messages of a journal, and the entries that made them.
-use Rattle.std.proofs.Common.{◌≡◌, ℕ, suc, ◌+◌, ◌-◌, ◌<◌, ◌≤◌, not, ◌&&◌, nat_lt, Bool, true, false, List, length, take, Option, Some, None, refl, sym, ap, ◌∙◌, subst, arith}
-use Rattle.std.specs.Prelude.{slice_get}
+use Rattle.std.proofs.Common.{◌≡◌, ℕ, suc, ◌+◌, ◌-◌, ◌<◌, ◌≤◌, not, ◌&&◌, nat_lt, Bool, true, false, List, length, take, Option, Some, None, refl, sym, ap, ◌∙◌, subst, arith, slice_get}
 use mathlib.Core.List.{IsPrefix}
 use Rattle.volume_model.specs.declared.fault.Fault.TheVariants.{NoActor}
-use Rattle.volume_model.specs.Lists.{added, numbered}
-use Rattle.volume_model.specs.Refusal.{refuse_if}
-use Rattle.volume_model.specs.Plan.{Plan, is_named}
-use Rattle.volume_model.specs.Message.{Message}
-use Rattle.volume_model.specs.World.{World, Event, step, after, deliver, if_there, of_client, of_node, groups_joined}
+use Rattle.volume_model.specs.Common.{added, numbered, refuse_if, Plan, is_named, Message, World, Event, step, after, deliver, of_client, of_node, groups_joined, Take, Cut, Open, Resend, Read, Deliver, Hydrate, Restart, Offer, Keeps, named_by, makes, world_at, IsRun, before}
 use Rattle.volume_model.specs.World as model
-use Rattle.volume_model.specs.World.Event.{Assign, Advance, Refresh, Grow, Issue, Take, Cut, Open, Resend, Read, Deliver, Hydrate, Restart, Offer}
-use Rattle.volume_model.specs.Actor.{Keeps, named_by}
-use Rattle.volume_model.specs.StepResults.{makes}
-use Rattle.volume_model.specs.Journal.{Entry, world_at, IsRun, before}
+use Rattle.volume_model.specs.Journal.{Entry}
 use Rattle.volume_model.proofs.ListFacts.{numbered_kept, numbered_small, numbered_added, get_there}
 use Rattle.volume_model.proofs.Growing.{messages_grow}
 use Rattle.volume_model.proofs.Worlds.{world_at-push, keeps_at, take_more, take_begins}

@@ -2,11 +2,8 @@
 use Rattle.std.proofs.Common.{◌≡◌, ℕ, ◌==◌, ◌&&◌, Bool, true, false, Result, Ok, Err, refl, sym, subst, ap₂, ◌∙◌, inl, inr, true≢false, eq-eqb, ne_eqb}
 use Rattle.std.proofs.lemmas.Bool.{cases_eq}
 use Rattle.volume_model.specs.declared.fault.Fault.{Fault}
-use Rattle.volume_model.specs.Lists.{put, put_at}
-use Rattle.volume_model.specs.Plan.{Plan}
-use Rattle.volume_model.specs.World.{World, Event, Step, after, after_step, groups_joined}
-use Rattle.volume_model.specs.Actor.{Actor, Acted, Agree, acted, actor_of, in_world, same_actor, state_in}
-use Rattle.volume_model.specs.Actor.Actor.{TheAuthority, Client, Node}
+use Rattle.volume_model.specs.Common.{put, put_at, Plan, World, Event, Step, after, after_step, groups_joined, Actor, Acted, Agree, acted, actor_of, in_world, same_actor, state_in, TheAuthority}
+use Rattle.volume_model.specs.Actor.Actor.{Client, Node}
 use Rattle.volume_model.proofs.ActorSteps.{step_of_actor}
 
 pub eqb-sym : (a b : ℕ) → (a == b) ≡ (b == a)

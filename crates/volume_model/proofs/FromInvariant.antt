@@ -1,24 +1,12 @@
 -- The headline, from what holds of a world
 use Rattle.std.proofs.Common.{◌≡◌, ℕ, zero, suc, ◌+◌, ◌-◌, ◌<◌, ◌≤◌, true, false, ◌&&◌, ◌==◌, nat_le, eqb, ◌⊎◌, List, [], ◌∷◌, ◌++◌, length, refl, sym, ap, ◌∙◌, subst, inl, inr, arith, le_refl}
 use Rattle.std.proofs.lemmas.Bool.{cases_lt, cases_eq, cases_order, and_parts, both_ways, eqb-true, leb-true}
-use Rattle.volume_model.specs.Lists.{IsIn, IsBeginningOf}
-use Rattle.volume_model.specs.Formula.{Members, sat}
-use Rattle.volume_model.specs.Redo.{Redo, up_to}
-use Rattle.volume_model.specs.Lineage.{last_epoch, last_start, Contents}
-use Rattle.volume_model.specs.Plan.{Plan, has_member, IsCertified}
-use Rattle.volume_model.specs.Pieces.{Piece}
-use Rattle.volume_model.specs.Message.{Label, Message, place_in}
-use Rattle.volume_model.specs.Message.Message.{Report, Ack, CopyReport}
-use Rattle.volume_model.specs.Node.{From, senders}
-use Rattle.volume_model.specs.Client.{Client, Stage, has_cut, is_open, reports_of, group_point_of}
-use Rattle.volume_model.specs.ClientPoints.{is_consistency_point, durable_point, complete_point}
-use Rattle.volume_model.specs.Client.Stage.{Unborn, Reading, Installing, Writing}
-use Rattle.volume_model.specs.World.{World}
-use Rattle.volume_model.specs.Headline.{Acknowledges, KeepsCommits}
+use Rattle.volume_model.specs.Common.{IsIn, IsBeginningOf, Members, sat, Redo, up_to, last_epoch, last_start, Contents, Plan, has_member, IsCertified, Piece, Label, Message, place_in, Report, Ack, CopyReport, From, senders, Stage, has_cut, is_open, reports_of, group_point_of, is_consistency_point, durable_point, complete_point, Unborn, Reading, Installing, Writing, World, Acknowledges, KeepsCommits}
+use Rattle.volume_model.specs.Client.{Client}
 use Rattle.volume_model.proofs.Basics.{any_passes, IsIn-append}
 use Rattle.volume_model.proofs.Line.{IsLate, descent}
 use Rattle.volume_model.proofs.Views.{place_in-there}
-use Rattle.volume_model.proofs.Logs.{IsChain, same_record, IsIn-up_to, from_up_to, at_most_of_up_to, up_to-up_to, up_to-newer, IsBeginningOf-up_to}
+use Rattle.volume_model.proofs.Logs.{IsChain, same_record, IsIn-up_to, from_up_to, up_to-up_to, up_to-newer, IsBeginningOf-up_to}
 use Rattle.volume_model.proofs.Chains.{complete_of-covers, consistency_point_below-at_most}
 use Rattle.volume_model.proofs.Invariant.{Held, epoch_now, path, config, log_of, found_of, lineage_of, HasCut, IsMade, label, WasAt, IsInViews, IsCopy, Covers, IsSource, IsSourced, MessageSourced, IsHistory, IsReported, HasReadGroup, HasParent, IsLogged, IsSound}
 

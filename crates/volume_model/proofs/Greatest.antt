@@ -1,8 +1,7 @@
 -- The greatest number over a list, as the model's walks find it
 use Rattle.std.proofs.Common.{◌≡◌, ℕ, ◌≤◌, max, Bool, true, ◌⊎◌, List, [], ◌∷◌, if◌then◌else◌, refl, ap, subst, inl, inr, arith}
 use Rattle.std.proofs.lemmas.Bool.{cases_Bool, cases_lt}
-use Rattle.volume_model.specs.Lists.{IsIn}
-use Rattle.volume_model.specs.Greatest.{IsGreatest}
+use Rattle.volume_model.specs.Common.{IsIn, IsGreatest}
 
 -- of the elements that pass the greatest number, else 0
 abbrev pub greatest_where : {A : Type 0} → (A → Bool) → (A → ℕ) → List A → ℕ

@@ -1,11 +1,7 @@
 -- A complete point is the greatest number of a grounded record
 use Rattle.std.proofs.Common.{◌≡◌, ℕ, zero, suc, ◌<◌, ◌≤◌, max, true, ◌&&◌, ◌||◌, eqb, List, [], ◌∷◌, if◌then◌else◌, refl, sym, ap, subst, inl, inr, arith, le_refl}
 use Rattle.std.proofs.lemmas.Bool.{and_parts, and_from, or_cases, or_left, or_right, true≢false, eqb-true, eq-eqb}
-use Rattle.volume_model.specs.Lists.{IsIn}
-use Rattle.volume_model.specs.Redo.{Redo, grounded, greatest_grounded}
-use Rattle.volume_model.specs.Greatest.{IsGreatest}
-use Rattle.volume_model.specs.Grounded.{IsGrounded, IsGroundedNumber, GroupLinksFall, CompletePointIsGreatest}
-use Rattle.volume_model.specs.Grounded.IsGrounded.{from_none, from_one}
+use Rattle.volume_model.specs.Common.{IsIn, Redo, grounded, greatest_grounded, IsGreatest, IsGrounded, IsGroundedNumber, GroupLinksFall, CompletePointIsGreatest, from_none, from_one}
 use Rattle.volume_model.proofs.Basics.{any_passes, any_from}
 use Rattle.volume_model.proofs.Greatest.{greatest_where, greatest-from}
 

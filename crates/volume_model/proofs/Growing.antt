@@ -1,12 +1,7 @@
 -- What a step does to the messages.
 use Rattle.std.proofs.Common.{◌≡◌, ◌+◌, List, length, Some, Result, Ok, Err, refl, sym, ap, ◌∙◌, subst}
 use Rattle.volume_model.specs.declared.fault.Fault.{Fault}
-use Rattle.volume_model.specs.Lists.{added, IsBeginningOf}
-use Rattle.volume_model.specs.Plan.{Plan}
-use Rattle.volume_model.specs.Message.{Message}
-use Rattle.volume_model.specs.World.{World, Event, Step, step, after, after_step, groups_joined}
-use Rattle.volume_model.specs.Actor.{Actor, Acted, Keeps, acted, actor_of, in_world, state_in}
-use Rattle.volume_model.specs.StepResults.{makes}
+use Rattle.volume_model.specs.Common.{added, IsBeginningOf, Plan, Message, World, Event, Step, step, after, after_step, groups_joined, Actor, Acted, Keeps, acted, actor_of, in_world, state_in, makes}
 use Rattle.volume_model.proofs.ActorSteps.{step_of_actor}
 use Rattle.volume_model.proofs.ListFacts.{added_before, beginning-refl, length-added}
 

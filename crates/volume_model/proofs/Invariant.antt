@@ -1,17 +1,7 @@
 -- What holds of every world that a run leads to, as far as the headline needs it
 use Rattle.std.proofs.Common.{◌≡◌, ℕ, ◌-◌, ◌<◌, ◌≤◌, true, ◌⊎◌, List, [], ◌∷◌, ◌++◌, length}
-use Rattle.volume_model.specs.Lists.{IsIn}
-use Rattle.volume_model.specs.Formula.{Members, sat}
-use Rattle.volume_model.specs.Redo.{Redo, last_lsn, up_to}
-use Rattle.volume_model.specs.Lineage.{Lineage, birth, last_epoch, last_start, Contents}
-use Rattle.volume_model.specs.Plan.{Configuration, Plan, has_member, epoch_of}
+use Rattle.volume_model.specs.Common.{IsIn, Members, sat, Redo, last_lsn, up_to, Lineage, birth, last_epoch, last_start, Contents, Configuration, Plan, has_member, epoch_of, Piece, Label, Place, Message, place_in, View, Report, Ack, CopyReport, From, senders, has_cut, reports_of, group_point_of, World, configuration_of}
 use Rattle.volume_model.proofs.Above.{ancestor}
-use Rattle.volume_model.specs.Pieces.{Piece}
-use Rattle.volume_model.specs.Message.{Label, Place, Message, place_in}
-use Rattle.volume_model.specs.Message.Message.{View, Report, Ack, CopyReport}
-use Rattle.volume_model.specs.Node.{From, senders}
-use Rattle.volume_model.specs.Client.{has_cut, reports_of, group_point_of}
-use Rattle.volume_model.specs.World.{World, configuration_of}
 use Rattle.volume_model.proofs.Line.{IsLine}
 use Rattle.volume_model.proofs.Logs.{IsChain}
 

@@ -3,13 +3,10 @@ use Rattle.std.proofs.Common.{◌≡◌, ◌≢◌, ℕ, ◌≤◌, List, ◌++�
 use mathlib.Core.List.{IsPrefix}
 use Rattle.volume_model.specs.declared.fault.Fault.{Fault}
 use Rattle.volume_model.specs.declared.fault.Fault.TheVariants.{Short, BadField, Trailing, NoMemory, BadCount, TooDeep, NotAMember, Malformed, NoSuchItem, NotDead, NoClash, NotAll, TooFewPicked, BadPair, CountTooSmall, BranchCount, BadParent, MemberReused, NoCertificate, Certificate, OverLimit, Superseded, NotInPlan, NoGroup, EpochsSpent, AllGrown, StaleVolume, StaleMember, AheadMember, NotInstalled, NotWhole, Full, AlreadyWhole, NotEnough, NoRecord, BadPiece, TailSegment, PointAhead, SeriesSpent, NotOpen, LimitReached, BadTransaction, LsnSpent, NotReady, AlreadyDone, NoLogRecord, NotJoined, NoMessage, NotAddressed, NoActor, NoSlot, JournalFull}
-use Rattle.volume_model.specs.Plan.{Plan}
-use Rattle.volume_model.specs.World.{World, Event, step, groups_joined}
-use Rattle.volume_model.specs.Actor.{Actor, actor_of, Agree, Keeps, is_joined, JoinedAlike}
-use Rattle.volume_model.specs.Actor.Actor.{TheAuthority, Client, Node}
-use Rattle.volume_model.specs.StepResults.{refusal}
-use Rattle.volume_model.specs.Journal.{Entry, world_at, last_of}
-use Rattle.volume_model.specs.Judging.{placed, judged, found_in, wanted, Refusal, IsRefused, Exact, IsNoted}
+use Rattle.volume_model.specs.Common.{Plan, World, Event, step, groups_joined, Actor, actor_of, Agree, Keeps, is_joined, JoinedAlike, TheAuthority, refusal, world_at, last_of, placed, judged, wanted, Refusal, IsRefused, Exact, IsNoted}
+use Rattle.volume_model.specs.Actor.Actor.{Client, Node}
+use Rattle.volume_model.specs.Journal.{Entry}
+use Rattle.volume_model.specs.Judging.{found_in}
 use Rattle.volume_model.proofs.Fronts.{prefix_length}
 use Rattle.volume_model.proofs.ListFacts.{beginning-refl}
 use Rattle.volume_model.proofs.Frames.{put_here, put_at_here, agree-sym, agree-trans}

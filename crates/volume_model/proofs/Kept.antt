@@ -1,20 +1,11 @@
 -- The invariant: facts of each actor and each message that, once true, stay true
 use Rattle.std.proofs.Common.{◌≡◌, ℕ, ◌<◌, ◌≤◌, true, false, ◌⊎◌, Some, List, [], ◌∷◌, ◌++◌, length}
-use Rattle.volume_model.specs.Lists.{IsIn}
-use Rattle.volume_model.specs.Formula.{Members, sat}
-use Rattle.volume_model.specs.Redo.{Redo, scl, cut_of, log_found}
-use Rattle.volume_model.specs.Lineage.{birth, last_epoch, last_start, extended, Contents, found_in}
-use Rattle.volume_model.specs.Pieces.{Piece, Pieces, Copy}
-use Rattle.volume_model.specs.Plan.{Plan}
-use Rattle.volume_model.specs.Message.{Label, Place, Message, place_in}
-use Rattle.volume_model.specs.Message.Message.{View, StepTo, Fence, Report, Install, Write, Gossip, Ack, CopyAsk, CopyReport, PageAsk, Page}
-use Rattle.volume_model.specs.Node.{From, Node, senders, page_of}
-use Rattle.volume_model.specs.Client.{Client, Count, is_born, has_cut, is_open, group_of, place_of, reports_of, counts_of, group_point_of}
-use Rattle.volume_model.specs.ClientRecovery.{to_install, all_reports}
-use Rattle.volume_model.specs.World.{Authority, World, configuration_of, groups_joined}
+use Rattle.volume_model.specs.Common.{IsIn, Members, sat, Redo, scl, cut_of, log_found, birth, last_epoch, last_start, extended, Contents, Piece, Pieces, Copy, Plan, Label, Place, Message, place_in, View, StepTo, Fence, Report, Install, Write, Gossip, Ack, CopyAsk, CopyReport, PageAsk, Page, From, senders, page_of, Count, is_born, has_cut, is_open, group_of, place_of, reports_of, counts_of, group_point_of, to_install, all_reports, Authority, World, configuration_of, groups_joined, IsPieceOf}
+use Rattle.volume_model.specs.Lineage.{found_in}
+use Rattle.volume_model.specs.Node.{Node}
+use Rattle.volume_model.specs.Client.{Client}
 use Rattle.volume_model.proofs.Logs.{IsLink}
 use Rattle.volume_model.proofs.Ordered.{IsOrdered}
-use Rattle.volume_model.specs.PieceLaws.{IsPieceOf}
 use Rattle.volume_model.proofs.Pieces.{ArePieces}
 use Rattle.volume_model.proofs.Invariant.{Held, epoch_now, path, config, log_of, found_of, lineage_of, HasCut, IsMade, label, WasAt, IsInViews, IsCopy, IsSource, IsSourced, IsHistory}
 

@@ -1,20 +1,8 @@
 -- What a writer has acknowledged it has acknowledged for good
-use Rattle.std.proofs.Common.{◌≡◌, ℕ, ◌+◌, ◌<◌, ◌≤◌, Bool, true, false, not, ◌&&◌, ◌==◌, nat_lt, nat_le, eqb, List, [], ◌∷◌, ◌++◌, append_assoc, Ok, length, refl, sym, ap, ◌∙◌, subst, inl, inr, arith}
+use Rattle.std.proofs.Common.{◌≡◌, ℕ, ◌+◌, ◌<◌, ◌≤◌, Bool, true, false, not, ◌&&◌, ◌==◌, nat_lt, nat_le, eqb, List, [], ◌∷◌, ◌++◌, append_assoc, Ok, length, refl, sym, ap, ◌∙◌, subst, inl, inr, arith, slice_set}
 use Rattle.std.proofs.lemmas.Bool.{cases_Bool, and_parts, and_from, both_ways, eqb-true, eq-eqb, leb-true, le-leb, not-true, cases_lt}
-use Rattle.volume_model.specs.Lists.{IsIn, any}
-use Rattle.volume_model.specs.Redo.{Redo, last_lsn, up_to}
-use Rattle.volume_model.specs.Lineage.{last_start, last_epoch}
-use Rattle.volume_model.specs.Plan.{Plan, IsCertified}
-use Rattle.volume_model.specs.Message.{Label, Place, place_in}
-use Rattle.volume_model.specs.Node.{From}
-use Rattle.volume_model.specs.Client.{Client, Stage, ClientStep, is_born, has_cut, is_open, place_of, counts_of, group_point_of, ClientGroup, no_group, group_of}
-use Rattle.volume_model.specs.ClientPoints.{complete_of, consistency_point_below, is_consistency_point, complete_point, durable_point, groups_now, with_count, raised, raised_group}
-use Rattle.volume_model.specs.ClientWriter.{Change, issued_log, record_of, is_last, issued}
-use Rattle.volume_model.specs.ClientRecovery.{report_taken, cut_client, opened}
-use Rattle.volume_model.specs.ClientMessages.{viewed, ack_taken, with_places, later_group, is_later}
-use Rattle.volume_model.specs.Client.Stage.{Unborn, Reading, Installing, Writing}
-use Rattle.volume_model.specs.World.{World, Event, run, opening}
-use Rattle.volume_model.specs.Headline.{Acknowledges, part_of, AcknowledgementsLast}
+use Rattle.volume_model.specs.Common.{IsIn, any, Redo, last_lsn, up_to, last_start, last_epoch, Plan, IsCertified, Label, Place, place_in, From, Stage, ClientStep, is_born, has_cut, is_open, place_of, counts_of, group_point_of, ClientGroup, no_group, group_of, complete_of, consistency_point_below, is_consistency_point, complete_point, durable_point, groups_now, with_count, raised, raised_group, Change, issued_log, record_of, is_last, issued, report_taken, cut_client, opened, viewed, ack_taken, with_places, later_group, is_later, Unborn, Reading, Installing, Writing, World, Event, run, opening, Acknowledges, part_of, AcknowledgementsLast}
+use Rattle.volume_model.specs.Client.{Client}
 use Rattle.volume_model.proofs.Basics.{any_passes, any_from, IsIn-append_right}
 use Rattle.volume_model.proofs.Logs.{IsChain, up_to-newer}
 use Rattle.volume_model.proofs.Renewed.{IsKeptWorld}
@@ -23,7 +11,6 @@ use Rattle.volume_model.proofs.ClientRelations.{issued-ok, run_on}
 use Rattle.volume_model.proofs.NodeSteps.{refuse_if-ok}
 use Rattle.volume_model.proofs.Run.{opening_kept, run_kept}
 use Rattle.volume_model.proofs.Groups.{set-all, group_of-with_places, later_group-none, group_of-beyond, group_of-raised}
-use Rattle.std.specs.Prelude.{slice_set}
 use Rattle.volume_model.specs.declared.fault.Fault.TheVariants.{AlreadyDone, NoActor}
 
 -- what an open client has it keeps

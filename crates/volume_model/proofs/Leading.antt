@@ -1,11 +1,7 @@
 -- What leads down to 0 from a number, the cut, and the log found
 use Rattle.std.proofs.Common.{◌≡◌, ℕ, zero, suc, ◌<◌, ◌≤◌, max, true, false, eqb, ◌⊎◌, List, [], ◌∷◌, Option, Some, None, if◌then◌else◌, refl, sym, ap, ◌∙◌, subst, inl, inr, arith, le_refl}
 use Rattle.std.proofs.lemmas.Bool.{cases_Bool, true≢false, both_ways, eqb-true, eq-eqb, ne_eqb}
-use Rattle.volume_model.specs.Lists.{IsIn}
-use Rattle.volume_model.specs.Redo.{Redo, spelling, is_same, numbers_before, first_of, record_at, follow, chain_from, ends_at_point, greatest_point, cut_of, log_found}
-use Rattle.volume_model.specs.Greatest.{IsGreatest}
-use Rattle.volume_model.specs.Leading.{RecordAtIsFirst, LeadsDown, IsFoundPoint, VolumeLinksFall, CutIsGreatest, AreOnTheWay, LogFoundLeadsDown}
-use Rattle.volume_model.specs.Leading.LeadsDown.{at_zero, by_record}
+use Rattle.volume_model.specs.Common.{IsIn, Redo, spelling, is_same, numbers_before, first_of, record_at, follow, chain_from, ends_at_point, greatest_point, cut_of, log_found, IsGreatest, RecordAtIsFirst, LeadsDown, IsFoundPoint, VolumeLinksFall, CutIsGreatest, AreOnTheWay, LogFoundLeadsDown, at_zero, by_record}
 use Rattle.volume_model.proofs.Records.{is_same-true}
 use Rattle.volume_model.proofs.Ordered.{before-trans, before-total}
 use Rattle.volume_model.proofs.Chains.{record_at-some, record_at-there, follow-some}

@@ -1,10 +1,7 @@
 -- The configurations that a group goes through, one an epoch, and the descent along them
 use Rattle.std.proofs.Common.{◌≡◌, ℕ, zero, suc, ◌+◌, ◌<◌, ◌≤◌, true, false, ◌&&◌, ◌==◌, ◌⊎◌, ap, ◌∙◌, sym, subst, inl, inr, arith}
 use Rattle.std.proofs.lemmas.Bool.{cases_Bool, cases_lt, and_parts, and_from, both_ways, eqb-true}
-use Rattle.volume_model.specs.Lists.{IsIn, any}
-use Rattle.volume_model.specs.Formula.{Members, sat}
-use Rattle.volume_model.specs.Plan.{Plan, has_member, parent_of, is_fresh, IsAbove, IsStep, IsCertified}
-use Rattle.volume_model.specs.Plan.StandsAbove.{by_parent, by_ancestor}
+use Rattle.volume_model.specs.Common.{IsIn, any, Members, sat, Plan, has_member, parent_of, is_fresh, IsAbove, IsStep, IsCertified, by_parent, by_ancestor}
 use Rattle.volume_model.proofs.Basics.{any_passes, any_fails}
 
 -- a run of configurations, one an epoch from 1 to the last, each but the root a child of the one before

@@ -1,9 +1,7 @@
 -- A record is live exactly where it lives
 use Rattle.std.proofs.Common.{◌≡◌, ℕ, ◌<◌, ◌≤◌, true, ◌&&◌, nat_le, nat_lt, eqb, ◌⊎◌, [], ◌∷◌, refl, sym, ap, ◌∙◌, inl, inr, arith}
 use Rattle.std.proofs.lemmas.Bool.{cases_Bool, and_parts, and_from, true≢false, eqb-true, eqb-false, ltb-true, lt-ltb, leb-true, le-leb}
-use Rattle.volume_model.specs.Lists.{IsIn}
-use Rattle.volume_model.specs.Lineage.{Lineage, is_live}
-use Rattle.volume_model.specs.Live.{EpochsGrow, Lives, RecordsLive}
+use Rattle.volume_model.specs.Common.{IsIn, Lineage, is_live, EpochsGrow, Lives, RecordsLive}
 
 lives : (lineage : Lineage) → EpochsGrow lineage → (volume lsn : ℕ) → is_live lineage volume lsn ≡ true → Lives lineage volume lsn
 lives [] grow volume lsn h = absurd (true≢false (sym h))

@@ -1,10 +1,6 @@
 -- A client installs no records in a group that it lacked when it had cut
 use Rattle.std.proofs.Common.{◌≡◌, ◌<◌, List, [], ◌∷◌, length, refl, ap, ◌∙◌, subst, inl, arith}
-use Rattle.volume_model.specs.Lists.{IsIn}
-use Rattle.volume_model.specs.Redo.{Redo, of_group}
-use Rattle.volume_model.specs.World.{World}
-use Rattle.volume_model.specs.Finds.{StaysFound}
-use Rattle.volume_model.specs.NewGroups.{NewGroupsAreEmpty}
+use Rattle.volume_model.specs.Common.{IsIn, Redo, of_group, World, StaysFound, NewGroupsAreEmpty, run, opening}
 use Rattle.volume_model.proofs.Invariant.{found_of}
 use Rattle.volume_model.proofs.Kept.{install_of, IsInstall, IsCutClient}
 use Rattle.volume_model.proofs.Pieces.{part_of_piece}
@@ -12,7 +8,6 @@ use Rattle.volume_model.proofs.Records.{of_group-none}
 use Rattle.volume_model.proofs.Renewed.{IsKeptWorld}
 use Rattle.volume_model.proofs.Run.{run_kept, opening_kept}
 use Rattle.volume_model.proofs.Finds.{finds_last}
-use Rattle.volume_model.specs.World.{run, opening}
 
 -- a list with no record
 empty : (records : List Redo) → ((r : Redo) → IsIn r records → ⊥) → records ≡ []

@@ -1,23 +1,13 @@
 -- Each step of a node keeps the invariant
 use Rattle.std.proofs.Common.{◌≡◌, ℕ, suc, ◌^◌, ◌<◌, ◌≤◌, Bool, true, false, not, ◌&&◌, ◌==◌, nat_lt, nat_le, eqb, ◌⊎◌, ◌||◌, List, [], ◌∷◌, Option, Some, None, Result, Ok, Err, length, if◌then◌else◌, refl, sym, ap, ◌∙◌, subst, inl, inr, arith}
 use Rattle.std.proofs.lemmas.Bool.{cases_Bool, and_parts, true≢false, both_ways, eqb-true, eqb-false, eq-eqb, ltb-true, ltb-false, leb-false, not-false}
-use Rattle.volume_model.specs.Lists.{IsIn, numbered, put_at}
-use Rattle.volume_model.specs.Answer.{◌>>=◌}
-use Rattle.volume_model.specs.Formula.{sat}
+use Rattle.volume_model.specs.Common.{IsIn, numbered, put_at, ◌>>=◌, sat, Redo, with_record, holds_record, record_at, scl, Lineage, last_epoch, last_start, is_live, extended, extension, Contents, newest, Piece, KeptPiece, Pieces, Copy, most_pieces, in_pieces, piece_in, is_piece, is_complete, is_of_other, is_bad_piece, contents_in, united, with_install, pieces_from, with_copy, copied_by, brought, Plan, has_member, is_full, is_configuration, is_named, IsCertified, Label, Place, Message, StepTo, Fence, Report, Install, Write, Gossip, Ack, CopyAsk, CopyReport, PageAsk, Page, refuse_if, NodeStep, NodeAnswer, lineage_epoch, has_configuration, label_checks, most_records, most_copies, take_record, install_step, installed, page_of, page_checks, page_answer, in_group, reaction, Hydrated, or_not_enough, gathered, whole_node, whole_from, hydrated, restarted, gossip_of, offered, World, groups_joined, of_node, after_step, deliver, if_there, IsPieceOf}
 use Rattle.volume_model.proofs.FormulaLaws.{sat-some}
-use Rattle.volume_model.specs.Redo.{Redo, with_record, holds_record, record_at, scl}
-use Rattle.volume_model.specs.Lineage.{Lineage, last_epoch, last_start, is_live, extended, extension, Contents, newest, found_in}
-use Rattle.volume_model.specs.Pieces.{Piece, KeptPiece, Pieces, Copy, most_pieces, in_pieces, piece_in, is_piece, is_complete, is_of_other, is_bad_piece, contents_in, united, with_install, pieces_from, with_copy, copied_by, brought}
-use Rattle.volume_model.specs.Plan.{Plan, has_member, is_full, is_configuration, is_named, IsCertified}
-use Rattle.volume_model.specs.Message.{Label, Place, Message}
-use Rattle.volume_model.specs.Message.Message.{StepTo, Fence, Report, Install, Write, Gossip, Ack, CopyAsk, CopyReport, PageAsk, Page}
-use Rattle.volume_model.specs.Refusal.{refuse_if}
-use Rattle.volume_model.specs.Node.{Node, NodeStep, NodeAnswer, lineage_epoch, has_configuration, label_checks, most_records, most_copies, take_record, install_step, installed, page_of, page_checks, page_answer, in_group, reaction, Hydrated, or_not_enough, gathered, whole_node, whole_from, hydrated, restarted, gossip_of, offered}
-use Rattle.volume_model.specs.World.{World, groups_joined, of_node, after_step, deliver, if_there}
+use Rattle.volume_model.specs.Lineage.{found_in}
+use Rattle.volume_model.specs.Node.{Node}
 use Rattle.volume_model.proofs.Basics.{numbered-in, map-has}
 use Rattle.volume_model.proofs.Chains.{record_at-some}
 use Rattle.volume_model.proofs.Invariant.{Held, label, path, log_of, found_of, lineage_of, HasCut, IsMade, IsCopy, IsSource, IsHydrated, IsSourced}
-use Rattle.volume_model.specs.PieceLaws.{IsPieceOf}
 use Rattle.volume_model.proofs.Pieces.{in_pieces-from, ArePieces, with_install-are, with_install-series, with_copy-are, AreOf, part_of_contents, complete_some, all_contents, united-from, united-has, united-ordered, brought-from, brought-has, copied_by-has}
 use Rattle.volume_model.proofs.Renewed.{IsReady}
 use Rattle.volume_model.proofs.Kept.{IsPlace, NodeGrows, IsCopyOfPiece, IsInstallOfPiece, install_of, IsInstall, IsCopied, IsWhole, NodeKept, IsWrite, IsPage, MessageKept, IsKept}

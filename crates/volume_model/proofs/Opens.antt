@@ -1,21 +1,9 @@
 -- A client that opens has its cut as its durable point
 use Rattle.std.proofs.Common.{◌≡◌, ℕ, ◌<◌, ◌≤◌, max, true, false, not, ◌&&◌, nat_le, ◌⊎◌, List, [], ◌∷◌, Option, Some, Result, Ok, Err, refl, sym, ap, ◌∙◌, subst, inl, inr, arith, le_refl, length}
 use Rattle.std.proofs.lemmas.Bool.{and_parts, and_from, le-leb, not-false}
-use Rattle.volume_model.specs.Lists.{IsIn}
-use Rattle.volume_model.specs.Formula.{Formula, sat}
+use Rattle.volume_model.specs.Common.{IsIn, Formula, sat, Redo, last_lsn, cut_of, log_found, Plan, IsCertified, ClientStep, ClientAnswer, Count, is_born, has_cut, is_open, place_of, counts_of, group_point_of, place_configuration, reaching, counted_by, best, raised, complete_of, consistency_point_below, opened, has_installed, Writing, World, Event, Step, opening, run, step, of_client, Open, VolumeLinksFall, IsFoundPoint, AreOnTheWay, IsWrittenTo, last_cut, IsAtItsCut, OpensAtItsCut}
 use Rattle.volume_model.proofs.FormulaLaws.{sat_more}
-use Rattle.volume_model.specs.Redo.{Redo, last_lsn, cut_of, log_found}
-use Rattle.volume_model.specs.Plan.{Plan, IsCertified}
-use Rattle.volume_model.specs.Client.{Client, ClientStep, ClientAnswer, Count, is_born, has_cut, is_open, place_of, counts_of, group_point_of, place_configuration}
-use Rattle.volume_model.specs.ClientPoints.{reaching, counted_by, best, raised, complete_of, consistency_point_below}
-use Rattle.volume_model.specs.ClientRecovery.{opened, has_installed}
-use Rattle.volume_model.specs.Client.Stage.{Writing}
-use Rattle.volume_model.specs.World.{World, Event, Step, opening, run, step, of_client}
-use Rattle.volume_model.specs.World.Event.{Open}
-use Rattle.volume_model.specs.Leading.{VolumeLinksFall, IsFoundPoint, AreOnTheWay}
-use Rattle.volume_model.specs.Points.{IsWrittenTo}
-use Rattle.volume_model.specs.Lineage.{last_cut}
-use Rattle.volume_model.specs.Opens.{IsAtItsCut, OpensAtItsCut}
+use Rattle.volume_model.specs.Client.{Client}
 use Rattle.volume_model.proofs.Groups.{group_of-raised}
 use Rattle.volume_model.proofs.Logs.{IsChain, prev_below}
 use Rattle.volume_model.proofs.Line.{IsLine}

@@ -1,17 +1,8 @@
 -- In every run the epochs of lineages grow, and the links of records fall
 use Rattle.std.proofs.Common.{◌≡◌, ℕ, zero, suc, ◌+◌, ◌<◌, ◌≤◌, max, eqb, ◌⊎◌, List, [], ◌∷◌, sym, ap, ◌∙◌, subst, inl, inr, arith}
 use Rattle.std.proofs.lemmas.Bool.{cases_Bool, cases_lt}
-use Rattle.volume_model.specs.Lists.{IsIn}
-use Rattle.volume_model.specs.Redo.{Redo, last_lsn, last_of_group, cut_of}
-use Rattle.volume_model.specs.Lineage.{Entry, Lineage, birth, last_epoch, last_start, Contents}
-use Rattle.volume_model.specs.Plan.{Plan, IsCertified}
-use Rattle.volume_model.specs.Message.{Label}
-use Rattle.volume_model.specs.Message.Message.{Report, Write, Gossip}
-use Rattle.volume_model.specs.Client.{has_cut, is_open}
-use Rattle.volume_model.specs.World.{World, Event}
-use Rattle.volume_model.specs.Live.{EpochsGrow}
-use Rattle.volume_model.specs.Orderly.{LinksFall, Brings, IsOrderly, RunsAreOrderly}
-use Rattle.volume_model.specs.Orderly.Brings.{in_node, in_log, in_report, in_install, in_copy, in_write, in_gossip}
+use Rattle.volume_model.specs.Common.{IsIn, Redo, last_lsn, last_of_group, cut_of, Lineage, birth, last_epoch, last_start, Contents, Plan, IsCertified, Label, Report, Write, Gossip, has_cut, is_open, World, Event, EpochsGrow, LinksFall, Brings, IsOrderly, RunsAreOrderly, in_node, in_log, in_report, in_install, in_copy, in_write, in_gossip}
+use Rattle.volume_model.specs.Lineage.{Entry}
 use Rattle.volume_model.proofs.Logs.{IsChain, prev_below}
 use Rattle.volume_model.proofs.Invariant.{log_of, lineage_of, HasCut, IsCopy}
 use Rattle.volume_model.proofs.Kept.{IsWrite, install_of, IsInstall, IsCopied, MessageKept, IsKept, records_of}

@@ -2,20 +2,10 @@
 use Rattle.std.proofs.Common.{◌≡◌, ℕ, ◌^◌, Bool, true, false, not, nat_lt, List, Option, Some, None, Result, Ok, Err}
 use Rattle.volume_model.specs.declared.fault.Fault.{Fault}
 use Rattle.volume_model.specs.declared.fault.Fault.TheVariants.{LsnSpent, NoLogRecord}
-use Rattle.volume_model.specs.Lineage.{Lineage, last_start, extended, extension, newest, found_in}
-use Rattle.volume_model.specs.Answer.{◌>>=◌}
-use Rattle.volume_model.specs.Refusal.{refuse_if}
-use Rattle.volume_model.specs.Redo.{Redo, cut_of, log_found, record_at}
-use Rattle.volume_model.specs.Plan.{Plan}
-use Rattle.volume_model.specs.Message.{Label, Message}
-use Rattle.volume_model.specs.Message.Message.{View, StepTo, PageAsk}
-use Rattle.volume_model.specs.Node.{Node, NodeStep, page_checks, page_answer, reaction, Hydrated, finished, or_not_enough, gathered, whole_from, hydrated, offered, gossip_of}
-use Rattle.volume_model.specs.Client.{Client, ClientStep, is_born}
-use Rattle.volume_model.specs.ClientWriter.{Change, issued, resent, write_of, page_asked}
-use Rattle.volume_model.specs.ClientRecovery.{cut_step, cut_client, opened, reported}
-use Rattle.volume_model.specs.ClientMessages.{taken}
-use Rattle.volume_model.specs.World.{Authority, AuthorityStep, assigned, advanced, refreshed, grown}
-use Rattle.volume_model.specs.StepResults.{Refuses, IsOwn, IsOwnOfClient}
+use Rattle.volume_model.specs.Common.{Lineage, last_start, extended, extension, newest, ◌>>=◌, refuse_if, Redo, cut_of, log_found, record_at, Plan, Label, Message, View, StepTo, PageAsk, NodeStep, page_checks, page_answer, reaction, Hydrated, finished, or_not_enough, gathered, whole_from, hydrated, offered, gossip_of, ClientStep, is_born, Change, issued, resent, write_of, page_asked, cut_step, cut_client, opened, reported, taken, Authority, AuthorityStep, assigned, advanced, refreshed, grown, Refuses, IsOwn, IsOwnOfClient}
+use Rattle.volume_model.specs.Lineage.{found_in}
+use Rattle.volume_model.specs.Node.{Node}
+use Rattle.volume_model.specs.Client.{Client}
 
 module _ {A : Type 0} (P : Fault → Type 0) where
   -- one refusal before others

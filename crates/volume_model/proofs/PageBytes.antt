@@ -2,12 +2,7 @@
 use Rattle.std.proofs.Common.{◌≡◌, ℕ, ◌+◌, ◌-◌, ◌<◌, ◌≤◌, true, false, ◌&&◌, ◌==◌, nat_le, eqb, ◌⊎◌, List, [], ◌∷◌, ◌++◌, length, get_or, take, drop, replicate, if◌then◌else◌, refl, sym, ap, ◌∙◌, subst, inl, inr, arith}
 use Rattle.std.proofs.lemmas.Bool.{cases_Bool, cases_lt, both_ways, and_parts, and_from, eqb-true, eq-eqb, leb-true, le-leb}
 use Rattle.std.proofs.lemmas.List.{length-take, length-drop, length-append, length-replicate, get_or-replicate, get_or_append_left, get_or-append_right, get_or-take, get_or-drop}
-use Rattle.volume_model.specs.Lists.{IsIn}
-use Rattle.volume_model.specs.Redo.{Redo, spelling, numbers_before}
-use Rattle.volume_model.specs.Node.{written, page_from}
-use Rattle.volume_model.specs.Plan.{Plan, IsCertified}
-use Rattle.volume_model.specs.World.{Event}
-use Rattle.volume_model.specs.PageBytes.{ComeInOrder, NodesRecordsInOrder, LieWithin, Writes, IsLastToWrite, NoneWrites, IsByteOfLast, PagesByteByByte}
+use Rattle.volume_model.specs.Common.{IsIn, Redo, spelling, numbers_before, written, page_from, Plan, IsCertified, Event, ComeInOrder, NodesRecordsInOrder, LieWithin, Writes, IsLastToWrite, NoneWrites, IsByteOfLast, PagesByteByByte}
 use Rattle.volume_model.proofs.Ordered.{in_order}
 use Rattle.volume_model.proofs.Carried.{IsBare, ends_bare, end, kept}
 

@@ -1,12 +1,7 @@
 -- The first record of a log that passes a test has the greatest number of those that do
 use Rattle.std.proofs.Common.{◌≡◌, ℕ, ◌<◌, ◌≤◌, Bool, true, ◌&&◌, nat_le, eqb, ◌⊎◌, List, [], ◌∷◌, if◌then◌else◌, refl, sym, ap, ◌∙◌, subst, inl, inr, arith}
 use Rattle.std.proofs.lemmas.Bool.{cases_Bool, and_parts, and_from, both_ways, eqb-true, eq-eqb, leb-true, leb-false, le-leb}
-use Rattle.volume_model.specs.Lists.{IsIn}
-use Rattle.volume_model.specs.Redo.{Redo, last_lsn, last_of_block, last_of_group, up_to}
-use Rattle.volume_model.specs.ClientWriter.{last_of_group_below}
-use Rattle.volume_model.specs.Greatest.{IsGreatest}
-use Rattle.volume_model.specs.Points.{NumbersGrow}
-use Rattle.volume_model.specs.Parts.{IsNumberOf, IsOnBlock, IsOfGroupWithin, PartsOfLogs}
+use Rattle.volume_model.specs.Common.{IsIn, Redo, last_lsn, last_of_block, last_of_group, up_to, last_of_group_below, IsGreatest, NumbersGrow, IsNumberOf, IsOnBlock, IsOfGroupWithin, PartsOfLogs}
 use Rattle.volume_model.proofs.Records.{of_group-from, of_group-has}
 
 -- the number of the first record that passes, else 0

@@ -3,13 +3,8 @@ use Rattle.std.proofs.Common.{◌≡◌, ℕ, zero, suc, ◌+◌, ◌*◌, ◌/�
 use Rattle.std.proofs.lemmas.Bool.{cases_Bool, cases_eq, true≢false, both_ways, eqb-false, eq-eqb, ne_eqb}
 use Rattle.std.proofs.Math.Seq.{take-add}
 use Rattle.std.proofs.lemmas.Grind.{div_ceil_times, flat_map-append}
-use Rattle.volume_model.specs.Lists.{IsIn, any, every_below, each_below}
-use Rattle.volume_model.specs.Redo.{Redo}
-use Rattle.volume_model.specs.Lineage.{Lineage, Contents, found_in}
-use Rattle.volume_model.specs.Pieces.{KeptPiece, Pieces, Copy, most_in_piece, pieces_of, piece_records, piece_in, has_piece, contents_in, united, brought_by, brought}
-use Rattle.volume_model.specs.Plan.{Plan, IsCertified}
-use Rattle.volume_model.specs.World.{World, Event}
-use Rattle.volume_model.specs.PieceLaws.{IsNumberOfPieces, ArePiecesOf, AreOnce, CountTells, united_copy, PiecesMakeUp, PiecesUnite, KeepsPiecesOfOne, PiecesAreOfOne}
+use Rattle.volume_model.specs.Common.{IsIn, any, every_below, each_below, Redo, Lineage, Contents, KeptPiece, Pieces, Copy, most_in_piece, pieces_of, piece_records, piece_in, has_piece, contents_in, united, brought_by, brought, Plan, IsCertified, World, Event, IsNumberOfPieces, ArePiecesOf, AreOnce, CountTells, united_copy, PiecesMakeUp, PiecesUnite, KeepsPiecesOfOne, PiecesAreOfOne}
+use Rattle.volume_model.specs.Lineage.{found_in}
 use Rattle.volume_model.proofs.Basics.{any_fails, IsIn-flat_map, flat_map-has, IsIn-map, map-has}
 use Rattle.volume_model.proofs.Records.{found_in-from, found_in-has}
 use Rattle.volume_model.proofs.Ordered.{same_set, found_in-ordered}

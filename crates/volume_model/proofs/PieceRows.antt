@@ -1,12 +1,7 @@
 -- Worked pieces, computed
 use Rattle.std.proofs.Common.{◌≡◌, ℕ, zero, suc, true, false, List, [], ◌∷◌, None, Result, Ok, Err, length, map, replicate, refl}
-use Rattle.volume_model.specs.Redo.{Redo}
-use Rattle.volume_model.specs.Lineage.{Lineage, birth, Contents}
-use Rattle.volume_model.specs.Pieces.{Piece, pieces_of, copied_by, brought}
-use Rattle.volume_model.specs.WorkedPlans.{member_replaced}
-use Rattle.volume_model.specs.Message.{Label, Message}
-use Rattle.volume_model.specs.Message.Message.{Install, Write, Ack, CopyAsk, CopyReport}
-use Rattle.volume_model.specs.Node.{Node, NodeAnswer, installed, reaction, restarted}
+use Rattle.volume_model.specs.Common.{Redo, Lineage, birth, Contents, Piece, pieces_of, copied_by, brought, member_replaced, Label, Message, Install, Write, Ack, CopyAsk, CopyReport, NodeAnswer, installed, reaction, restarted}
+use Rattle.volume_model.specs.Node.{Node}
 use Rattle.volume_model.specs.declared.fault.Fault.{Fault}
 use Rattle.volume_model.specs.declared.fault.Fault.TheVariants.{BadPiece, Full, NotInstalled, SeriesSpent, StaleVolume}
 

@@ -2,11 +2,7 @@
 use Rattle.std.proofs.Common.{◌≡◌, ℕ, zero, suc, ◌+◌, ◌-◌, ◌*◌, ◌/◌, ◌%◌, ◌<◌, ◌≤◌, min, true, false, not, ◌&&◌, ◌==◌, nat_lt, eqb, ◌⊎◌, List, [], ◌∷◌, Option, Some, None, length, take, drop, drop-drop, length-drop, refl, sym, ap, ◌∙◌, subst, inl, inr, arith}
 use Rattle.std.proofs.lemmas.Bool.{cases_Bool, and_parts, eqb-true, not-false}
 use Rattle.std.proofs.lemmas.Grind.{div_ceil_times}
-use Rattle.volume_model.specs.Lists.{IsIn}
-use Rattle.volume_model.specs.Redo.{Redo, with_record, with_records}
-use Rattle.volume_model.specs.Lineage.{Contents}
-use Rattle.volume_model.specs.Pieces.{Piece, KeptPiece, Pieces, Copy, most_in_piece, pieces_of, piece_records, piece_of, piece_in, in_pieces, has_piece, is_complete, first_piece, with_piece, is_of_other, contents_in, united, with_install, with_series, pieces_from, with_copy, copied_by, brought_by, brought}
-use Rattle.volume_model.specs.PieceLaws.{IsPieceOf}
+use Rattle.volume_model.specs.Common.{IsIn, Redo, with_record, with_records, Contents, Piece, KeptPiece, Pieces, Copy, most_in_piece, pieces_of, piece_records, piece_of, piece_in, in_pieces, has_piece, is_complete, first_piece, with_piece, is_of_other, contents_in, united, with_install, with_series, pieces_from, with_copy, copied_by, brought_by, brought, IsPieceOf}
 use Rattle.volume_model.proofs.Basics.{any_passes, IsIn-append, every_below-all, each_below-from, IsIn-flat_map, flat_map-has, IsIn-map, map-has, IsIn-take, IsIn-drop, take-or-drop}
 use Rattle.volume_model.proofs.Records.{with_record-has, with_record-keeps, with_record-from}
 use Rattle.volume_model.proofs.Ordered.{IsOrdered, with_record-ordered}

@@ -1,15 +1,8 @@
 -- A group's point, a log's complete point and its durable point are greatest ones
 use Rattle.std.proofs.Common.{◌≡◌, ℕ, ◌<◌, ◌≤◌, max, true, ◌&&◌, nat_le, eqb, ◌⊎◌, List, [], ◌∷◌, if◌then◌else◌, refl, sym, ap, ◌∙◌, subst, inl, inr, arith}
 use Rattle.std.proofs.lemmas.Bool.{cases_Bool, cases_lt, and_parts, and_from, both_ways, true≢false, eqb-true, eq-eqb, leb-true, le-leb}
-use Rattle.volume_model.specs.Lists.{IsIn}
-use Rattle.volume_model.specs.Formula.{Formula, sat}
+use Rattle.volume_model.specs.Common.{IsIn, Formula, sat, Redo, last_lsn, Plan, IsCertified, has_cut, is_open, ClientGroup, Count, place_configuration, group_point_of, reaching, best, complete_of, consistency_point_below, is_consistency_point, complete_point, IsGreatest, IsWrittenTo, IsRaised, GroupPointIsGreatest, NumbersGrow, IsCovered, IsPointWithin, PointsOfLogsAreGreatest, CompleteAndDurablePointsAreGreatest, World, Event, opening, run}
 use Rattle.volume_model.proofs.FormulaLaws.{sat_more, sat-some}
-use Rattle.volume_model.specs.Redo.{Redo, last_lsn}
-use Rattle.volume_model.specs.Plan.{Plan, IsCertified}
-use Rattle.volume_model.specs.Client.{has_cut, is_open, ClientGroup, Count, place_configuration, group_point_of}
-use Rattle.volume_model.specs.ClientPoints.{reaching, best, complete_of, consistency_point_below, is_consistency_point, complete_point}
-use Rattle.volume_model.specs.Greatest.{IsGreatest}
-use Rattle.volume_model.specs.Points.{IsWrittenTo, IsRaised, GroupPointIsGreatest, NumbersGrow, IsCovered, IsPointWithin, PointsOfLogsAreGreatest, CompleteAndDurablePointsAreGreatest}
 use Rattle.volume_model.proofs.Basics.{any_passes, any_from}
 use Rattle.volume_model.proofs.Logs.{IsChain, at_most_last}
 use Rattle.volume_model.proofs.Filled.{IsFilled, filled}
@@ -18,7 +11,6 @@ use Rattle.volume_model.proofs.Lasting.{cut_from_open}
 use Rattle.volume_model.proofs.Finds.{IsTidy, run_tidy}
 use Rattle.volume_model.proofs.Run.{run_kept, opening_kept}
 use Rattle.volume_model.proofs.Sound.{facts}
-use Rattle.volume_model.specs.World.{World, Event, opening, run}
 
 -- ---- a group's point
 

@@ -1,15 +1,8 @@
 -- What a member held when it made its copies: of those that it has not told yet, what it holds now
 use Rattle.std.proofs.Common.{◌≡◌, ℕ, suc, ◌≤◌, nat_le, List, [], ◌∷◌, if◌then◌else◌, refl, subst, inl, inr, arith}
 use Rattle.std.proofs.lemmas.Bool.{lt-leb, le-leb}
-use Rattle.volume_model.specs.Lists.{IsIn}
-use Rattle.volume_model.specs.Lineage.{Contents}
-use Rattle.volume_model.specs.Pieces.{Piece}
-use Rattle.volume_model.specs.Plan.{Plan}
-use Rattle.volume_model.specs.Message.{Message}
-use Rattle.volume_model.specs.Message.Message.{View, StepTo, Fence, Report, CopyAsk, CopyReport, PageAsk, Page}
+use Rattle.volume_model.specs.Common.{IsIn, Contents, Piece, Plan, Message, View, StepTo, Fence, Report, CopyAsk, CopyReport, PageAsk, Page, World, IsPieceOf}
 use Rattle.volume_model.specs.Node.{Node}
-use Rattle.volume_model.specs.World.{World}
-use Rattle.volume_model.specs.PieceLaws.{IsPieceOf}
 use Rattle.volume_model.proofs.Invariant.{Held, IsMade, IsCopy, IsSource, IsSourced, MessageSourced, IsHistory}
 use Rattle.volume_model.proofs.Kept.{Retains, NodeKept, IsCopied, MessageKept, IsKept}
 

@@ -1,13 +1,7 @@
 -- What clients and nodes keep of what they received is in messages that were made
 use Rattle.std.proofs.Common.{◌≢◌, ℕ, ◌<◌, List, inl, inr}
 use Rattle.std.proofs.lemmas.Bool.{cases_Bool}
-use Rattle.volume_model.specs.Lists.{IsIn}
-use Rattle.volume_model.specs.Plan.{Plan, IsCertified}
-use Rattle.volume_model.specs.Message.Message.{Report}
-use Rattle.volume_model.specs.Node.{From}
-use Rattle.volume_model.specs.Client.{has_cut, place_of, reports_of}
-use Rattle.volume_model.specs.World.{World, Event}
-use Rattle.volume_model.specs.Reported.{KeepsMade, ReportsWereMade}
+use Rattle.volume_model.specs.Common.{IsIn, Plan, IsCertified, Report, From, has_cut, place_of, reports_of, World, Event, KeepsMade, ReportsWereMade}
 use Rattle.volume_model.proofs.Invariant.{label}
 use Rattle.volume_model.proofs.Kept.{IsKept}
 use Rattle.volume_model.proofs.Carried.{end, held, kept}

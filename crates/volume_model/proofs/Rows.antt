@@ -1,22 +1,12 @@
 -- Worked runs, computed
-use Rattle.std.proofs.Common.{◌≡◌, ℕ, zero, suc, Bool, true, false, List, [], ◌∷◌, ◌++◌, Ok, Err, map, refl, ◌<◌, ap, ◌∙◌, arith}
-use Rattle.std.specs.Prelude.{◌||◌, nat_eq}
+use Rattle.std.proofs.Common.{◌≡◌, ℕ, zero, suc, Bool, true, false, List, [], ◌∷◌, ◌++◌, Ok, Err, map, refl, ◌<◌, ap, ◌∙◌, arith, ◌||◌, nat_eq}
 use Rattle.std.specs.Ordering.{nat_cmp}
 use Rattle.std.specs.FinSet.{FinSet, empty, insert, contains, contains-empty}
 use Rattle.std.proofs.lemmas.Bool.Decides.{nat_tests}
-use Rattle.volume_model.specs.Meets.{Meets}
+use Rattle.volume_model.specs.Common.{Meets, KeepsClaim, KeepsStepClaim, KeepsClaims, six_root, six_copies, both_sixes, Redo, cut_of, Configuration, Plan, has_member, is_fresh, gathered, installed, durable_point, Change, Event, opening, run, results, Assign, Advance, Refresh, Issue, Take, Cut, Open, Resend, Deliver, Hydrate, Restart, Offer}
 use Rattle.volume_model.proofs.Sets.{contains-put}
 use Rattle.volume_model.proofs.Above.{above_first}
-use Rattle.volume_model.specs.Claims.{KeepsClaim, KeepsStepClaim, KeepsClaims}
 use Rattle.volume_model.specs.Formula.{member}
-use Rattle.volume_model.specs.WorkedPlans.{six_root, six_copies, both_sixes}
-use Rattle.volume_model.specs.Redo.{Redo, cut_of}
-use Rattle.volume_model.specs.Plan.{Configuration, Plan, has_member, is_fresh}
-use Rattle.volume_model.specs.Node.{gathered, installed}
-use Rattle.volume_model.specs.ClientPoints.{durable_point}
-use Rattle.volume_model.specs.ClientWriter.{Change}
-use Rattle.volume_model.specs.World.{Event, opening, run, results}
-use Rattle.volume_model.specs.World.Event.{Assign, Advance, Refresh, Issue, Take, Cut, Open, Resend, Deliver, Hydrate, Restart, Offer}
 use Rattle.volume_model.specs.declared.fault.Fault.TheVariants.{NotEnough, NotWhole, Superseded}
 
 -- the root, and then the step

@@ -1,17 +1,8 @@
 -- The invariant holds of the opening world and of every world that a list of events leads to; so does the headline
-use Rattle.std.proofs.Common.{◌≡◌, ℕ, suc, ◌-◌, ◌<◌, ◌≤◌, true, not, ◌&&◌, ◌==◌, nat_lt, List, [], ◌∷◌, ◌++◌, length, replicate, Result, Ok, Err, refl, sym, ap, ◌∙◌, subst, inl, inr, arith, ◌⊎◌}
+use Rattle.std.proofs.Common.{◌≡◌, ℕ, suc, ◌-◌, ◌<◌, ◌≤◌, true, not, ◌&&◌, ◌==◌, nat_lt, List, [], ◌∷◌, ◌++◌, length, replicate, Result, Ok, Err, refl, sym, ap, ◌∙◌, subst, inl, inr, arith, ◌⊎◌, slice_set}
 use Rattle.std.proofs.lemmas.Bool.{cases_Bool, cases_lt, and_parts, true≢false, eqb-true, ltb-true, not-false}
-use Rattle.volume_model.specs.Lists.{IsIn, put}
-use Rattle.volume_model.specs.Plan.{Plan, has_member, parent_of, epoch_of, IsCertified}
+use Rattle.volume_model.specs.Common.{IsIn, put, Plan, has_member, parent_of, epoch_of, IsCertified, Message, View, StepTo, Ack, born_node, first_writer, unborn, Count, born_group, no_group, Authority, World, Event, opening, place_now, places_now, AuthorityStep, assigned, advanced, refreshed, grown, groups_joined, of_authority, after_step, after, run, configuration_of, Assign, Advance, Refresh, Grow, Issue, Take, Cut, Open, Resend, Read, Deliver, Hydrate, Restart, Offer, KeepsCommits, VolumeKeepsCommits, SaysTruePages, PagesAreTrue, Redo, of_group, scl}
 use Rattle.volume_model.proofs.Above.{ancestor}
-use Rattle.volume_model.specs.Message.{Message}
-use Rattle.volume_model.specs.Message.Message.{View, StepTo, Ack}
-use Rattle.volume_model.specs.Node.{born_node}
-use Rattle.volume_model.specs.Client.{first_writer, unborn, Count, born_group, no_group}
-use Rattle.volume_model.specs.World.{Authority, World, Event, opening, place_now, places_now, AuthorityStep, assigned, advanced, refreshed, grown, groups_joined, of_authority, after_step, after, run, configuration_of}
-use Rattle.volume_model.specs.World.Event.{Assign, Advance, Refresh, Grow, Issue, Take, Cut, Open, Resend, Read, Deliver, Hydrate, Restart, Offer}
-use Rattle.volume_model.specs.Headline.{KeepsCommits, VolumeKeepsCommits, SaysTruePages, PagesAreTrue}
-use Rattle.volume_model.specs.Redo.{Redo, of_group, scl}
 use Rattle.volume_model.proofs.Chains.{scl-all}
 use Rattle.volume_model.proofs.Records.{of_group-has, of_group-from}
 use Rattle.volume_model.proofs.Ordered.{page_of-same, of_group-ordered}
@@ -25,7 +16,6 @@ use Rattle.volume_model.proofs.FromInvariant.{keeps_commits}
 use Rattle.volume_model.proofs.Renewed.{IsKeptWorld, renewed, renewed_kept, renewed_ready}
 use Rattle.volume_model.proofs.NodeSteps.{refuse_if-ok, deliver_kept, hydrate_kept, restart_kept, offer_kept}
 use Rattle.volume_model.proofs.ClientSteps.{issue_kept, take_kept, cut_kept, open_kept, resend_kept, read_kept}
-use Rattle.std.specs.Prelude.{slice_set}
 use Rattle.std.proofs.lemmas.List.{length-replicate}
 use Rattle.volume_model.proofs.Groups.{replicate-all, index-beyond}
 use Rattle.volume_model.specs.declared.fault.Fault.{Fault}

@@ -1,10 +1,7 @@
 -- The places that a View lists.
 use Rattle.std.proofs.Common.{◌≡◌, ℕ, zero, suc, ◌<◌, ◌≤◌, true, List, [], ◌∷◌, ◌++◌, length, length-append, refl, sym, ap, ◌∙◌, inl, inr, arith}
 use Rattle.std.proofs.lemmas.Bool.{cases_lt}
-use Rattle.volume_model.specs.Lists.{each_below}
-use Rattle.volume_model.specs.Plan.{Plan}
-use Rattle.volume_model.specs.Message.{Place, place_in}
-use Rattle.volume_model.specs.World.{Authority, groups_joined, place_now, places_now}
+use Rattle.volume_model.specs.Common.{each_below, Plan, Place, place_in, Authority, groups_joined, place_now, places_now}
 
 place_in-append : (xs : List Place) (k : ℕ) (ys : List Place) → k < length xs → place_in (xs ++ ys) k ≡ place_in xs k
 place_in-append [] k ys h = absurd (omega arith)

@@ -1,10 +1,9 @@
 -- The worked plans are certified
 use Rattle.std.proofs.Common.{◌≡◌, ℕ, zero, suc, ◌+◌, ◌<◌, ◌≤◌, Bool, true, false, not, ◌&&◌, nat_le, eqb, ◌⊎◌, List, [], ◌∷◌, map, length, if◌then◌else◌, refl, sym, ap, ◌∙◌, inl, inr, arith}
 use Rattle.std.proofs.lemmas.Bool.{cases_Bool, and_parts, both_ways, true≢false, leb-true, le-leb, not-true}
-use Rattle.volume_model.specs.Lists.{IsIn, any}
-use Rattle.volume_model.specs.Formula.{Formula, Members, member, each_once, sat, weight_held, HasCounts}
-use Rattle.volume_model.specs.Plan.{Configuration, has_member, IsStep, HaveCommonMember}
-use Rattle.volume_model.specs.WorkedPlans.{some_of, count_of, six, three, other_six, seven, six_root, both_sixes, with_other, with_first, replacing, member_replaced, SixCopiesCertified, FullAndTailCertified, MemberReplacedCertified}
+use Rattle.volume_model.specs.Common.{IsIn, any, Formula, Members, each_once, sat, weight_held, HasCounts, Configuration, has_member, IsStep, HaveCommonMember, some_of, count_of, six, three, other_six, seven, six_root, both_sixes, with_other, replacing, member_replaced, SixCopiesCertified, FullAndTailCertified, MemberReplacedCertified}
+use Rattle.volume_model.specs.Formula.{member}
+use Rattle.volume_model.specs.WorkedPlans.{with_first}
 use Rattle.volume_model.proofs.Basics.{any_passes, any_from}
 use Rattle.volume_model.proofs.Above.{above_first}
 

@@ -1,11 +1,8 @@
 -- The world after the entries of a journal, and an actor in it.
-use Rattle.std.proofs.Common.{◌≡◌, ◌⊎◌, ℕ, zero, suc, ◌+◌, ◌<◌, ◌≤◌, List, [], ◌∷◌, ◌++◌, length, take, map, true, false, Some, refl, sym, ap, ◌∙◌, subst, inl, inr, ⊎_elim, arith}
-use Rattle.std.specs.Prelude.{if◌then◌else◌, slice_get}
+use Rattle.std.proofs.Common.{◌≡◌, ◌⊎◌, ℕ, zero, suc, ◌+◌, ◌<◌, ◌≤◌, List, [], ◌∷◌, ◌++◌, length, take, map, true, false, Some, refl, sym, ap, ◌∙◌, subst, inl, inr, ⊎_elim, arith, if◌then◌else◌, slice_get}
 use mathlib.Core.List.{IsPrefix}
-use Rattle.volume_model.specs.Plan.{Plan}
-use Rattle.volume_model.specs.World.{World, opening, after, run}
-use Rattle.volume_model.specs.Actor.{Actor, actor_of, same_actor, Agree, Keeps}
-use Rattle.volume_model.specs.Journal.{Entry, events, world_at, last_from, last_of, Goes, IsRun, before}
+use Rattle.volume_model.specs.Common.{Plan, World, opening, after, run, Actor, actor_of, same_actor, Agree, Keeps, events, world_at, last_from, last_of, Goes, IsRun, before}
+use Rattle.volume_model.specs.Journal.{Entry}
 use Rattle.volume_model.proofs.ListFacts.{by_test, get_within, beginning-refl, beginning-trans}
 use Rattle.volume_model.proofs.Frames.{frame, agree-refl, agree-trans}
 use Rattle.volume_model.proofs.Growing.{messages_grow, keeps_after}

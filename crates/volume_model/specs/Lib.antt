@@ -43,3 +43,4 @@ pub mod Few
 pub mod Raised
 pub mod PageBytes
 pub mod NewGroups
+pub mod Common

@@ -1,6 +1,6 @@
 //! Why calls refuse: each reason with its number.
 
-ghost use Rattle.std.specs.Prelude.{◌≡◌};
+ghost use Rattle.std.specs.Prelude.{◌≡◌, Some};
 ghost use Rattle.volume_model.specs.Names.{fault_text, name_of};
 ghost use Rattle.volume_model.specs.Numbers.{number_of};
 ghost use Rattle.volume_model.specs.declared.fault.Fault.TheVariants.{NoMemory};
@@ -189,8 +189,6 @@ impl Fault {
 
 /// Writes the number and the name.
 impl fmt::Display for Fault {
-    ghost use Rattle.std.specs.Prelude.{Some};
-
     ghost output = { λ fault. Some (fault_text fault) };
 
     fn fmt<W: fmt::Write>(&self, f: &mut fmt::Formatter<W>) -> fmt::Result {

@@ -1,7 +1,7 @@
 //! The records of one block, for pages.
 
 ghost use Rattle.std.specs.Prelude.{◌≡◌, All, IfOk};
-ghost use Rattle.redo_record.specs.SharedRecord.{shared_redo};
+ghost use Rattle.redo_record.specs.Common.{shared_redo};
 
 use redo_record::{RecordSet, SharedRecord};
 use std::alloc::{AllocError, Global};

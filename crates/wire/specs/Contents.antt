@@ -1,8 +1,8 @@
 use Rattle.std.specs.Prelude.{ℕ}
 use Rattle.volume_model.specs.Lineage as model
-use Rattle.volume_model.specs.Pieces.{Piece}
+use Rattle.volume_model.specs.Common.{Piece}
 use Rattle.lineage.specs.Lineage.{lineage_of}
-use Rattle.redo_record.specs.RecordSet.{records_of}
+use Rattle.redo_record.specs.Common.{records_of}
 use Rattle.wire.specs.declared.contents.Contents.{Contents}
 
 -- the contents of the model for contents

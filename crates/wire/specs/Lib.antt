@@ -1,3 +1,4 @@
 pub mod Contents
 pub mod Message
 pub mod Listed
+pub mod Common

@@ -1,7 +1,7 @@
 use Rattle.std.specs.Prelude.{List, map}
 use Rattle.std.specs.Arc.{arc_value}
 use Rattle.volume_model.specs.Message as model
-use Rattle.redo_record.specs.SharedRecord.{shared_redo}
+use Rattle.redo_record.specs.Common.{shared_redo}
 use Rattle.wire.specs.declared.label.Label.{Label}
 use Rattle.wire.specs.declared.label.Place.{Place}
 use Rattle.wire.specs.declared.message.Message.{Message}

@@ -2,7 +2,7 @@
 
 ghost use Rattle.std.specs.Prelude.{◌≡◌, IfOk};
 ghost use Rattle.volume_model.specs.Message as model;
-ghost use Rattle.redo_record.specs.SharedRecord.{shared_redo};
+ghost use Rattle.redo_record.specs.Common.{shared_redo};
 ghost use Rattle.wire.specs.Message.{label_of, message_of};
 
 use crate::label::Label;

@@ -1,8 +1,7 @@
 //! The contents of a segment.
 
 ghost use Rattle.std.specs.Prelude.{◌≡◌, length, IfOk};
-ghost use Rattle.volume_model.specs.Node.{in_group};
-ghost use Rattle.volume_model.specs.Pieces.{is_piece, piece_of, pieces_of};
+ghost use Rattle.volume_model.specs.Common.{in_group, is_piece, piece_of, pieces_of};
 ghost use Rattle.wire.specs.Contents.{contents_of, piece_in};
 
 use lineage::Lineage;

@@ -1,7 +1,7 @@
 //! Messages between actors.
 
-ghost use Rattle.std.specs.Prelude.{◌≡◌, ◌==◌, ◌&&◌};
-ghost use Rattle.redo_record.specs.SharedRecord.{shared_redo};
+ghost use Rattle.std.specs.Prelude.{◌≡◌, ◌==◌, ◌&&◌, nat_lt};
+ghost use Rattle.redo_record.specs.Common.{shared_redo};
 
 use crate::contents::Contents;
 use crate::label::{Label, Place};
@@ -212,7 +212,7 @@ impl Gossip {
 }
 
 impl Install {
-    ghost use Rattle.volume_model.specs.Node.{in_group};
+    ghost use Rattle.volume_model.specs.Common.{in_group};
     ghost use Rattle.wire.specs.Contents.{contents_of};
 
     /// Returns whether the message is for the nodes of the group: it names the group, and the piece's records are the
@@ -225,8 +225,7 @@ impl Install {
 }
 
 impl CopyReport {
-    ghost use Rattle.std.specs.Prelude.{nat_lt};
-    ghost use Rattle.volume_model.specs.Node.{in_group};
+    ghost use Rattle.volume_model.specs.Common.{in_group};
     ghost use Rattle.wire.specs.Contents.{contents_of};
 
     /// Returns whether the message is for the nodes of the group: it names the group, the piece's records are the
@@ -240,7 +239,7 @@ impl CopyReport {
 }
 
 impl Report {
-    ghost use Rattle.volume_model.specs.ClientMessages.{is_for};
+    ghost use Rattle.volume_model.specs.Common.{is_for};
     ghost use Rattle.wire.specs.Message.{message_of};
 
     /// Returns whether the message is for the client of this volume epoch, which has `groups` groups: it names one of
@@ -256,7 +255,7 @@ impl Report {
 }
 
 impl Ack {
-    ghost use Rattle.volume_model.specs.ClientMessages.{is_for};
+    ghost use Rattle.volume_model.specs.Common.{is_for};
     ghost use Rattle.wire.specs.Message.{message_of};
 
     /// Returns whether the message is for the client of this volume epoch, which has `groups` groups: it names one of
@@ -269,7 +268,7 @@ impl Ack {
 }
 
 impl Page {
-    ghost use Rattle.volume_model.specs.ClientMessages.{is_for};
+    ghost use Rattle.volume_model.specs.Common.{is_for};
     ghost use Rattle.wire.specs.Message.{message_of};
 
     /// Returns whether the message is for the client of this volume epoch, which has `groups` groups: it names one of

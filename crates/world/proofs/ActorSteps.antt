@@ -1,9 +1,7 @@
 -- The step of an event is that of its actor's action.
 use Rattle.std.proofs.Common.{◌≡◌, ℕ, Bool, Result, refl, sym, subst}
 use Rattle.volume_model.specs.declared.fault.Fault.{Fault}
-use Rattle.volume_model.specs.Answer.{never_after_growth}
-use Rattle.volume_model.specs.Plan.{Plan}
-use Rattle.volume_model.specs.World.{Event, Step, World, groups_joined, if_there, of_authority, of_client, of_node, step}
+use Rattle.volume_model.specs.Common.{never_after_growth, Plan, Event, Step, World, groups_joined, if_there, of_authority, of_client, of_node, step}
 use Rattle.segment_core.specs.declared.action.NodeAction.{NodeAction}
 use Rattle.segment_core.specs.declared.action.NodeAction.TheVariants as node
 use Rattle.segment_core.specs.Actions.{acted, action_after_growth}

@@ -1,14 +1,8 @@
 -- In every run a node that has a place and isn't whole has asked for copies, and each member of a group's root is whole.
 use Rattle.std.proofs.Common.{◌≡◌, ℕ, ◌≤◌, Bool, true, false, not, ◌&&◌, nat_lt, ◌⊎◌, List, [], ◌∷◌, Result, Ok, Err, refl, sym, ap, ◌∙◌, subst, inl, inr, arith}
 use Rattle.std.proofs.lemmas.Bool.{both_ways, true≢false}
-use Rattle.volume_model.specs.Lists.{IsIn, added, numbered}
-use Rattle.volume_model.specs.Plan.{Plan, IsCertified, has_member, is_named}
-use Rattle.volume_model.specs.Message.Message.{CopyAsk}
-use Rattle.volume_model.specs.Refusal.{refuse_if}
-use Rattle.volume_model.specs.Node.{Node, NodeStep, NodeAnswer, born_node}
-use Rattle.volume_model.specs.Client.{ClientAnswer}
-use Rattle.volume_model.specs.World.{AuthorityStep, World, Event, after, after_step, groups_joined, if_there, of_authority, of_client, of_node, opening, run}
-use Rattle.volume_model.specs.World.Event.{Issue, Take, Cut, Open, Resend, Read, Deliver, Hydrate, Restart, Offer}
+use Rattle.volume_model.specs.Common.{IsIn, added, numbered, Plan, IsCertified, has_member, is_named, CopyAsk, refuse_if, NodeStep, NodeAnswer, born_node, ClientAnswer, AuthorityStep, World, Event, after, after_step, groups_joined, if_there, of_authority, of_client, of_node, opening, run, Issue, Take, Cut, Open, Resend, Read, Deliver, Hydrate, Restart, Offer}
+use Rattle.volume_model.specs.Node.{Node}
 use Rattle.volume_model.proofs.Basics.{put_at-all}
 use Rattle.volume_model.proofs.Invariant.{IsMade}
 use Rattle.volume_model.proofs.NodeSteps.{hydrated-ok}

@@ -1,11 +1,7 @@
 -- A segment that holds a group's part of a log is complete up to each record of it.
 use Rattle.std.proofs.Common.{◌≡◌, ℕ, ◌<◌, ◌≤◌, ◌==◌, ◌⊎◌, List, [], ◌∷◌, refl, sym, ap, ◌∙◌, subst, inl, inr, arith}
 use Rattle.std.proofs.lemmas.Bool.{cases_Bool, eqb-true}
-use Rattle.volume_model.specs.Lists.{IsIn}
-use Rattle.volume_model.specs.Redo.{Redo, last_lsn, last_of_group, scl}
-use Rattle.volume_model.specs.Grounded.{IsGrounded, IsGroundedNumber}
-use Rattle.volume_model.specs.Grounded.IsGrounded.{from_none, from_one}
-use Rattle.volume_model.specs.Greatest.{IsGreatest}
+use Rattle.volume_model.specs.Common.{IsIn, Redo, last_lsn, last_of_group, scl, IsGrounded, IsGroundedNumber, from_none, from_one, IsGreatest}
 use Rattle.volume_model.proofs.Grounded.{complete_point_is_greatest}
 use Rattle.volume_model.proofs.Logs.{IsChain, at_most_last}
 

@@ -3,9 +3,7 @@ use Rattle.std.proofs.Common.{◌≡◌, ℕ, ◌<◌, Bool, true, false, ◌==�
 use Rattle.std.specs.Global.{Box}
 use Rattle.std.proofs.lemmas.Bool.{cases_eq, eq-eqb, ne_eqb}
 use Rattle.std.proofs.lemmas.List.{get_or-set_same, get_or-set_other, get_or_read}
-use Rattle.volume_model.specs.Lists.{put}
-use Rattle.volume_model.specs.Plan.{Plan}
-use Rattle.volume_model.specs.Client.{unborn}
+use Rattle.volume_model.specs.Common.{put, Plan, unborn}
 use Rattle.world.specs.declared.client.Client.{Client}
 use Rattle.world.specs.Clients.{seen_client, client_or_unborn, client_in, clients_of, IsClientOf, IsSameClient, AreClients, HasSameClients, IsPut}
 

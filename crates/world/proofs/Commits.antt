@@ -1,26 +1,9 @@
 -- From members that hold what the recovery found to a commit of its own.
-use Rattle.std.proofs.Common.{◌≡◌, ℕ, zero, suc, ◌+◌, ◌<◌, ◌≤◌, ◌^◌, max, true, false, not, ◌&&◌, ◌==◌, nat_lt, nat_le, List, [], ◌∷◌, Ok, length, refl, sym, ap, ◌∙◌, subst, inl, inr, arith}
-use Rattle.std.specs.Prelude.{slice_index_or, slice_set}
+use Rattle.std.proofs.Common.{◌≡◌, ℕ, zero, suc, ◌+◌, ◌<◌, ◌≤◌, ◌^◌, max, true, false, not, ◌&&◌, ◌==◌, nat_lt, nat_le, List, [], ◌∷◌, Ok, length, refl, sym, ap, ◌∙◌, subst, inl, inr, arith, slice_index_or, slice_set}
 use Rattle.std.proofs.lemmas.Bool.{cases_Bool, cases_lt, and_from, and_right, or_left, or_right, true≢false, eq-eqb, lt-ltb, le-ltb, le-leb, lt-leb}
-use Rattle.volume_model.specs.Lists.{IsIn, added, put, put_at}
-use Rattle.volume_model.specs.Claims.{KeepsClaim, KeepsClaims}
-use Rattle.volume_model.specs.Formula.{Members, sat}
-use Rattle.volume_model.specs.Redo.{Redo, holds_record, is_same, same_numbers, spelling, of_group, last_lsn, last_of_group, scl, up_to, with_record}
-use Rattle.volume_model.specs.Lineage.{Lineage, last_epoch, last_start}
-use Rattle.volume_model.specs.Plan.{Plan, IsCertified, has_member, is_named}
-use Rattle.volume_model.specs.Message.{Place, Message}
-use Rattle.volume_model.specs.Message.Message.{Write, Ack}
-use Rattle.volume_model.specs.Node.{Node, NodeAnswer, NodeStep, lineage_epoch, most_records, reaction}
-use Rattle.volume_model.specs.Client.{Client, ClientAnswer, ClientGroup, group_of, place_of, counts_of, group_point_of, has_cut, is_open, no_group, place_configuration, stays}
-use Rattle.volume_model.specs.Client.Stage.{Writing}
-use Rattle.volume_model.specs.ClientPoints.{complete_of, consistency_point_below, counted_by, durable_point, is_consistency_point, reaching, raised, raised_group, with_count}
-use Rattle.volume_model.specs.ClientMessages.{taken}
-use Rattle.volume_model.specs.Headline.{Acknowledges}
-use Rattle.volume_model.specs.ClientWriter.{Change, issued, record_of}
-use Rattle.volume_model.specs.ClientRecovery.{has_installed, opened, writing}
-use Rattle.volume_model.specs.Points.{IsRaised, NumbersGrow}
-use Rattle.volume_model.specs.World.{World, Event, after, after_step, groups_joined, of_client, run}
-use Rattle.volume_model.specs.World.Event.{Open, Issue, Deliver, Take}
+use Rattle.volume_model.specs.Common.{IsIn, added, put, put_at, KeepsClaim, KeepsClaims, Members, sat, Redo, holds_record, is_same, same_numbers, spelling, of_group, last_lsn, last_of_group, scl, up_to, with_record, Lineage, last_epoch, last_start, Plan, IsCertified, has_member, is_named, Place, Message, Write, Ack, NodeAnswer, NodeStep, lineage_epoch, most_records, reaction, ClientAnswer, ClientGroup, group_of, place_of, counts_of, group_point_of, has_cut, is_open, no_group, place_configuration, stays, Writing, complete_of, consistency_point_below, counted_by, durable_point, is_consistency_point, reaching, raised, raised_group, with_count, taken, Acknowledges, Change, issued, record_of, has_installed, opened, writing, IsRaised, NumbersGrow, World, Event, after, after_step, groups_joined, of_client, run, Open, Issue, Deliver, Take}
+use Rattle.volume_model.specs.Node.{Node}
+use Rattle.volume_model.specs.Client.{Client}
 use Rattle.volume_model.proofs.Basics.{any_from, put_at-all}
 use Rattle.volume_model.proofs.Chains.{last_of_group-above}
 use Rattle.volume_model.proofs.ClientSteps.{put-same}
@@ -35,7 +18,7 @@ use Rattle.volume_model.proofs.Records.{of_group-from, of_group-has, with_record
 use Rattle.volume_model.proofs.Renewed.{IsKeptWorld}
 use Rattle.volume_model.proofs.Run.{event_kept}
 use Rattle.volume_model.proofs.Sound.{cut_client, facts, is_sound}
-use Rattle.plan.specs.CheckedModel.{HasWriteSets}
+use Rattle.plan.specs.Common.{HasWriteSets}
 use Rattle.world.proofs.Readable.{IsIn-kept, Reaches, delivered, every_below_true, has_number, reach_none, reach_one, reach_then, set-here, some_below_true, took}
 use Rattle.world.proofs.Chained.{complete_up_to}
 use Rattle.world.proofs.Counts.{reaching-keeps, reaching-lower, reaching-new}

@@ -1,12 +1,7 @@
 -- The copies that a node keeps, after one more piece came.
 use Rattle.std.proofs.Common.{◌≡◌, ℕ, suc, ◌<◌, ◌≤◌, true, false, ◌==◌, nat_lt, nat_le, ◌⊎◌, List, [], ◌∷◌, ◌++◌, Option, Some, None, length, refl, sym, ap, ◌∙◌, subst, inl, inr, arith}
 use Rattle.std.proofs.lemmas.Bool.{cases_Bool, and_from, eqb-true, eqb-false, eq-eqb, ne_eqb, le-leb, lt-ltb, ltb-true, or_cases, true≢false}
-use Rattle.volume_model.specs.Lists.{IsIn}
-use Rattle.volume_model.specs.Redo.{Redo, spelling, numbers_before}
-use Rattle.volume_model.specs.Lineage.{Contents}
-use Rattle.volume_model.specs.Pieces.{Piece, KeptPiece, Pieces, Copy, most_in_piece, most_pieces, pieces_of, piece_of, piece_records, is_piece, has_piece, is_complete, first_piece, with_piece, is_bad_piece, contents_in, with_series, pieces_from, with_copy, copied_by}
-use Rattle.volume_model.specs.PageBytes.{ComeInOrder}
-use Rattle.volume_model.specs.Node.{most_records}
+use Rattle.volume_model.specs.Common.{IsIn, Redo, spelling, numbers_before, Contents, Piece, KeptPiece, Pieces, Copy, most_in_piece, most_pieces, pieces_of, piece_of, piece_records, is_piece, has_piece, is_complete, first_piece, with_piece, is_bad_piece, contents_in, with_series, pieces_from, with_copy, copied_by, ComeInOrder, most_records}
 use Rattle.volume_model.proofs.Basics.{IsIn-append, IsIn-append_left, IsIn-append_right, IsIn-map, any_from, any_passes, every_below-all, map-has}
 use Rattle.volume_model.proofs.Ordered.{before-trans}
 use Rattle.volume_model.proofs.PieceLaws.{pieces_make_up}

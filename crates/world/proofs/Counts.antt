@@ -1,9 +1,7 @@
 -- A counted acknowledgement stays counted, with the greatest number of its sender.
 use Rattle.std.proofs.Common.{◌≡◌, ℕ, ◌≤◌, max, true, ◌==◌, List, [], ◌∷◌, refl, sym, ap, ◌∙◌, inl, inr, arith}
 use Rattle.std.proofs.lemmas.Bool.{cases_Bool, eqb-true}
-use Rattle.volume_model.specs.Lists.{IsIn}
-use Rattle.volume_model.specs.Client.{Count}
-use Rattle.volume_model.specs.ClientPoints.{reaching, with_count}
+use Rattle.volume_model.specs.Common.{IsIn, Count, reaching, with_count}
 use Rattle.volume_model.proofs.Points.{reaching-some, reaching-from}
 
 -- a count of this sender, of at least this number

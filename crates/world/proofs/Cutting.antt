@@ -1,18 +1,9 @@
 -- The cut of a recovery makes all pieces of its install.
-use Rattle.std.proofs.Common.{◌≡◌, ℕ, suc, ◌^◌, ◌<◌, ◌≤◌, true, false, not, nat_lt, List, [], ◌∷◌, Some, Ok, length, refl, sym, ap, ◌∙◌, subst, inl, inr, arith}
-use Rattle.std.proofs.lemmas.Bool.{true≢false, ltb-false}
-use Rattle.volume_model.specs.Lists.{IsIn, added, each_below, joined, put}
-use Rattle.volume_model.specs.Redo.{Redo, cut_of, log_found}
-use Rattle.volume_model.specs.Lineage.{Lineage, extended, extension, found_in, last_epoch, last_start, newest}
-use Rattle.volume_model.specs.Pieces.{Pieces, in_pieces}
-use Rattle.volume_model.specs.Plan.{Plan, IsCertified}
-use Rattle.volume_model.specs.Message.{Label, Message, Place}
-use Rattle.volume_model.specs.Message.Message.{Install, CopyAsk}
+use Rattle.std.proofs.Common.{◌≡◌, ℕ, suc, ◌^◌, ◌<◌, ◌≤◌, true, false, not, nat_lt, List, [], ◌∷◌, Some, Ok, length, refl, sym, ap, ◌∙◌, subst, inl, inr, arith, true≢false, ltb-false}
+use Rattle.volume_model.specs.Common.{IsIn, added, each_below, joined, put, Redo, cut_of, log_found, Lineage, extended, extension, last_epoch, last_start, newest, Pieces, in_pieces, Plan, IsCertified, Label, Message, Place, Install, CopyAsk, ClientAnswer, ClientStep, has_cut, is_born, label_of, place_of, cut_client, cut_step, has_read, installs, reported, to_install, World, after, after_step, of_client, Cut}
+use Rattle.volume_model.specs.Lineage.{found_in}
 use Rattle.volume_model.specs.Node.{Node}
-use Rattle.volume_model.specs.Client.{Client, ClientAnswer, ClientStep, has_cut, is_born, label_of, place_of}
-use Rattle.volume_model.specs.ClientRecovery.{cut_client, cut_step, has_read, installs, reported, to_install}
-use Rattle.volume_model.specs.World.{World, after, after_step, of_client}
-use Rattle.volume_model.specs.World.Event.{Cut}
+use Rattle.volume_model.specs.Client.{Client}
 use Rattle.volume_model.proofs.Basics.{IsIn-append_left, IsIn-append_right}
 use Rattle.volume_model.proofs.ClientSteps.{put-same}
 use Rattle.volume_model.proofs.Invariant.{HasCut, IsMade, epoch_now, label}

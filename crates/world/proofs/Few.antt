@@ -1,16 +1,9 @@
 -- How many messages a step of a client makes at most.
 use Rattle.std.proofs.Common.{◌≡◌, ℕ, ◌+◌, ◌/◌, ◌≤◌, Bool, true, false, not, ◌&&◌, List, [], Option, Some, None, Ok, Err, length, arith}
-use Rattle.volume_model.specs.Redo.{Redo}
-use Rattle.volume_model.specs.Plan.{Plan}
-use Rattle.volume_model.specs.Message.{Message}
+use Rattle.volume_model.specs.Common.{Redo, Plan, Message, refuse_if, has_cut, is_born, is_open, ClientAnswer, taken, cut_client, has_installed, log_reported, opened, writing, take, Few, StepsAreFew, most_installs}
 use Rattle.volume_model.specs.declared.fault.Fault.{Fault}
 use Rattle.volume_model.specs.declared.fault.Fault.TheVariants.{AlreadyDone, NoActor, NotReady}
-use Rattle.volume_model.specs.Refusal.{refuse_if}
-use Rattle.volume_model.specs.Client.{has_cut, is_born, is_open, Client, ClientAnswer}
-use Rattle.volume_model.specs.ClientMessages.{taken}
-use Rattle.volume_model.specs.ClientRecovery.{cut_client, has_installed, log_reported, opened, writing}
-use Rattle.volume_model.specs.World.{take}
-use Rattle.volume_model.specs.Few.{Few, StepsAreFew, most_installs}
+use Rattle.volume_model.specs.Client.{Client}
 
 -- what makes few messages makes no more than a greater number
 few-more : (less more : ℕ) (answer : ClientAnswer) → less ≤ more → Few less answer → Few more answer

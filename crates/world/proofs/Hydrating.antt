@@ -1,19 +1,9 @@
 -- While a recovery installs its log, a member that isn't whole becomes whole from the copies of a read set that has the log.
-use Rattle.std.proofs.Common.{◌≡◌, ℕ, zero, suc, ◌+◌, ◌-◌, ◌<◌, ◌≤◌, true, false, ◌&&◌, ◌==◌, nat_lt, ◌⊎◌, if◌then◌else◌, List, [], ◌∷◌, Some, None, Option, Result, Ok, length, refl, sym, ap, ◌∙◌, subst, inl, inr, arith}
-use Rattle.std.specs.Prelude.{slice_index_or}
+use Rattle.std.proofs.Common.{◌≡◌, ℕ, zero, suc, ◌+◌, ◌-◌, ◌<◌, ◌≤◌, true, false, ◌&&◌, ◌==◌, nat_lt, ◌⊎◌, if◌then◌else◌, List, [], ◌∷◌, Some, None, Option, Result, Ok, length, refl, sym, ap, ◌∙◌, subst, inl, inr, arith, slice_index_or}
 use Rattle.std.proofs.lemmas.Bool.{cases_Bool, cases_lt, and_from, both_ways, true≢false, eqb-true, eq-eqb, ne_eqb, lt-ltb, le-ltb, lt-leb}
-use Rattle.volume_model.specs.Lists.{IsIn, added, put_at}
-use Rattle.volume_model.specs.Answer.{◌>>=◌}
-use Rattle.volume_model.specs.Formula.{Members, sat}
-use Rattle.volume_model.specs.Redo.{Redo, of_group}
-use Rattle.volume_model.specs.Lineage.{Contents, Lineage, last_epoch, newest, found_in}
-use Rattle.volume_model.specs.Pieces.{Piece, KeptPiece, Pieces, Copy, brought, contents_in, copied_by, in_pieces, is_bad_piece, is_complete, is_piece, piece_of, pieces_from, pieces_of, with_copy, with_series, first_piece}
-use Rattle.volume_model.specs.Plan.{Plan, IsCertified, epoch_of, has_member, is_named}
-use Rattle.volume_model.specs.Message.{Place, Message}
-use Rattle.volume_model.specs.Message.Message.{StepTo, CopyAsk, CopyReport}
-use Rattle.volume_model.specs.Node.{Node, NodeStep, NodeAnswer, Hydrated, finished, gathered, has_configuration, hydrated, in_group, lineage_epoch, most_copies, most_records, or_not_enough, reaction, restarted, whole_from, whole_node}
-use Rattle.volume_model.specs.World.{World, Event, after, after_step, configuration_of, groups_joined, if_there, of_node}
-use Rattle.volume_model.specs.World.Event.{Deliver, Hydrate, Restart}
+use Rattle.volume_model.specs.Common.{IsIn, added, put_at, ◌>>=◌, Members, sat, Redo, of_group, Contents, Lineage, last_epoch, newest, Piece, KeptPiece, Pieces, Copy, brought, contents_in, copied_by, in_pieces, is_bad_piece, is_complete, is_piece, piece_of, pieces_from, pieces_of, with_copy, with_series, first_piece, Plan, IsCertified, epoch_of, has_member, is_named, Place, Message, StepTo, CopyAsk, CopyReport, NodeStep, NodeAnswer, Hydrated, finished, gathered, has_configuration, hydrated, in_group, lineage_epoch, most_copies, most_records, or_not_enough, reaction, restarted, whole_from, whole_node, World, Event, after, after_step, configuration_of, groups_joined, if_there, of_node, Deliver, Hydrate, Restart}
+use Rattle.volume_model.specs.Lineage.{found_in}
+use Rattle.volume_model.specs.Node.{Node}
 use Rattle.volume_model.proofs.Above.{ancestor}
 use Rattle.volume_model.proofs.Added.{epoch_positive}
 use Rattle.volume_model.proofs.Basics.{put_at-all, map-has}

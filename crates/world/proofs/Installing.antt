@@ -1,19 +1,8 @@
 -- What stays true from the cut of a recovery to its opening, while its log is installed.
-use Rattle.std.proofs.Common.{◌≡◌, ℕ, ◌+◌, ◌<◌, ◌≤◌, Bool, true, false, ◌⊎◌, Some, List, length, sym, ap, ◌∙◌, subst, inl, inr}
-use Rattle.std.specs.Prelude.{slice_index_or}
-use Rattle.volume_model.specs.Lists.{IsIn, added, put, put_at}
-use Rattle.volume_model.specs.Redo.{Redo, last_of_group}
-use Rattle.volume_model.specs.Lineage.{Lineage}
-use Rattle.volume_model.specs.Pieces.{Pieces, in_pieces}
-use Rattle.volume_model.specs.Plan.{Plan, IsCertified, epoch_of, has_member}
-use Rattle.volume_model.specs.Message.{Place, Message}
-use Rattle.volume_model.specs.Message.Message.{StepTo, Install, CopyAsk}
-use Rattle.volume_model.specs.Node.{Node, lineage_epoch, most_copies}
-use Rattle.volume_model.specs.Client.{Client, ClientGroup, counts_of, place_of}
-use Rattle.volume_model.specs.Client.Stage.{Installing}
-use Rattle.volume_model.specs.ClientPoints.{reaching}
-use Rattle.volume_model.specs.ClientRecovery.{to_install}
-use Rattle.volume_model.specs.World.{World, Event, after}
+use Rattle.std.proofs.Common.{◌≡◌, ℕ, ◌+◌, ◌<◌, ◌≤◌, Bool, true, false, ◌⊎◌, Some, List, length, sym, ap, ◌∙◌, subst, inl, inr, slice_index_or}
+use Rattle.volume_model.specs.Common.{IsIn, added, put, put_at, Redo, last_of_group, Lineage, Pieces, in_pieces, Plan, IsCertified, epoch_of, has_member, Place, Message, StepTo, Install, CopyAsk, lineage_epoch, most_copies, ClientGroup, counts_of, place_of, Installing, reaching, to_install, World, Event, after}
+use Rattle.volume_model.specs.Node.{Node}
+use Rattle.volume_model.specs.Client.{Client}
 use Rattle.volume_model.proofs.Basics.{put_at-all}
 use Rattle.volume_model.proofs.ClientSteps.{put-same}
 use Rattle.volume_model.proofs.Run.{event_kept}

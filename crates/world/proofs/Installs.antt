@@ -1,21 +1,9 @@
 -- A whole member gets all that a recovery found of its group, and the recovery counts that.
-use Rattle.std.proofs.Common.{◌≡◌, ℕ, zero, suc, ◌+◌, ◌<◌, ◌≤◌, true, false, ◌&&◌, ◌==◌, nat_lt, nat_le, if◌then◌else◌, List, [], ◌∷◌, ◌++◌, Option, Some, None, Ok, length, refl, sym, ap, ◌∙◌, subst, inl, inr, arith}
-use Rattle.std.specs.Prelude.{slice_index_or, slice_set}
+use Rattle.std.proofs.Common.{◌≡◌, ℕ, zero, suc, ◌+◌, ◌<◌, ◌≤◌, true, false, ◌&&◌, ◌==◌, nat_lt, nat_le, if◌then◌else◌, List, [], ◌∷◌, ◌++◌, Option, Some, None, Ok, length, refl, sym, ap, ◌∙◌, subst, inl, inr, arith, slice_index_or, slice_set}
 use Rattle.std.proofs.lemmas.Bool.{cases_Bool, cases_lt, and_parts, and_from, both_ways, eqb-true, eq-eqb, leb-true, lt-ltb, le-ltb, le-leb, lt-leb}
-use Rattle.volume_model.specs.Lists.{IsIn, added, put, put_at}
-use Rattle.volume_model.specs.Redo.{Redo, last_of_group, of_group, scl}
-use Rattle.volume_model.specs.Lineage.{Contents, Lineage, last_epoch}
-use Rattle.volume_model.specs.Pieces.{KeptPiece, Piece, Pieces, contents_in, has_piece, is_bad_piece, is_complete, is_of_other, is_piece, most_in_piece, most_pieces, piece_of, pieces_of, united, with_install}
-use Rattle.volume_model.specs.Plan.{Plan, IsCertified, epoch_of, has_member, is_named}
-use Rattle.volume_model.specs.Message.{Label, Message, Place}
-use Rattle.volume_model.specs.Message.Message.{StepTo, Install, Ack, CopyAsk}
-use Rattle.volume_model.specs.Node.{Node, NodeAnswer, NodeStep, ack_of, most_copies, in_group, installed, lineage_epoch, most_records, reaction}
-use Rattle.volume_model.specs.Client.{Client, ClientAnswer, ClientGroup, counts_of, group_of, has_cut, if_born, is_born, no_group, place_of, stays}
-use Rattle.volume_model.specs.ClientMessages.{ack_taken, is_for, taken}
-use Rattle.volume_model.specs.ClientPoints.{reaching, with_count}
-use Rattle.volume_model.specs.ClientRecovery.{to_install}
-use Rattle.volume_model.specs.World.{World, after, groups_joined}
-use Rattle.volume_model.specs.World.Event.{Deliver, Take}
+use Rattle.volume_model.specs.Common.{IsIn, added, put, put_at, Redo, last_of_group, of_group, scl, Contents, Lineage, last_epoch, KeptPiece, Piece, Pieces, contents_in, has_piece, is_bad_piece, is_complete, is_of_other, is_piece, most_in_piece, most_pieces, piece_of, pieces_of, united, with_install, Plan, IsCertified, epoch_of, has_member, is_named, Label, Message, Place, StepTo, Install, Ack, CopyAsk, NodeAnswer, NodeStep, ack_of, most_copies, in_group, installed, lineage_epoch, most_records, reaction, ClientAnswer, ClientGroup, counts_of, group_of, has_cut, if_born, is_born, no_group, place_of, stays, ack_taken, is_for, taken, reaching, with_count, to_install, World, after, groups_joined, Deliver, Take}
+use Rattle.volume_model.specs.Node.{Node}
+use Rattle.volume_model.specs.Client.{Client}
 use Rattle.volume_model.proofs.AcksReach.{found_chain}
 use Rattle.volume_model.proofs.Basics.{IsIn-append, IsIn-append_left, IsIn-append_right, any_from, any_passes, every_below-all, put_at-all}
 use Rattle.volume_model.proofs.ClientSteps.{put-same}

@@ -1,19 +1,9 @@
 -- A group whose whole members can't read it, and whose nodes have all taken its last step, can't be read again.
-use Rattle.std.proofs.Common.{◌≡◌, ℕ, zero, suc, ◌+◌, ◌-◌, ◌<◌, ◌≤◌, Bool, true, false, not, ◌&&◌, ◌==◌, nat_lt, nat_le, ◌⊎◌, List, [], ◌∷◌, ◌++◌, Result, Ok, Err, length, length-append, refl, sym, ap, ◌∙◌, subst, inl, inr, arith}
-use Rattle.std.specs.Prelude.{slice_set}
+use Rattle.std.proofs.Common.{◌≡◌, ℕ, zero, suc, ◌+◌, ◌-◌, ◌<◌, ◌≤◌, Bool, true, false, not, ◌&&◌, ◌==◌, nat_lt, nat_le, ◌⊎◌, List, [], ◌∷◌, ◌++◌, Result, Ok, Err, length, length-append, refl, sym, ap, ◌∙◌, subst, inl, inr, arith, slice_set}
 use Rattle.std.proofs.lemmas.Bool.{cases_Bool, and_parts, both_ways, eqb-true, ltb-true, not-false}
-use Rattle.volume_model.specs.Lists.{IsIn, numbered}
-use Rattle.volume_model.specs.Formula.{Members, sat}
-use Rattle.volume_model.specs.Pieces.{copied_by, is_complete}
-use Rattle.volume_model.specs.Plan.{Plan, IsCertified, IsStep, epoch_of, has_member, is_fresh, is_named, parent_of}
-use Rattle.volume_model.specs.Message.{Place, Message, place_in}
-use Rattle.volume_model.specs.Message.Message.{View, Report, CopyReport}
-use Rattle.volume_model.specs.Refusal.{refuse_if}
-use Rattle.volume_model.specs.Node.{Node, NodeStep, NodeAnswer, hydrated, offered, restarted, senders}
-use Rattle.volume_model.specs.Client.{Client, ClientStep, ClientAnswer, has_cut, reports_of}
-use Rattle.volume_model.specs.World.{Authority, AuthorityStep, World, Event, advance_step, advanced, after, after_step, assigned, configuration_of, deliver, groups_joined, grown, if_there, of_authority, of_client, of_node, opening, places_now, refreshed, run}
-use Rattle.volume_model.specs.World.Event.{Assign, Advance, Refresh, Grow, Issue, Take, Cut, Open, Resend, Read, Deliver, Hydrate, Restart, Offer}
-use Rattle.volume_model.specs.Actor.{Actor}
+use Rattle.volume_model.specs.Common.{IsIn, numbered, Members, sat, copied_by, is_complete, Plan, IsCertified, IsStep, epoch_of, has_member, is_fresh, is_named, parent_of, Place, Message, place_in, View, Report, CopyReport, refuse_if, NodeStep, NodeAnswer, hydrated, offered, restarted, senders, ClientStep, ClientAnswer, has_cut, reports_of, Authority, AuthorityStep, World, Event, advance_step, advanced, after, after_step, assigned, configuration_of, deliver, groups_joined, grown, if_there, of_authority, of_client, of_node, opening, places_now, refreshed, run, Assign, Advance, Refresh, Grow, Issue, Take, Cut, Open, Resend, Read, Deliver, Hydrate, Restart, Offer, Actor}
+use Rattle.volume_model.specs.Node.{Node}
+use Rattle.volume_model.specs.Client.{Client}
 use Rattle.volume_model.proofs.Above.{ancestor}
 use Rattle.volume_model.proofs.Added.{epoch_positive}
 use Rattle.volume_model.proofs.Basics.{IsIn-added, any_passes, put_at-all}

@@ -2,9 +2,8 @@
 use Rattle.std.proofs.Common.{◌≡◌, ℕ, zero, suc, ◌≤◌, Bool, true, false, ◌&&◌, ◌||◌, nat_eq, nat_lt, if◌then◌else◌, List, [], ◌∷◌, ◌++◌, refl, ap, ap₂, arith}
 use Rattle.std.specs.FinSet.{contains}
 use Rattle.std.proofs.lemmas.Bool.Decides.{nat_tests}
-use Rattle.volume_model.specs.Lists.{any, some_below, each_below}
-use Rattle.volume_model.specs.Plan.{is_named, has_member}
-use Rattle.plan.specs.PlanData.{PlanData, model_of, configuration_at, group_at}
+use Rattle.volume_model.specs.Common.{any, some_below, each_below, is_named, has_member}
+use Rattle.plan.specs.Common.{PlanData, model_of, configuration_at, group_at}
 
 any-append : (test : ℕ → Bool) (xs ys : List ℕ) → any test xs ≡ false → any test ys ≡ false → any test (xs ++ ys) ≡ false
 any-append test [] ys a b = b

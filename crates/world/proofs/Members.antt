@@ -1,12 +1,7 @@
 -- Each member of each group is made ready, one after the other.
 use Rattle.std.proofs.Common.{◌≡◌, ℕ, zero, suc, ◌+◌, ◌*◌, ◌<◌, ◌≤◌, Bool, true, false, List, length, sym, ap, ◌∙◌, subst, inl, inr, arith}
 use Rattle.std.proofs.lemmas.Bool.{cases_Bool, cases_lt, true≢false}
-use Rattle.volume_model.specs.Formula.{Members, sat}
-use Rattle.volume_model.specs.Redo.{Redo, of_group}
-use Rattle.volume_model.specs.Lineage.{Lineage}
-use Rattle.volume_model.specs.Plan.{Plan}
-use Rattle.volume_model.specs.Node.{most_copies, most_records}
-use Rattle.volume_model.specs.World.{World}
+use Rattle.volume_model.specs.Common.{Members, sat, Redo, of_group, Lineage, Plan, most_copies, most_records, World}
 use Rattle.world.proofs.Readable.{Reaches, reach_none, reach_then}
 use Rattle.world.proofs.Asked.{HasWholeRoots}
 use Rattle.world.proofs.Installing.{CanCopy, IsInstalling, IsReady, KeepsReady, at, is_member}

@@ -1,15 +1,13 @@
 -- Messages are numbered from 1 in the order of making.
-use Rattle.std.proofs.Common.{◌≡◌, ℕ, zero, suc, ◌+◌, ◌-◌, ◌<◌, ◌≤◌, Bool, true, false, nat_eq, if◌then◌else◌, List, [], ◌∷◌, ◌++◌, Some, None, length, map, refl, sym, ap, ◌∙◌, arith}
-use Rattle.std.specs.Prelude.{slice_get}
+use Rattle.std.proofs.Common.{◌≡◌, ℕ, zero, suc, ◌+◌, ◌-◌, ◌<◌, ◌≤◌, Bool, true, false, nat_eq, if◌then◌else◌, List, [], ◌∷◌, ◌++◌, Some, None, length, map, refl, sym, ap, ◌∙◌, arith, slice_get, option_map, get_or, ◌⊎◌, inl, inr}
 use Rattle.std.proofs.lemmas.Bool.Decides.{nat_tests}
-use Rattle.std.proofs.Common.{option_map, get_or, ◌⊎◌, inl, inr}
 use Rattle.std.proofs.lemmas.List.{length-map}
 use Rattle.std.proofs.lemmas.Option.{slice_get_read}
 use Rattle.volume_model.specs.Message as model
 use Rattle.volume_model.proofs.ListFacts.{length-added}
 use Rattle.wire.specs.declared.message.Message.{Message}
-use Rattle.wire.specs.Message.{message_of, messages_of}
-use Rattle.volume_model.specs.Lists.{added, numbered}
+use Rattle.wire.specs.Common.{message_of, messages_of}
+use Rattle.volume_model.specs.Common.{added, numbered}
 
 -- a message that was kept before is found by its number still
 numbered-kept : {A : Type 0} (xs kept : List A) (n : ℕ) → n ≤ length kept → numbered (added xs kept) n ≡ numbered kept n

@@ -1,16 +1,14 @@
 -- Answers of actors, carried along.
-use Rattle.std.proofs.Common.{◌≡◌, ℕ, Bool, false, true≢false, List, [], ◌++◌, length, Result, Ok, Err, refl, sym, ap, subst, ◌∙◌}
-use Rattle.std.specs.Prelude.{is_err, OnOk}
+use Rattle.std.proofs.Common.{◌≡◌, ℕ, Bool, false, true≢false, List, [], ◌++◌, length, Result, Ok, Err, refl, sym, ap, subst, ◌∙◌, is_err, OnOk}
 use Rattle.std.proofs.lemmas.List.{length-map}
 use Rattle.volume_model.specs.declared.fault.Fault.{Fault}
 use Rattle.volume_model.specs.declared.fault.Fault.TheVariants.{NoMemory}
-use Rattle.volume_model.specs.Answer.{may_run_out_of_memory, refusal_of, AnswersAfterGrowth}
-use Rattle.volume_model.specs.Lists.{added}
+use Rattle.volume_model.specs.Common.{may_run_out_of_memory, refusal_of, AnswersAfterGrowth, added, ClientAnswer, NodeAnswer, NodeStep}
 use Rattle.volume_model.specs.Message as model
 use Rattle.wire.specs.declared.message.Message.{Message}
-use Rattle.wire.specs.Message.{message_of, messages_of}
-use Rattle.volume_model.specs.Client.{Client, ClientAnswer}
-use Rattle.volume_model.specs.Node.{Node, NodeAnswer, NodeStep}
+use Rattle.wire.specs.Common.{message_of, messages_of}
+use Rattle.volume_model.specs.Client.{Client}
+use Rattle.volume_model.specs.Node.{Node}
 use Rattle.recovery.specs.Recoveries.{admitted}
 use Rattle.world.specs.Moves.{result_of_step, ClientMoves, Moves, NodeMoves}
 use Rattle.world.proofs.Messages.{added-messages}

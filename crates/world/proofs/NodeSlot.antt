@@ -1,12 +1,9 @@
 -- A member's slot, among the actors.
-use Rattle.std.proofs.Common.{◌≡◌, ℕ, ◌<◌, nat_lt, true, List, Option, Some, None, Result, Err, length, set, get_or, sym, ap, subst}
-use Rattle.std.specs.Prelude.{slice_get, Bool}
+use Rattle.std.proofs.Common.{◌≡◌, ℕ, ◌<◌, nat_lt, true, List, Option, Some, None, Result, Err, length, set, get_or, sym, ap, subst, slice_get, Bool}
 use Rattle.volume_model.specs.declared.fault.Fault.{Fault}
 use Rattle.volume_model.specs.declared.fault.Fault.TheVariants.{NoActor}
-use Rattle.volume_model.specs.Message.{Message}
-use Rattle.volume_model.specs.Node.{Node, NodeAnswer}
-use Rattle.volume_model.specs.Plan.{Plan}
-use Rattle.volume_model.specs.World.{World, groups_joined, if_there, of_node}
+use Rattle.volume_model.specs.Common.{Message, NodeAnswer, Plan, World, groups_joined, if_there, of_node}
+use Rattle.volume_model.specs.Node.{Node}
 use Rattle.epochs.specs.Authority.{authority_of}
 use Rattle.segment_core.specs.declared.segment.Segment.{Segment}
 use Rattle.segment_core.specs.Segment.{node_of, segment_plan, segment_group, segment_member, IsSameActor}

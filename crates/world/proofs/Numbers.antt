@@ -1,13 +1,9 @@
 -- The numbers of messages that are named by the events that made them.
-use Rattle.std.proofs.Common.{◌≡◌, ℕ, zero, suc, ◌+◌, ◌<◌, ◌≤◌, ◌&&◌, nat_le, if◌then◌else◌, List, [], ◌∷◌, ◌++◌, Some, Result, Ok, Err, length, get_or, refl, sym, ap, ◌∙◌, arith}
-use Rattle.std.proofs.Common.{Bool, true, false, ◌⊎◌, inl, inr}
+use Rattle.std.proofs.Common.{◌≡◌, ℕ, zero, suc, ◌+◌, ◌<◌, ◌≤◌, ◌&&◌, nat_le, if◌then◌else◌, List, [], ◌∷◌, ◌++◌, Some, Result, Ok, Err, length, get_or, refl, sym, ap, ◌∙◌, arith, Bool, true, false, ◌⊎◌, inl, inr}
 use Rattle.std.proofs.lemmas.Bool.Decides.{nat_tests}
 use Rattle.volume_model.specs.declared.fault.Fault.{Fault}
-use Rattle.volume_model.specs.Plan.{Plan}
-use Rattle.volume_model.specs.Message.{Message}
-use Rattle.volume_model.specs.StepResults.{makes}
+use Rattle.volume_model.specs.Common.{Plan, Message, makes, World, Event, Step, step, after, after_step, event_result}
 use Rattle.volume_model.proofs.Growing.{Leaves, messages_grow}
-use Rattle.volume_model.specs.World.{World, Event, Step, step, after, after_step, event_result}
 use Rattle.world.specs.Events.{made_by, total_made, firsts_of, number_from}
 
 pub number_at : (first : ℕ) (results : List (Result ℕ Fault)) (i place : ℕ) (d : Result ℕ Fault) → i < length results → number_from first results i place ≡ (if nat_le 1 place && nat_le place (made_by (get_or results i d)) then get_or (firsts_of first results) i 0 + place else 0)

@@ -1,15 +1,11 @@
 -- One node changes, and no other.
-use Rattle.std.proofs.Common.{◌≡◌, ◌≢◌, ℕ, zero, suc, ◌<◌, Bool, true, false, nat_lt, if◌then◌else◌, List, [], ◌∷◌, Option, Some, None, length, set, refl, sym, ap, ◌∙◌, arith, inl, inr}
-use Rattle.std.proofs.Common.{get_or, ◌/◌, ◌%◌, ◌++◌, map, option_map, subst}
-use Rattle.std.specs.Prelude.{slice_get}
+use Rattle.std.proofs.Common.{◌≡◌, ◌≢◌, ℕ, zero, suc, ◌<◌, Bool, true, false, nat_lt, if◌then◌else◌, List, [], ◌∷◌, Option, Some, None, length, set, refl, sym, ap, ◌∙◌, arith, inl, inr, get_or, ◌/◌, ◌%◌, ◌++◌, map, option_map, subst, slice_get, ltb-true}
 use Rattle.segment_core.specs.declared.segment.Segment.{Segment}
 use Rattle.segment_core.specs.Segment.{node_of}
 use Rattle.world.specs.Homes.{nodes_of}
 use Rattle.std.proofs.lemmas.Bool.{cases_eq, eq-eqb, ne_eqb, lt-ltb}
-use borrow.Author.Tests.{ltb-true}
-use Rattle.volume_model.specs.Lists.{put, put_at}
-use Rattle.volume_model.specs.Plan.{Plan}
-use Rattle.volume_model.specs.Node.{Node, born_node}
+use Rattle.volume_model.specs.Common.{put, put_at, Plan, born_node}
+use Rattle.volume_model.specs.Node.{Node}
 use Rattle.volume_model.specs.Client.{Client}
 use Rattle.world.specs.Slots.{slot_of, in_slot, node_or, node_at}
 

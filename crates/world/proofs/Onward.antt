@@ -1,21 +1,9 @@
 -- A volume whose groups can be read goes on.
 use Rattle.std.proofs.Common.{◌≡◌, ℕ, suc, ◌+◌, ◌*◌, ◌<◌, ◌≤◌, ◌^◌, true, false, max, ◌&&◌, ◌==◌, nat_lt, List, Ok, length, refl, sym, ap, ◌∙◌, subst, inl, inr, arith}
 use Rattle.std.proofs.lemmas.Bool.{cases_Bool, and_parts, eqb-false, eqb-true, le-ltb, ltb-true}
-use Rattle.volume_model.specs.Claims.{KeepsClaims}
-use Rattle.volume_model.specs.Formula.{Members, sat}
-use Rattle.volume_model.specs.Redo.{Redo, cut_of, last_lsn, of_group, up_to}
-use Rattle.volume_model.specs.Lineage.{Contents, Lineage, extended, is_live, last_epoch, last_start, newest}
-use Rattle.volume_model.specs.Plan.{Plan, IsCertified, has_member}
-use Rattle.volume_model.specs.Lists.{IsIn, added, put}
-use Rattle.volume_model.specs.Message.{Place}
-use Rattle.volume_model.specs.Message.Message.{Report}
-use Rattle.volume_model.specs.Node.{From, Node, most_copies, most_records, senders}
-use Rattle.volume_model.specs.Client.{Client, ClientAnswer, ClientStep, has_cut, place_configuration, place_of, reports_of}
-use Rattle.volume_model.specs.Client.Stage.{Reading}
-use Rattle.volume_model.specs.ClientRecovery.{cut_client, cut_step, has_read, live_reported, log_reported, reported}
-use Rattle.volume_model.specs.World.{World, after, after_step, configuration_of, groups_joined, of_client, opening, run}
-use Rattle.volume_model.specs.World.Event.{Cut}
-use Rattle.volume_model.specs.Headline.{Acknowledges}
+use Rattle.volume_model.specs.Common.{KeepsClaims, Members, sat, Redo, cut_of, last_lsn, of_group, up_to, Contents, Lineage, extended, is_live, last_epoch, last_start, newest, Plan, IsCertified, has_member, IsIn, added, put, Place, Report, From, most_copies, most_records, senders, ClientAnswer, ClientStep, has_cut, place_configuration, place_of, reports_of, Reading, cut_client, cut_step, has_read, live_reported, log_reported, reported, World, after, after_step, configuration_of, groups_joined, of_client, opening, run, Cut, Acknowledges}
+use Rattle.volume_model.specs.Node.{Node}
+use Rattle.volume_model.specs.Client.{Client}
 use Rattle.volume_model.proofs.Basics.{any_passes, every_below-all}
 use Rattle.volume_model.proofs.Chains.{Within, cut_reached, log_found-is}
 use Rattle.volume_model.proofs.ClientSteps.{put-same}
@@ -29,7 +17,7 @@ use Rattle.volume_model.proofs.Sound.{facts}
 use Rattle.volume_model.proofs.Claims.{claims_certify}
 use Rattle.volume_model.proofs.Run.{opening_kept, run_kept}
 use Rattle.volume_model.proofs.Renewed.{IsKeptWorld}
-use Rattle.plan.specs.CheckedModel.{HasWriteSets}
+use Rattle.plan.specs.Common.{HasWriteSets}
 use Rattle.world.specs.Waiting.{CanBeRead, whole_in}
 use Rattle.world.specs.Onward.{Commits, HasRoom, ReadableVolumesCommit}
 use Rattle.world.proofs.Volumes.{VolumesKnown, volumes_known}

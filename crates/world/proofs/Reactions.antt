@@ -1,15 +1,8 @@
 -- What a node keeps after a message, a restart or an offer.
 use Rattle.std.proofs.Common.{◌≡◌, ℕ, false, not, ◌&&◌, ◌==◌, nat_lt, nat_le, if◌then◌else◌, ◌⊎◌, [], ◌∷◌, Option, Some, None, Ok, length, refl, sym, ◌∙◌, subst, inl, inr, true}
 use Rattle.std.proofs.lemmas.Bool.{cases_Bool, not-false}
-use Rattle.volume_model.specs.Lists.{IsIn}
-use Rattle.volume_model.specs.Redo.{Redo, holds_record, record_at}
-use Rattle.volume_model.specs.Lineage.{Contents}
-use Rattle.volume_model.specs.Pieces.{KeptPiece, Piece, Pieces, has_piece, is_bad_piece, is_complete, most_pieces, pieces_from, with_install, with_piece}
-use Rattle.volume_model.specs.Plan.{Plan, is_configuration}
-use Rattle.volume_model.specs.Message.{Label, Message}
-use Rattle.volume_model.specs.Message.Message.{StepTo, Fence, Install, Write, Gossip, CopyAsk, CopyReport, PageAsk}
-use Rattle.volume_model.specs.Node.{Node, NodeAnswer, NodeStep, gossip_of, in_group, installed, lineage_epoch, most_copies, most_records, offered, reaction, restarted, take_record, label_checks}
-use Rattle.volume_model.specs.World.{deliver}
+use Rattle.volume_model.specs.Common.{IsIn, Redo, holds_record, record_at, Contents, KeptPiece, Piece, Pieces, has_piece, is_bad_piece, is_complete, most_pieces, pieces_from, with_install, with_piece, Plan, is_configuration, Label, Message, StepTo, Fence, Install, Write, Gossip, CopyAsk, CopyReport, PageAsk, NodeAnswer, NodeStep, gossip_of, in_group, installed, lineage_epoch, most_copies, most_records, offered, reaction, restarted, take_record, label_checks, deliver}
+use Rattle.volume_model.specs.Node.{Node}
 use Rattle.volume_model.proofs.Basics.{IsIn-append_right, any_passes}
 use Rattle.volume_model.proofs.NodeSteps.{page_answer-ok, refuse_if-ok}
 use Rattle.volume_model.specs.declared.fault.Fault.TheVariants.{AheadMember, AlreadyWhole, BadPiece, Full, NotAddressed, NotInPlan, NotInstalled, NotWhole, SeriesSpent, StaleMember, StaleVolume}

@@ -1,24 +1,10 @@
 -- If each group can be read, a recovery can be led to its cut.
-use Rattle.std.proofs.Common.{◌≡◌, ℕ, zero, suc, ◌<◌, ◌≤◌, Bool, true, false, not, ◌&&◌, ◌||◌, ◌==◌, nat_lt, nat_le, if◌then◌else◌, ◌⊎◌, List, [], ◌∷◌, ◌^◌, ◌++◌, Some, None, Result, Ok, Err, length, map, replicate, refl, sym, ap, ◌∙◌, subst, inl, inr, arith}
-use Rattle.std.specs.Prelude.{slice_index_or, slice_set}
+use Rattle.std.proofs.Common.{◌≡◌, ℕ, zero, suc, ◌<◌, ◌≤◌, Bool, true, false, not, ◌&&◌, ◌||◌, ◌==◌, nat_lt, nat_le, if◌then◌else◌, ◌⊎◌, List, [], ◌∷◌, ◌^◌, ◌++◌, Some, None, Result, Ok, Err, length, map, replicate, refl, sym, ap, ◌∙◌, subst, inl, inr, arith, slice_index_or, slice_set}
 use Rattle.std.proofs.lemmas.Bool.{cases_Bool, cases_lt, and_parts, and_from, both_ways, true≢false, eqb-true, eqb-false, eq-eqb, ltb-true, lt-ltb, le-ltb, le-leb, lt-leb}
-use Rattle.volume_model.specs.Lists.{IsIn, added, every, every_below, each_below, some_below, numbered, put, put_at}
-use Rattle.volume_model.specs.Claims.{KeepsClaim, KeepsClaims}
-use Rattle.volume_model.specs.Formula.{Members, sat}
-use Rattle.volume_model.specs.Redo.{Redo, cut_of, log_found}
-use Rattle.volume_model.specs.Lineage.{Contents, Lineage, extended, found_in, last_epoch, last_start, newest}
-use Rattle.volume_model.specs.Plan.{Plan, IsCertified, epoch_of, has_member, is_configuration, is_named, parent_of}
-use Rattle.volume_model.specs.Message.{Place, Message, place_in}
-use Rattle.volume_model.specs.Message.Message.{View, StepTo, Fence, Report, CopyAsk}
-use Rattle.volume_model.specs.Refusal.{refuse_if}
-use Rattle.volume_model.specs.Node.{From, Node, NodeStep, NodeAnswer, born_node, hydrated, in_group, reaction, senders, with_first}
-use Rattle.volume_model.specs.Client.{Client, ClientAnswer, ClientGroup, ClientStep, Stage, group_of, has_cut, if_born, is_born, label_of, newly_at, no_group, place_configuration, place_of, reports_of, stays}
-use Rattle.volume_model.specs.Client.Stage.{Unborn, Reading, Installing, Writing}
-use Rattle.volume_model.specs.Answer.{◌>>=◌}
-use Rattle.volume_model.specs.ClientRecovery.{born_client, cut_client, cut_step, has_read, report_taken, reported}
-use Rattle.volume_model.specs.ClientMessages.{are_places, is_for, taken}
-use Rattle.volume_model.specs.World.{AuthorityStep, World, Event, advance_step, advanced, after, after_step, assigned, configuration_of, deliver, groups_joined, grown, if_there, of_authority, of_client, of_node, opening, place_now, places_now, refreshed, run, take}
-use Rattle.volume_model.specs.World.Event.{Assign, Advance, Refresh, Grow, Issue, Take, Cut, Open, Resend, Read, Deliver, Hydrate, Restart, Offer}
+use Rattle.volume_model.specs.Common.{IsIn, added, every, every_below, each_below, some_below, numbered, put, put_at, KeepsClaim, KeepsClaims, Members, sat, Redo, cut_of, log_found, Contents, Lineage, extended, last_epoch, last_start, newest, Plan, IsCertified, epoch_of, has_member, is_configuration, is_named, parent_of, Place, Message, place_in, View, StepTo, Fence, Report, CopyAsk, refuse_if, From, NodeStep, NodeAnswer, born_node, hydrated, in_group, reaction, senders, ClientAnswer, ClientGroup, ClientStep, Stage, group_of, has_cut, if_born, is_born, label_of, newly_at, no_group, place_configuration, place_of, reports_of, stays, Unborn, Reading, Installing, Writing, ◌>>=◌, born_client, cut_client, cut_step, has_read, report_taken, reported, are_places, is_for, taken, AuthorityStep, World, Event, advance_step, advanced, after, after_step, assigned, configuration_of, deliver, groups_joined, grown, if_there, of_authority, of_client, of_node, opening, place_now, places_now, refreshed, run, take, Assign, Advance, Refresh, Grow, Issue, Take, Cut, Open, Resend, Read, Deliver, Hydrate, Restart, Offer}
+use Rattle.volume_model.specs.Lineage.{found_in}
+use Rattle.volume_model.specs.Node.{Node, with_first}
+use Rattle.volume_model.specs.Client.{Client}
 use Rattle.volume_model.proofs.Basics.{IsIn-append_left, IsIn-append_right, any_from, any_passes, put-all, put_at-all}
 use Rattle.volume_model.proofs.Groups.{group_of-new, index-zero_more, length-slice_set, set-all}
 use Rattle.volume_model.proofs.Growing.{keeps_after}

@@ -1,18 +1,9 @@
 -- What a run promises, said of the values that it returns.
-use Rattle.std.proofs.Common.{◌≡◌, ℕ, zero, suc, ◌<◌, Bool, true, false, ◌&&◌, nat_lt, nat_le, if◌then◌else◌, inl, inr, List, [], ◌∷◌, map, Result, Ok, Err, refl, sym, ap, ap₂, ◌∙◌, subst}
-use Rattle.std.specs.Prelude.{IfOk}
+use Rattle.std.proofs.Common.{◌≡◌, ℕ, zero, suc, ◌<◌, Bool, true, false, ◌&&◌, nat_lt, nat_le, if◌then◌else◌, inl, inr, List, [], ◌∷◌, map, Result, Ok, Err, refl, sym, ap, ap₂, ◌∙◌, subst, IfOk, ltb-true}
 use Rattle.std.proofs.lemmas.Bool.{and_parts}
-use borrow.Author.Tests.{ltb-true}
 use Rattle.volume_model.specs.declared.fault.Fault.{Fault}
-use Rattle.volume_model.specs.Lists.{IsIn, IsBeginningOf, each_below}
-use Rattle.volume_model.specs.Redo.{Redo, up_to}
-use Rattle.volume_model.specs.Plan.{Plan}
-use Rattle.volume_model.specs.Client.{has_cut, is_open}
-use Rattle.volume_model.specs.ClientPoints.{durable_point, is_consistency_point}
-use Rattle.volume_model.specs.World.{World, Event, opening, run}
-use Rattle.volume_model.specs.Headline.{Acknowledges, HasFound, KeepsCommits}
+use Rattle.volume_model.specs.Common.{IsIn, IsBeginningOf, each_below, Redo, up_to, Plan, has_cut, is_open, durable_point, is_consistency_point, World, Event, opening, run, Acknowledges, HasFound, KeepsCommits, found_client, opened_client, writers_in, finds_in}
 use Rattle.volume_model.specs.Outcome as model
-use Rattle.volume_model.specs.Outcome.{found_client, opened_client, writers_in, finds_in}
 use Rattle.volume_model.proofs.Basics.{IsIn-append}
 use Rattle.writer_core.specs.Log.{log_in}
 use Rattle.writer_core.specs.Logs.{log_of_set}

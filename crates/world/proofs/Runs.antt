@@ -2,10 +2,7 @@
 use Rattle.std.proofs.Common.{◌≡◌, ◌≢◌, ℕ, Bool, ◌+◌, List, [], ◌∷◌, ◌++◌, Result, Ok, Err, length, refl, sym, ap, ap₂, ◌∙◌, append_assoc, arith, subst}
 use Rattle.volume_model.specs.declared.fault.Fault.{Fault}
 use Rattle.volume_model.specs.declared.fault.Fault.TheVariants.{NoMemory}
-use Rattle.volume_model.specs.Headline.{AcknowledgementsLast, StaysSo}
-use Rattle.volume_model.specs.Finds.{FindsLast, StaysFound}
-use Rattle.volume_model.specs.Plan.{Plan, IsCertified}
-use Rattle.volume_model.specs.World.{World, Event, Step, step, after, after_step, opening, event_result, run, results}
+use Rattle.volume_model.specs.Common.{AcknowledgementsLast, StaysSo, FindsLast, StaysFound, Plan, IsCertified, World, Event, Step, step, after, after_step, opening, event_result, run, results}
 use Rattle.world.specs.declared.event.Order.{Order}
 use Rattle.world.specs.Events.{made_by, total_made, ordered, events_from}
 use Rattle.world.specs.Actors.{moved, moved_of, Moved, Steps}

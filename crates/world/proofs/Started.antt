@@ -1,11 +1,8 @@
 -- A node that has begun to keep an install keeps a piece of it.
 use Rattle.std.proofs.Common.{◌≡◌, ℕ, ◌<◌, ◌⊎◌, List, [], ◌∷◌, Some, Ok, sym, ap, ◌∙◌, inl, inr}
 use Rattle.std.proofs.lemmas.Bool.{cases_Bool}
-use Rattle.volume_model.specs.Lists.{numbered}
-use Rattle.volume_model.specs.Pieces.{Pieces, piece_in}
-use Rattle.volume_model.specs.Plan.{Plan, IsCertified, has_member}
-use Rattle.volume_model.specs.Node.{Node, NodeStep, born_node, hydrated}
-use Rattle.volume_model.specs.World.{World, Event, after, opening, run}
+use Rattle.volume_model.specs.Common.{numbered, Pieces, piece_in, Plan, IsCertified, has_member, NodeStep, born_node, hydrated, World, Event, after, opening, run}
+use Rattle.volume_model.specs.Node.{Node}
 use Rattle.volume_model.proofs.Invariant.{HasCut, label}
 use Rattle.volume_model.proofs.Kept.{IsInstall, IsInstallOfPiece}
 use Rattle.volume_model.proofs.NodeSteps.{hydrated-ok}

@@ -1,20 +1,12 @@
 -- The step of one actor, in the world.
-use Rattle.std.proofs.Common.{◌≡◌, ℕ, ◌/◌, ◌%◌, ◌<◌, ◌≤◌, Bool, true, false, not, ◌&&◌, nat_lt, if◌then◌else◌, List, Option, Some, Result, Ok, Err, length, option_map, set, refl, sym, ap, ap₂, ◌∙◌, subst, arith}
-use Rattle.std.specs.Prelude.{slice_get}
-use Rattle.std.proofs.Common.{get_or, length-set}
+use Rattle.std.proofs.Common.{◌≡◌, ℕ, ◌/◌, ◌%◌, ◌<◌, ◌≤◌, Bool, true, false, not, ◌&&◌, nat_lt, if◌then◌else◌, List, Option, Some, Result, Ok, Err, length, option_map, set, refl, sym, ap, ap₂, ◌∙◌, subst, arith, slice_get, get_or, length-set, lt-ltb}
 use Rattle.std.proofs.lemmas.List.{length-map}
 use Rattle.std.proofs.lemmas.Option.{slice_get_read, slice_get_within}
-use Rattle.std.proofs.lemmas.Bool.{lt-ltb}
 use Rattle.volume_model.specs.declared.fault.Fault.{Fault}
 use Rattle.volume_model.specs.declared.fault.Fault.TheVariants.{NoActor}
-use Rattle.volume_model.specs.Lists.{put, put_at}
-use Rattle.volume_model.specs.Plan.{Plan, is_named}
-use Rattle.volume_model.specs.Message.{Message}
-use Rattle.volume_model.specs.Answer.{never_after_growth, AnswersAfterGrowth}
-use Rattle.volume_model.specs.Refusal.{refuse_if}
-use Rattle.volume_model.specs.Node.{Node, NodeAnswer, NodeStep, born_node}
-use Rattle.volume_model.specs.Client.{Client, ClientAnswer, ClientStep}
-use Rattle.volume_model.specs.World.{Authority, AuthorityStep, Step, World, of_authority, groups_joined, of_node, of_client, if_there}
+use Rattle.volume_model.specs.Common.{put, put_at, Plan, is_named, Message, never_after_growth, AnswersAfterGrowth, refuse_if, NodeAnswer, NodeStep, born_node, ClientAnswer, ClientStep, Authority, AuthorityStep, Step, World, of_authority, groups_joined, of_node, of_client, if_there}
+use Rattle.volume_model.specs.Node.{Node}
+use Rattle.volume_model.specs.Client.{Client}
 use Rattle.segment_core.specs.declared.segment.Segment.{Segment}
 use Rattle.segment_core.specs.Segment.{node_of, segment_plan, segment_group, segment_member, IsSegmentOf, IsSameActor}
 use Rattle.world.specs.Slots.{slot_of, in_slot, node_or, node_at}

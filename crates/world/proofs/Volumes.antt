@@ -1,23 +1,10 @@
 -- In every run no node has promised, and no Fence names, a volume epoch that wasn't assigned.
 use Rattle.std.proofs.Common.{◌≡◌, ℕ, suc, ◌<◌, ◌≤◌, Bool, true, false, not, ◌&&◌, ◌==◌, nat_lt, nat_le, max, List, [], ◌∷◌, Option, Some, None, Result, Ok, Err, length, refl, sym, ap, ◌∙◌, subst, inl, inr, arith}
 use Rattle.std.proofs.lemmas.Bool.{eqb-true, not-false}
-use Rattle.volume_model.specs.Lists.{IsIn, each_below, numbered}
-use Rattle.volume_model.specs.Redo.{Redo, cut_of, log_found, record_at}
-use Rattle.volume_model.specs.Lineage.{Lineage, extended, found_in, last_epoch, last_start, newest}
-use Rattle.volume_model.specs.Pieces.{in_pieces}
-use Rattle.volume_model.specs.Plan.{Plan, IsCertified, has_member, is_named, parent_of}
-use Rattle.volume_model.specs.Message.{Label, Place, Message, place_in}
-use Rattle.volume_model.specs.Message.Message.{View, StepTo, Fence, Report, Install, Ack, Page}
-use Rattle.volume_model.specs.Refusal.{refuse_if}
-use Rattle.volume_model.specs.Node.{Node, NodeStep, NodeAnswer, born_node, reaction, hydrated}
-use Rattle.volume_model.specs.Client.{Client, ClientStep, ClientAnswer, Stage, is_born, label_of, place_of}
-use Rattle.volume_model.specs.Client.Stage.{Unborn, Reading, Installing, Writing}
-use Rattle.volume_model.specs.ClientWriter.{Change, issued, issued_writes, page_asked, record_of, is_last, resent, write_of}
-use Rattle.volume_model.specs.ClientRecovery.{cut_client, cut_step, fences, installs, opened, reported, to_install}
-use Rattle.volume_model.specs.ClientMessages.{is_for, later_group, later_in, later_unjoined, reread_group, taken, viewed, with_places}
-use Rattle.volume_model.specs.World.{Authority, AuthorityStep, World, Event, advance_step, advanced, after, after_step, assigned, configuration_of, deliver, groups_joined, grown, if_there, of_authority, of_client, of_node, opening, place_now, places_now, refreshed, run, take}
-use Rattle.volume_model.specs.World.Event.{Assign, Advance, Refresh, Grow, Issue, Take, Cut, Open, Resend, Read, Deliver, Hydrate, Restart, Offer}
-use Rattle.volume_model.specs.Actor.Actor.{TheAuthority}
+use Rattle.volume_model.specs.Common.{IsIn, each_below, numbered, Redo, cut_of, log_found, record_at, Lineage, extended, last_epoch, last_start, newest, in_pieces, Plan, IsCertified, has_member, is_named, parent_of, Label, Place, Message, place_in, View, StepTo, Fence, Report, Install, Ack, Page, refuse_if, NodeStep, NodeAnswer, born_node, reaction, hydrated, ClientStep, ClientAnswer, Stage, is_born, label_of, place_of, Unborn, Reading, Installing, Writing, Change, issued, issued_writes, page_asked, record_of, is_last, resent, write_of, cut_client, cut_step, fences, installs, opened, reported, to_install, is_for, later_group, later_in, later_unjoined, reread_group, taken, viewed, with_places, Authority, AuthorityStep, World, Event, advance_step, advanced, after, after_step, assigned, configuration_of, deliver, groups_joined, grown, if_there, of_authority, of_client, of_node, opening, place_now, places_now, refreshed, run, take, Assign, Advance, Refresh, Grow, Issue, Take, Cut, Open, Resend, Read, Deliver, Hydrate, Restart, Offer, TheAuthority}
+use Rattle.volume_model.specs.Lineage.{found_in}
+use Rattle.volume_model.specs.Node.{Node}
+use Rattle.volume_model.specs.Client.{Client}
 use Rattle.volume_model.proofs.Basics.{IsIn-added, IsIn-joined, each_below-from, numbered-in}
 use Rattle.volume_model.proofs.ClientRelations.{issued-ok}
 use Rattle.volume_model.proofs.Frames.{frame}

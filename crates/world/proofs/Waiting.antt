@@ -1,15 +1,8 @@
 -- A group whose last advance waited can be read.
-use Rattle.std.proofs.Common.{◌≡◌, ℕ, zero, suc, ◌<◌, Bool, true, false, not, ◌&&◌, ◌==◌, nat_lt, nat_le, List, [], ◌∷◌, ◌++◌, Result, Ok, Err, length, replicate, refl, sym, ap, ◌∙◌, subst, arith}
-use Rattle.std.specs.Prelude.{slice_index_or, slice_set, is_ok, if◌then◌else◌}
+use Rattle.std.proofs.Common.{◌≡◌, ℕ, zero, suc, ◌<◌, Bool, true, false, not, ◌&&◌, ◌==◌, nat_lt, nat_le, List, [], ◌∷◌, ◌++◌, Result, Ok, Err, length, replicate, refl, sym, ap, ◌∙◌, subst, arith, slice_index_or, slice_set, is_ok, if◌then◌else◌}
 use Rattle.std.proofs.lemmas.Bool.{eqb-false, eqb-true, ltb-true, not-false}
-use Rattle.volume_model.specs.Lists.{numbered}
-use Rattle.volume_model.specs.Formula.{sat}
-use Rattle.volume_model.specs.Plan.{Plan, has_member, is_named, parent_of}
-use Rattle.volume_model.specs.Refusal.{refuse_if}
-use Rattle.volume_model.specs.Node.{Node, NodeStep, NodeAnswer, hydrated}
-use Rattle.volume_model.specs.Client.{ClientAnswer}
-use Rattle.volume_model.specs.World.{AuthorityStep, World, Event, advance_step, advanced, after, after_step, assigned, configuration_of, groups_joined, grown, if_there, of_authority, of_client, of_node, opening, refreshed, run}
-use Rattle.volume_model.specs.World.Event.{Assign, Advance, Refresh, Grow, Issue, Take, Cut, Open, Resend, Read, Deliver, Hydrate, Restart, Offer}
+use Rattle.volume_model.specs.Common.{numbered, sat, Plan, has_member, is_named, parent_of, refuse_if, NodeStep, NodeAnswer, hydrated, ClientAnswer, AuthorityStep, World, Event, advance_step, advanced, after, after_step, assigned, configuration_of, groups_joined, grown, if_there, of_authority, of_client, of_node, opening, refreshed, run, Assign, Advance, Refresh, Grow, Issue, Take, Cut, Open, Resend, Read, Deliver, Hydrate, Restart, Offer}
+use Rattle.volume_model.specs.Node.{Node}
 use Rattle.volume_model.proofs.Basics.{put_at-all}
 use Rattle.volume_model.proofs.FormulaLaws.{sat_more}
 use Rattle.volume_model.proofs.NodeSteps.{refuse_if-ok, hydrated-ok}

@@ -2,16 +2,10 @@
 use Rattle.std.specs.Prelude.{ℕ, Bool, true, false, List, [], Option, None, Some, option_map, Result}
 use Rattle.std.specs.Borrow.{Bor}
 use Rattle.volume_model.specs.declared.fault.Fault.{Fault}
-use Rattle.volume_model.specs.Answer.{never_after_growth}
-use Rattle.volume_model.specs.Lists.{added, numbered}
-use Rattle.volume_model.specs.Plan.{Plan}
+use Rattle.volume_model.specs.Common.{never_after_growth, added, numbered, Plan, NodeAnswer, ClientAnswer, issued, page_asked, resent, cut_client, opened, Authority, AuthorityStep, Event, assigned, advanced, refreshed, grown, deliver, take, Few}
 use Rattle.volume_model.specs.Message as model
-use Rattle.volume_model.specs.Node.{NodeAnswer}
-use Rattle.volume_model.specs.Client.{Client, ClientAnswer}
-use Rattle.volume_model.specs.ClientWriter.{issued, page_asked, resent}
-use Rattle.volume_model.specs.ClientRecovery.{cut_client, opened}
-use Rattle.wire.specs.Message.{message_of, messages_of}
-use Rattle.volume_model.specs.World.{Authority, AuthorityStep, Event, assigned, advanced, refreshed, grown, deliver, take}
+use Rattle.volume_model.specs.Client.{Client}
+use Rattle.wire.specs.Common.{message_of, messages_of}
 use Rattle.wire.specs.declared.message.Message.{Message}
 use Rattle.epochs.specs.Authority.{grew, announced}
 use Rattle.segment_core.specs.declared.action.NodeAction.{NodeAction}
@@ -20,7 +14,6 @@ use Rattle.segment_core.specs.Actions.{action_after_growth}
 use Rattle.segment_core.specs.declared.segment.Segment.{Segment}
 use Rattle.segment_core.specs.Segment.{action_of, node_of, segment_plan, segment_group, segment_member}
 use Rattle.recovery.specs.Finds.{is_spent}
-use Rattle.volume_model.specs.Few.{Few}
 use Rattle.writer_core.specs.Changes.{changes_of}
 use Rattle.world.specs.Moves.{NodeMoves}
 use Rattle.world.specs.declared.actions.ActorAction.{ActorAction}

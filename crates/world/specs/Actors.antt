@@ -1,15 +1,11 @@
 -- The world of the model for a program's actors.
 use Rattle.std.specs.Prelude.{◌≡◌, ℕ, ◌≤◌, Bool, false, List, [], length, Result, Ok, Err}
 use Rattle.volume_model.specs.declared.fault.Fault.{Fault}
-use Rattle.volume_model.specs.Answer.{never_after_growth, AnswersAfterGrowth}
-use Rattle.volume_model.specs.Lists.{added}
-use Rattle.volume_model.specs.Plan.{Plan, is_named}
+use Rattle.volume_model.specs.Common.{never_after_growth, AnswersAfterGrowth, added, Plan, is_named, Event, World, Step, Cut, Hydrate}
 use Rattle.volume_model.specs.Message as model
-use Rattle.volume_model.specs.World.{Event, World, Step}
-use Rattle.volume_model.specs.World.Event.{Cut, Hydrate}
-use Rattle.wire.specs.Message.{messages_of}
+use Rattle.wire.specs.Common.{messages_of}
 use Rattle.std.specs.Arc.{arc_value}
-use Rattle.plan.specs.CheckedModel.{checked_model}
+use Rattle.plan.specs.Common.{checked_model}
 use Rattle.epochs.specs.Authority.{authority_of, authority_plan}
 use Rattle.segment_core.specs.Actions.{is_full}
 use Rattle.recovery.specs.Finds.{is_spent}

@@ -2,10 +2,9 @@
 use Rattle.std.specs.Prelude.{◌≡◌, ℕ, ◌==◌, if◌then◌else◌, List, Option, Some, None, slice_index_or}
 use Rattle.std.specs.Arc.{arc_value}
 use Rattle.std.specs.Global.{Box}
-use Rattle.volume_model.specs.Plan.{Plan}
+use Rattle.volume_model.specs.Common.{Plan, unborn}
 use Rattle.volume_model.specs.Client as model
-use Rattle.volume_model.specs.Client.{unborn}
-use Rattle.plan.specs.CheckedModel.{checked_model}
+use Rattle.plan.specs.Common.{checked_model}
 use Rattle.writer_core.specs.Writers.{client_of, writer_plan, writer_volume}
 use Rattle.recovery.specs.Recoveries as recoveries
 use Rattle.recovery.specs.Recoveries.{recovery_plan, recovery_volume}

@@ -1,9 +1,8 @@
 -- The events of the model for a program's events.
 use Rattle.std.specs.Prelude.{ℕ, zero, suc, ◌+◌, ◌&&◌, nat_le, if◌then◌else◌, List, [], ◌∷◌, ◌++◌, map, Result, Ok, Err}
 use Rattle.volume_model.specs.declared.fault.Fault.{Fault}
-use Rattle.volume_model.specs.Plan.{Plan}
+use Rattle.volume_model.specs.Common.{Plan, World, opening, step, after, event_result}
 use Rattle.volume_model.specs.World as model
-use Rattle.volume_model.specs.World.{World, opening, step, after, event_result}
 use Rattle.writer_core.specs.Changes.{changes_of}
 use Rattle.world.specs.declared.event.Event.{Event}
 use Rattle.world.specs.declared.event.Event.TheVariants as events

@@ -1,6 +1,6 @@
 -- A program's segments: one slot for each member of each group.
 use Rattle.std.specs.Prelude.{◌≡◌, ℕ, ◌*◌, ◌/◌, ◌%◌, true, false, List, Option, Some, None, map, option_map, length, slice_get}
-use Rattle.volume_model.specs.Plan.{Plan, is_named}
+use Rattle.volume_model.specs.Common.{Plan, is_named}
 use Rattle.volume_model.specs.Node.{Node}
 use Rattle.segment_core.specs.declared.segment.Segment.{Segment}
 use Rattle.segment_core.specs.Segment.{node_of, IsSegmentOf}

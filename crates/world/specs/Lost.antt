@@ -1,9 +1,6 @@
 -- A group that no later recovery can read.
 use Rattle.std.specs.Prelude.{◌≡◌, ℕ, ◌<◌, ◌≤◌, true, false, List}
-use Rattle.volume_model.specs.Plan.{Plan, IsCertified, epoch_of, is_named}
-use Rattle.volume_model.specs.Formula.{sat}
-use Rattle.volume_model.specs.Client.{has_cut}
-use Rattle.volume_model.specs.World.{World, Event, configuration_of, groups_joined, opening, run}
+use Rattle.volume_model.specs.Common.{Plan, IsCertified, epoch_of, is_named, sat, has_cut, World, Event, configuration_of, groups_joined, opening, run}
 use Rattle.world.specs.Waiting.{whole_in}
 
 -- each node of the group has taken the step to the group's configuration

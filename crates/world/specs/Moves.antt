@@ -1,12 +1,9 @@
 -- The result of one actor's step, and the actor after it.
 use Rattle.std.specs.Prelude.{ℕ, Bool, List, length, Result, Ok, Err}
 use Rattle.volume_model.specs.declared.fault.Fault.{Fault}
-use Rattle.volume_model.specs.Answer.{never_after_growth, AnswersAfterGrowth}
-use Rattle.volume_model.specs.Lists.{added}
-use Rattle.volume_model.specs.Message.{Message}
-use Rattle.volume_model.specs.Node.{Node, NodeAnswer, NodeStep}
-use Rattle.volume_model.specs.Client.{Client, ClientAnswer, ClientStep}
-use Rattle.volume_model.specs.World.{Authority, AuthorityStep}
+use Rattle.volume_model.specs.Common.{never_after_growth, AnswersAfterGrowth, added, Message, NodeAnswer, NodeStep, ClientAnswer, ClientStep, Authority, AuthorityStep}
+use Rattle.volume_model.specs.Node.{Node}
+use Rattle.volume_model.specs.Client.{Client}
 
 -- the number of messages that a step made, the actor after it, and all messages
 pub record StepResult (S : Type 0) : Type 0 where

@@ -1,10 +1,7 @@
 -- The nodes at the end of a run.
 use Rattle.std.specs.Prelude.{ℕ, suc, Bool, ◌*◌, ◌/◌, ◌%◌, List, [], ◌∷◌, Option, Some, None, length}
-use Rattle.volume_model.specs.Lists.{each_below}
-use Rattle.volume_model.specs.Plan.{Plan, is_named}
-use Rattle.volume_model.specs.Redo.{scl}
+use Rattle.volume_model.specs.Common.{each_below, Plan, is_named, scl, World}
 use Rattle.volume_model.specs.Node.{Node}
-use Rattle.volume_model.specs.World.{World}
 use Rattle.segment_core.specs.declared.segment.Segment.{Segment}
 use Rattle.segment_core.specs.Segment.{node_of}
 use Rattle.world.specs.Slots.{members}

@@ -1,14 +1,7 @@
 -- A volume whose groups can be read goes on: some events lead the next recovery to a commit of its own.
 use Rattle.std.specs.Prelude.{◌≡◌, ℕ, suc, ◌+◌, ◌*◌, ◌^◌, ◌<◌, ◌≤◌, max, true, List, length}
-use Rattle.volume_model.specs.Claims.{KeepsClaims}
-use Rattle.volume_model.specs.Redo.{last_lsn, of_group}
-use Rattle.volume_model.specs.Lineage.{last_start}
-use Rattle.volume_model.specs.Plan.{Plan}
-use Rattle.volume_model.specs.Node.{most_copies, most_records}
-use Rattle.volume_model.specs.Client.{has_cut}
-use Rattle.volume_model.specs.World.{World, Event, groups_joined, opening, run}
-use Rattle.volume_model.specs.Headline.{Acknowledges}
-use Rattle.plan.specs.CheckedModel.{HasWriteSets}
+use Rattle.volume_model.specs.Common.{KeepsClaims, last_lsn, of_group, last_start, Plan, most_copies, most_records, has_cut, World, Event, groups_joined, opening, run, Acknowledges}
+use Rattle.plan.specs.Common.{HasWriteSets}
 use Rattle.world.specs.Waiting.{CanBeRead, last_advance_waited}
 
 -- What is left to the next recovery. Whichever client's log it goes on with: an LSN above its start, room for that log

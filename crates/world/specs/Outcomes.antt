@@ -1,18 +1,7 @@
 -- A program's outcome of a run.
 use Rattle.std.specs.Prelude.{◌≡◌, ℕ, suc, ◌<◌, Bool, true, not, ◌&&◌, nat_le, List, ◌++◌, ◌∷◌, Ok, map}
-use Rattle.volume_model.specs.Plan.{Plan}
-use Rattle.volume_model.specs.Lists.{IsIn, IsBeginningOf, each_below}
-use Rattle.volume_model.specs.Redo.{Redo, up_to}
-use Rattle.volume_model.specs.Client.{Stage, has_cut, is_born}
-use Rattle.volume_model.specs.ClientPoints.{is_consistency_point}
-use Rattle.volume_model.specs.World.{Event, Step, World, opening, run, results, step}
-use Rattle.volume_model.specs.World.Event.{Open}
-use Rattle.volume_model.specs.Headline.{KeepsCommits, SaysTruePages, StaysSo}
-use Rattle.volume_model.specs.Finds.{HasOneLineageAnEpoch, StaysFound}
-use Rattle.volume_model.specs.Opens.{IsAtItsCut}
-use Rattle.volume_model.specs.Orderly.{IsOrderly}
+use Rattle.volume_model.specs.Common.{Plan, IsIn, IsBeginningOf, each_below, Redo, up_to, Stage, has_cut, is_born, is_consistency_point, Event, Step, World, opening, run, results, step, Open, KeepsCommits, SaysTruePages, StaysSo, HasOneLineageAnEpoch, StaysFound, IsAtItsCut, IsOrderly, writers_in, finds_in}
 use Rattle.volume_model.specs.Outcome as model
-use Rattle.volume_model.specs.Outcome.{writers_in, finds_in}
 use Rattle.world.specs.Onward.{VolumeGoesOn}
 use Rattle.writer_core.specs.Log.{log_in}
 use Rattle.writer_core.specs.Logs.{log_of_set}

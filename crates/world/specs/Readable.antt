@@ -1,10 +1,6 @@
 -- A recovery that is led to its cut.
 use Rattle.std.specs.Prelude.{◌≡◌, ℕ, suc, ◌<◌, ◌⊎◌, List, Ok, Err}
-use Rattle.volume_model.specs.Claims.{KeepsClaims}
-use Rattle.volume_model.specs.Plan.{Plan}
-use Rattle.volume_model.specs.Client.{ClientAnswer, ClientStep}
-use Rattle.volume_model.specs.ClientRecovery.{cut_client}
-use Rattle.volume_model.specs.World.{World, Event, groups_joined, opening, run}
+use Rattle.volume_model.specs.Common.{KeepsClaims, Plan, ClientAnswer, ClientStep, cut_client, World, Event, groups_joined, opening, run}
 use Rattle.volume_model.specs.declared.fault.Fault.TheVariants.{LsnSpent}
 use Rattle.world.specs.Waiting.{CanBeRead}
 

@@ -1,7 +1,7 @@
 -- The nodes of a world in slots: 64 slots for each group, one for each member.
 use Rattle.std.specs.Prelude.{◌≡◌, ℕ, ◌+◌, ◌*◌, ◌<◌, ◌≤◌, ◌⊎◌, nat_lt, if◌then◌else◌, List, Option, Some, None, slice_get}
-use Rattle.volume_model.specs.Plan.{Plan}
-use Rattle.volume_model.specs.Node.{Node, born_node}
+use Rattle.volume_model.specs.Common.{Plan, born_node}
+use Rattle.volume_model.specs.Node.{Node}
 
 -- the most members of a group
 abbrev pub members : ℕ

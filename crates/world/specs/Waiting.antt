@@ -1,9 +1,6 @@
 -- What holds if each advance of a group waited.
 use Rattle.std.specs.Prelude.{◌≡◌, ℕ, Bool, true, ◌&&◌, ◌==◌, List, [], ◌∷◌, is_ok, if◌then◌else◌}
-use Rattle.volume_model.specs.Plan.{Plan, has_member}
-use Rattle.volume_model.specs.Formula.{Members, sat}
-use Rattle.volume_model.specs.World.{World, Event, advanced, after, configuration_of, opening, run}
-use Rattle.volume_model.specs.World.Event.{Advance}
+use Rattle.volume_model.specs.Common.{Plan, has_member, Members, sat, World, Event, advanced, after, configuration_of, opening, run, Advance}
 
 -- the members of a group that are whole
 abbrev pub whole_in : World → ℕ → Members

@@ -29,15 +29,12 @@ pub struct Actors {
 }
 
 impl Actors {
-    ghost use Rattle.std.specs.Prelude.{◌≡◌, IfOk, IfErr, length};
+    ghost use Rattle.std.specs.Prelude.{◌≡◌, IfOk, IfErr, length, None};
     ghost use Rattle.std.specs.Arc.{arc_value};
     ghost use Rattle.volume_model.specs.declared.fault.Fault.TheVariants.{NoMemory};
-    ghost use Rattle.std.specs.Prelude.{None};
-    ghost use Rattle.volume_model.specs.Client.{unborn};
+    ghost use Rattle.volume_model.specs.Common.{unborn, groups_joined, if_there, of_authority, of_client, of_node, opening, step, never_after_growth};
     ghost use Rattle.volume_model.specs.World as model;
-    ghost use Rattle.volume_model.specs.World.{groups_joined, if_there, of_authority, of_client, of_node, opening, step};
-    ghost use Rattle.plan.specs.CheckedModel.{checked_model};
-    ghost use Rattle.volume_model.specs.Answer.{never_after_growth};
+    ghost use Rattle.plan.specs.Common.{checked_model};
     ghost use Rattle.world.specs.Actors.{event_after_growth, plan_of, world_of, messages_in, AreActors, Steps};
     ghost use Rattle.segment_core.specs.Actions.{acted, action_after_growth};
     ghost use Rattle.world.specs.Actions.{authority_acted, client_after_growth, client_does};

@@ -2,8 +2,8 @@
 
 ghost use Rattle.std.specs.Prelude.{◌≡◌, true, false, MatchResult};
 ghost use Rattle.volume_model.specs.declared.fault.Fault.TheVariants.{NotAddressed};
-ghost use Rattle.volume_model.specs.ClientMessages.{is_for};
-ghost use Rattle.wire.specs.Message.{message_of};
+ghost use Rattle.volume_model.specs.Common.{is_for};
+ghost use Rattle.wire.specs.Common.{message_of};
 
 use volume_model::Fault;
 use wire::Message;

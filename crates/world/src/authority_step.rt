@@ -1,9 +1,8 @@
 //! Steps of the authority.
 
 ghost use Rattle.std.specs.Prelude.{◌≡◌, []};
-ghost use Rattle.volume_model.specs.Answer.{refusal_of, Answers, AnswersAlways};
-ghost use Rattle.volume_model.specs.Lists.{added};
-ghost use Rattle.wire.specs.Message.{messages_of};
+ghost use Rattle.volume_model.specs.Common.{refusal_of, Answers, AnswersAlways, added};
+ghost use Rattle.wire.specs.Common.{messages_of};
 ghost use Rattle.epochs.specs.Authority.{authority_of, authority_plan};
 ghost use Rattle.world.specs.Actions.{authority_acted, spoken, OfAdvance};
 ghost use Rattle.world.specs.Moves.{AuthorityMoves};

@@ -2,13 +2,10 @@
 
 ghost use Rattle.std.specs.Prelude.{◌≡◌, ◌≢◌, IfErr, IfOk};
 ghost use Rattle.std.specs.Arc.{arc_value};
-ghost use Rattle.volume_model.specs.Answer.{refusal_of, AnswersAfterGrowth, AnswersNew, AnswersNewAfterGrowth};
-ghost use Rattle.volume_model.specs.Client.{unborn};
-ghost use Rattle.volume_model.specs.ClientMessages.{taken};
-ghost use Rattle.volume_model.specs.World.{take};
+ghost use Rattle.volume_model.specs.Common.{refusal_of, AnswersAfterGrowth, AnswersNew, AnswersNewAfterGrowth, unborn, take};
 ghost use Rattle.volume_model.specs.declared.fault.Fault.TheVariants.{NoMemory};
-ghost use Rattle.plan.specs.CheckedModel.{checked_model};
-ghost use Rattle.wire.specs.Message.{message_of};
+ghost use Rattle.plan.specs.Common.{checked_model};
+ghost use Rattle.wire.specs.Common.{message_of};
 ghost use Rattle.recovery.specs.Recoveries.{admitted, begun, birth_of, recovery_plan, recovery_volume, view_volume};
 ghost use Rattle.world.specs.Actions.{client_acted, client_after_growth, message_found, ButForCut};
 

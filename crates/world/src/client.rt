@@ -36,13 +36,9 @@ pub struct Client {
 impl Client {
     ghost use Rattle.std.specs.Prelude.{◌≡◌, IfOk, Ok};
     ghost use Rattle.std.specs.Arc.{arc_value};
-    ghost use Rattle.volume_model.specs.Answer.{never_after_growth, refusal_of, AnswersAfterGrowth, AnswersAlways, AnswersNew};
-    ghost use Rattle.volume_model.specs.Client.{first_writer, unborn};
-    ghost use Rattle.volume_model.specs.ClientMessages.{taken};
-    ghost use Rattle.volume_model.specs.ClientRecovery.{cut_client, opened};
-    ghost use Rattle.volume_model.specs.Few.{Few};
+    ghost use Rattle.volume_model.specs.Common.{never_after_growth, refusal_of, AnswersAfterGrowth, AnswersAlways, AnswersNew, first_writer, unborn, taken, cut_client, opened, Few};
     ghost use Rattle.volume_model.specs.Message as model;
-    ghost use Rattle.plan.specs.CheckedModel.{checked_model};
+    ghost use Rattle.plan.specs.Common.{checked_model};
     ghost use Rattle.writer_core.specs.Writers.{answered};
     ghost use Rattle.recovery.specs.Recoveries.{admitted};
     ghost use Rattle.world.specs.Actions.{client_acted, client_after_growth, message_found, ButForCut, OfOpening};

@@ -1,8 +1,8 @@
 //! Steps of clients.
 
 ghost use Rattle.std.specs.Prelude.{◌≡◌, []};
-ghost use Rattle.volume_model.specs.Lists.{added};
-ghost use Rattle.wire.specs.Message.{messages_of};
+ghost use Rattle.volume_model.specs.Common.{added};
+ghost use Rattle.wire.specs.Common.{messages_of};
 ghost use Rattle.world.specs.Actions.{client_after_growth, client_does, message_found, named_in, MakesAtMost};
 ghost use Rattle.world.specs.Clients.{client_plan, client_volume, seen_client, IsSameClient};
 ghost use Rattle.world.specs.Moves.{ClientMoves};

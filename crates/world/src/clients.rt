@@ -1,7 +1,7 @@
 //! The clients of a world, by volume epoch.
 
 ghost use Rattle.std.specs.Prelude.{◌≡◌, ◌<◌, length, IfErr, IfOk, MatchOption};
-ghost use Rattle.volume_model.specs.Client.{unborn};
+ghost use Rattle.volume_model.specs.Common.{unborn};
 ghost use Rattle.world.specs.Clients.{clients_of, seen_client, HasSameClients, IsPut};
 
 use crate::client::Client;

@@ -1,12 +1,10 @@
 //! Makes the outcome of a run from its actors.
 
 ghost use Rattle.std.specs.Prelude.{◌≡◌, ◌++◌, ◌∷◌, [], ◌&&◌, IfOk, Some, None, if◌then◌else◌, map, nat_lt, option_map};
-ghost use Rattle.volume_model.specs.Client.{has_cut, is_open};
-ghost use Rattle.world.specs.Outcomes.{is_reading};
+ghost use Rattle.volume_model.specs.Common.{has_cut, is_open, found_client, opened_client, finds_in, writers_in};
+ghost use Rattle.world.specs.Outcomes.{is_reading, find_of, opened_of};
 ghost use Rattle.writer_core.specs.Writers.{client_of};
 ghost use Rattle.world.specs.Clients.{seen_client};
-ghost use Rattle.volume_model.specs.Outcome.{found_client, opened_client};
-ghost use Rattle.world.specs.Outcomes.{find_of, opened_of};
 
 use crate::actors::Actors;
 use crate::client::{Client, ClientState};
@@ -66,7 +64,6 @@ fn is_reader(client: &Client) -> bool
 }
 
 impl Actors {
-    ghost use Rattle.volume_model.specs.Outcome.{finds_in, writers_in};
     ghost use Rattle.world.specs.Actors.{world_of};
     ghost use Rattle.world.specs.Clients.{clients_of};
     ghost use Rattle.world.specs.Outcomes.{readers_in};

@@ -1,9 +1,9 @@
 //! Steps of nodes.
 
-ghost use Rattle.std.specs.Prelude.{◌≡◌, Bool, [], Ok};
-ghost use Rattle.volume_model.specs.Lists.{added};
+ghost use Rattle.std.specs.Prelude.{Bool, [], Ok};
+ghost use Rattle.volume_model.specs.Common.{added};
 ghost use Rattle.volume_model.specs.declared.fault.Fault.{Fault as FaultName};
-ghost use Rattle.wire.specs.Message.{messages_of};
+ghost use Rattle.wire.specs.Common.{messages_of};
 ghost use Rattle.segment_core.specs.Prepared.{step_of};
 ghost use Rattle.segment_core.specs.Segment.{node_of, IsReady, IsSameActor};
 ghost use Rattle.world.specs.Actions.{Delivers, SegmentActs};

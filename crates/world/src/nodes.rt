@@ -3,8 +3,8 @@
 ghost use Rattle.std.specs.Prelude.{◌≡◌, IfOk, IfErr, option_map};
 ghost use Rattle.std.specs.Arc.{arc_value};
 ghost use Rattle.volume_model.specs.declared.fault.Fault.TheVariants.{NoMemory};
-ghost use Rattle.volume_model.specs.Node.{born_node};
-ghost use Rattle.plan.specs.CheckedModel.{checked_model};
+ghost use Rattle.volume_model.specs.Common.{born_node};
+ghost use Rattle.plan.specs.Common.{checked_model};
 ghost use Rattle.segment_core.specs.Segment.{node_of};
 ghost use Rattle.world.specs.Slots.{node_at, node_or, FindsSlot};
 ghost use Rattle.world.specs.Homes.{nodes_of, AreHomes, IsPlace};

@@ -2,9 +2,8 @@
 
 ghost use Rattle.std.specs.Prelude.{◌≡◌, ◌+◌, ◌≤◌, ◌++◌, [], None, Some, length, vec_capacity, vec_len, MatchResult};
 ghost use Rattle.volume_model.specs.declared.fault.Fault.TheVariants.{NoMessage};
-ghost use Rattle.volume_model.specs.Lists.{added, numbered};
-ghost use Rattle.wire.specs.Listed.{listed};
-ghost use Rattle.wire.specs.Message.{message_of, messages_of};
+ghost use Rattle.volume_model.specs.Common.{added, numbered};
+ghost use Rattle.wire.specs.Common.{listed, message_of, messages_of};
 ghost use Rattle.world.specs.Actions.{message_found};
 
 use volume_model::Fault;

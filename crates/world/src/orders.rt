@@ -1,7 +1,7 @@
 //! Orders: events that may name a message by the event that made it.
 
 ghost use Rattle.std.specs.Prelude.{◌≡◌};
-ghost use Rattle.volume_model.specs.World.{step};
+ghost use Rattle.volume_model.specs.Common.{step};
 ghost use Rattle.world.specs.Actors.{event_after_growth, plan_of, world_of, AreActors, Steps};
 ghost use Rattle.world.specs.Events.{made_by, firsts_of, number_from, ordered};
 

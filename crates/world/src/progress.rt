@@ -4,8 +4,8 @@ ghost use Rattle.world.specs.Waiting.{WaitingKeepsReaders};
 ghost use Rattle.world.specs.Lost.{EarlyStepsLose};
 ghost use Rattle.world.specs.Readable.{ReadableVolumesRecover};
 ghost use Rattle.std.specs.Prelude.{List};
-ghost use Rattle.volume_model.specs.World.{Event};
-ghost use Rattle.plan.specs.CheckedModel.{checked_model};
+ghost use Rattle.volume_model.specs.Common.{Event};
+ghost use Rattle.plan.specs.Common.{checked_model};
 ghost use Rattle.world.specs.Onward.{ReadableVolumesCommit, VolumeGoesOn, WaitingGroupsCanBeRead};
 
 use plan::CheckedPlan;

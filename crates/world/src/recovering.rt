@@ -1,8 +1,7 @@
 //! Steps of recoveries.
 
 ghost use Rattle.std.specs.Prelude.{◌≡◌, ◌≢◌, Err};
-ghost use Rattle.volume_model.specs.Answer.{refusal_of, Answers, AnswersAfterGrowth};
-ghost use Rattle.volume_model.specs.World.{take};
+ghost use Rattle.volume_model.specs.Common.{refusal_of, Answers, AnswersAfterGrowth, take};
 ghost use Rattle.volume_model.specs.declared.fault.Fault.TheVariants.{NotOpen};
 ghost use Rattle.writer_core.specs.Writers.{acted};
 ghost use Rattle.recovery.specs.Recoveries.{client_of, admitted, recovery_plan, recovery_volume};

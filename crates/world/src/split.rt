@@ -1,8 +1,7 @@
 //! Splits events into an actor and its action.
 
 ghost use Rattle.std.specs.Prelude.{◌≡◌, true, IfOk};
-ghost use Rattle.world.specs.Actions.{action_event, authority_event, client_event, node_event};
-ghost use Rattle.world.specs.Actions.{is_of_authority, is_of_client};
+ghost use Rattle.world.specs.Actions.{action_event, authority_event, client_event, node_event, is_of_authority, is_of_client};
 ghost use Rattle.world.specs.Events.{event_of};
 
 use crate::actions::{ActorAction, AuthorityAction, ClientAction};

@@ -1,8 +1,7 @@
 //! Steps of writers.
 
 ghost use Rattle.std.specs.Prelude.{◌≡◌};
-ghost use Rattle.volume_model.specs.Answer.{refusal_of, Answers, AnswersAfterGrowth};
-ghost use Rattle.volume_model.specs.World.{take};
+ghost use Rattle.volume_model.specs.Common.{refusal_of, Answers, AnswersAfterGrowth, take};
 ghost use Rattle.writer_core.specs.Writers.{answered, client_of, writer_plan, writer_volume};
 ghost use Rattle.recovery.specs.Recoveries.{admitted};
 ghost use Rattle.world.specs.Actions.{client_acted, client_after_growth, message_found, ButForCut};

@@ -1,18 +1,8 @@
 -- What a writer does with an acknowledgement.
-use Rattle.std.proofs.Common.{◌≡◌, ℕ, ◌≤◌, true, List, Ok, sym, ap, ◌∙◌}
-use Rattle.std.specs.Prelude.{not, nat_le, if◌then◌else◌}
-use Rattle.std.proofs.lemmas.Bool.{le-leb}
-use Rattle.volume_model.specs.Plan.{Plan}
-use Rattle.volume_model.specs.Redo.{Redo}
-use Rattle.volume_model.specs.Lineage.{Lineage}
-use Rattle.volume_model.specs.Message.{Label}
-use Rattle.volume_model.specs.Message.Message.{Ack}
-use Rattle.volume_model.specs.Refusal.{refuse_if}
+use Rattle.std.proofs.Common.{◌≡◌, ℕ, ◌≤◌, true, List, Ok, sym, ap, ◌∙◌, not, nat_le, if◌then◌else◌, le-leb}
+use Rattle.volume_model.specs.Common.{Plan, Redo, Lineage, Label, Ack, refuse_if, ClientGroup, ClientAnswer, place_of, stays, Writing, raised, is_for, taken}
 use Rattle.volume_model.specs.declared.fault.Fault.TheVariants.{NotAddressed}
-use Rattle.volume_model.specs.Client.{Client, ClientGroup, ClientAnswer, place_of, stays}
-use Rattle.volume_model.specs.Client.Stage.{Writing}
-use Rattle.volume_model.specs.ClientPoints.{raised}
-use Rattle.volume_model.specs.ClientMessages.{is_for, taken}
+use Rattle.volume_model.specs.Client.{Client}
 use Rattle.writer_core.specs.GroupStates.{counted_in}
 
 -- the writer that keeps these of its groups

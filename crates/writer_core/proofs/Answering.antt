@@ -1,6 +1,6 @@
 -- Refusals, as answers of a client.
 use Rattle.std.proofs.Common.{◌≡◌, ◌≢◌, Bool, Ok, Err, Result, refl}
-use Rattle.volume_model.specs.Answer.{AnswersAfterGrowth, refusal_of}
+use Rattle.volume_model.specs.Common.{AnswersAfterGrowth, refusal_of}
 use Rattle.volume_model.specs.declared.fault.Fault.{Fault}
 use Rattle.volume_model.specs.declared.fault.Fault.TheVariants.{NoMemory}
 

@@ -2,13 +2,10 @@
 use Rattle.std.proofs.Common.{◌≡◌, ℕ, zero, suc, ◌+◌, ◌<◌, ◌≤◌, Bool, true, false, ◌&&◌, nat_le, List, [], ◌∷◌, length, get_or, map, ap, ap₂, ◌∙◌, refl, subst, inl, inr, arith, add-one}
 use Rattle.std.proofs.lemmas.Bool.{cases_lt, and_parts, leb-true}
 use Rattle.std.proofs.lemmas.List.{length-map}
-use Rattle.volume_model.specs.Lists.{every_below}
-use Rattle.volume_model.specs.Plan.{Plan, is_configuration}
+use Rattle.volume_model.specs.Common.{every_below, Plan, is_configuration, place_in, are_places}
 use Rattle.volume_model.specs.Message as model
-use Rattle.volume_model.specs.Message.{place_in}
-use Rattle.volume_model.specs.ClientMessages.{are_places}
 use Rattle.wire.specs.declared.label.Place.{Place}
-use Rattle.wire.specs.Message.{place_of}
+use Rattle.wire.specs.Common.{place_of}
 
 and_false : (a : Bool) → (a && false) ≡ false
 and_false true = refl

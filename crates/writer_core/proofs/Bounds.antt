@@ -1,10 +1,9 @@
 -- How many records a log has at most.
 use Rattle.std.proofs.Common.{◌≡◌, ℕ, ◌+◌, ◌^◌, ◌≤◌, true, List, [], ◌∷◌, map, length, inl, refl, arith}
 use Rattle.std.proofs.lemmas.List.{length-map}
-use Rattle.volume_model.specs.Lists.{IsIn, added}
-use Rattle.volume_model.specs.Redo.{Redo, last_lsn}
+use Rattle.volume_model.specs.Common.{IsIn, added, Redo, last_lsn}
 use Rattle.redo_record.specs.declared.shared_record.SharedRecord.{SharedRecord}
-use Rattle.redo_record.specs.SharedRecord.{shared_redo}
+use Rattle.redo_record.specs.Common.{shared_redo}
 use Rattle.redo_record.proofs.KeptRanges.{shared_redo-ranges}
 use Rattle.writer_core.specs.Logs.{log_of, is_growing}
 use Rattle.writer_core.proofs.Growing.{both}

@@ -1,12 +1,9 @@
 -- A writer's client, from its parts.
 use Rattle.std.proofs.Common.{◌≡◌, ◌∙◌, List, [], ap}
-use Rattle.volume_model.specs.Redo.{Redo}
-use Rattle.volume_model.specs.Lineage.{Lineage}
-use Rattle.volume_model.specs.Client.{Client, ClientGroup}
-use Rattle.volume_model.specs.Client.Stage.{Writing}
+use Rattle.volume_model.specs.Common.{Redo, Lineage, ClientGroup, Writing, added}
+use Rattle.volume_model.specs.Client.{Client}
 use Rattle.redo_record.specs.declared.record_set.RecordSet.{RecordSet}
-use Rattle.redo_record.specs.RecordSet.{packets_of, records_of}
-use Rattle.volume_model.specs.Lists.{added}
+use Rattle.redo_record.specs.Common.{packets_of, records_of}
 use Rattle.writer_core.specs.Log.{log_in, packets_in}
 use Rattle.writer_core.specs.Logs.{log_of, log_of_set}
 use Rattle.writer_core.specs.declared.log.Log.{Log}

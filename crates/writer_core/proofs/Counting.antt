@@ -1,6 +1,5 @@
 -- Counted acknowledgements, one after the other.
-use Rattle.std.proofs.Common.{◌≡◌, ℕ, ◌+◌, ◌<◌, ◌≤◌, Bool, true, false, ◌&&◌, nat_le, nat_eq, List, ◌∷◌, ◌++◌, max, length, drop, take, get_or, if◌then◌else◌, inl, inr, sym, ap, ap₂, ◌∙◌, arith, drop-cons, add-one}
-use Rattle.std.specs.Prelude.{◌||◌, slice_set}
+use Rattle.std.proofs.Common.{◌≡◌, ℕ, ◌+◌, ◌<◌, ◌≤◌, Bool, true, false, ◌&&◌, nat_le, nat_eq, List, ◌∷◌, ◌++◌, max, length, drop, take, get_or, if◌then◌else◌, inl, inr, sym, ap, ap₂, ◌∙◌, arith, drop-cons, add-one, ◌||◌, slice_set}
 use Rattle.std.proofs.lemmas.Bool.{cases_Bool, true≢false}
 use Rattle.std.proofs.lemmas.Bool.Decides.{nat_tests}
 use Rattle.std.proofs.lemmas.List.{take-map, drop-map, length-map, set_split}
@@ -10,8 +9,7 @@ use Rattle.volume_model.proofs.Sets.{contains-put}
 use Rattle.volume_model.proofs.FormulaLaws.{sat_more}
 use Rattle.volume_model.proofs.Points.{reaching-some, reaching-from}
 use Rattle.volume_model.specs.Client as model
-use Rattle.volume_model.specs.Formula.{Formula, sat}
-use Rattle.volume_model.specs.ClientPoints.{best, reaching, with_count}
+use Rattle.volume_model.specs.Common.{Formula, sat, best, reaching, with_count}
 use Rattle.writer_core.specs.declared.count.Count.{Count}
 use Rattle.writer_core.specs.Counts.{count_of, counts_of}
 

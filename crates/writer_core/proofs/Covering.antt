@@ -1,16 +1,12 @@
 -- The front of a log that the points of its groups cover.
-use Rattle.std.proofs.Common.{◌≡◌, ℕ, ◌+◌, ◌<◌, ◌≤◌, Bool, true, false, ◌&&◌, nat_le, List, [], ◌∷◌, ◌++◌, map, length, take, drop, get_or, if◌then◌else◌, refl, sym, ap, ap₂, ◌∙◌, subst, inl, inr, arith, drop-cons, add-one}
-use Rattle.std.specs.Prelude.{◌==◌}
+use Rattle.std.proofs.Common.{◌≡◌, ℕ, ◌+◌, ◌<◌, ◌≤◌, Bool, true, false, ◌&&◌, nat_le, List, [], ◌∷◌, ◌++◌, map, length, take, drop, get_or, if◌then◌else◌, refl, sym, ap, ap₂, ◌∙◌, subst, inl, inr, arith, drop-cons, add-one, ◌==◌}
 use Rattle.std.proofs.Math.Path.{fun_ext}
 use Rattle.std.proofs.lemmas.List.{take-append-drop, take_all, map-append}
 use Rattle.std.proofs.lemmas.Bool.{cases_Bool, and_parts, and_from, eq-eqb, le-leb, lt-leb, leb-true}
 use Rattle.std.proofs.lemmas.Bool.Decides.{nat_tests}
-use Rattle.volume_model.specs.Lists.{every, added}
-use Rattle.volume_model.specs.Redo.{Redo, last_lsn, last_of_group}
-use Rattle.volume_model.specs.ClientPoints.{complete_of, consistency_point_below}
-use Rattle.volume_model.specs.ClientWriter.{last_of_group_below}
+use Rattle.volume_model.specs.Common.{every, added, Redo, last_lsn, last_of_group, complete_of, consistency_point_below, last_of_group_below}
 use Rattle.redo_record.specs.declared.shared_record.SharedRecord.{SharedRecord}
-use Rattle.redo_record.specs.SharedRecord.{shared_redo}
+use Rattle.redo_record.specs.Common.{shared_redo}
 use Rattle.writer_core.specs.Logs.{log_of, is_growing}
 use Rattle.writer_core.specs.DurabilityTracker.{is_covered, Covers, CoversNone, CoversPrefix, CoversLog}
 use Rattle.writer_core.specs.declared.durability.DurabilityTracker.{DurabilityTracker}

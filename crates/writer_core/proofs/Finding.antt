@@ -1,16 +1,13 @@
 -- The record of a number in a log whose numbers grow.
-use Rattle.std.proofs.Common.{◌≡◌, ◌≢◌, ℕ, zero, suc, ◌<◌, ◌≤◌, Bool, true, false, nat_lt, nat_eq, ◌⊎◌, List, [], ◌∷◌, map, length, get_or, Option, Some, None, refl, sym, ap, ◌∙◌, subst, inl, inr, arith}
-use Rattle.std.specs.Prelude.{◌||◌}
+use Rattle.std.proofs.Common.{◌≡◌, ◌≢◌, ℕ, zero, suc, ◌<◌, ◌≤◌, Bool, true, false, nat_lt, nat_eq, ◌⊎◌, List, [], ◌∷◌, map, length, get_or, Option, Some, None, refl, sym, ap, ◌∙◌, subst, inl, inr, arith, ◌||◌}
 use Rattle.std.proofs.lemmas.Bool.{cases_eq, cases_lt, eq-eqb, ltb-true, ltb-false}
 use Rattle.std.proofs.lemmas.Bool.Decides.{nat_tests}
 use Rattle.std.specs.List.Sorted.{IsNonDecreasingBy, IsPartitionPoint}
-use Rattle.volume_model.specs.Lists.{IsIn, added}
-use Rattle.volume_model.specs.Redo.{Redo, last_lsn, record_at}
-use Rattle.volume_model.specs.ClientPoints.{is_consistency_point}
+use Rattle.volume_model.specs.Common.{IsIn, added, Redo, last_lsn, record_at, is_consistency_point}
 use Rattle.volume_model.proofs.Basics.{IsIn-added}
 use Rattle.volume_model.proofs.Chains.{record_at-some, record_at-there}
 use Rattle.redo_record.specs.declared.shared_record.SharedRecord.{SharedRecord}
-use Rattle.redo_record.specs.SharedRecord.{shared_redo}
+use Rattle.redo_record.specs.Common.{shared_redo}
 use Rattle.writer_core.specs.Logs.{log_of, is_growing}
 use Rattle.writer_core.proofs.Growing.{both}
 

@@ -1,7 +1,7 @@
 -- Logs whose numbers grow.
 use Rattle.std.proofs.Common.{◌≡◌, ℕ, ◌<◌, ◌≤◌, Bool, true, false, ◌&&◌, nat_lt, nat_eq, List, [], ◌∷◌, if◌then◌else◌, arith}
 use Rattle.std.proofs.lemmas.Bool.Decides.{nat_tests}
-use Rattle.volume_model.specs.Redo.{Redo, last_lsn, last_of_group, last_of_block}
+use Rattle.volume_model.specs.Common.{Redo, last_lsn, last_of_group, last_of_block}
 use Rattle.writer_core.specs.Logs.{is_growing}
 
 pub both : (a b : ℕ) (rest : Bool) → (nat_lt a b && rest) ≡ true → (a < b) × (rest ≡ true)

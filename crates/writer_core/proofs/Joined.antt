@@ -1,18 +1,14 @@
 -- A log whose records stand in two lists, one behind the other.
-use Rattle.std.proofs.Common.{◌≡◌, ℕ, zero, suc, ◌+◌, ◌-◌, ◌<◌, ◌≤◌, min, true, ◌&&◌, nat_eq, ◌⊎◌, List, [], ◌∷◌, ◌++◌, map, length, get_or, take, drop, add-one, Option, Some, None, if◌then◌else◌, append_assoc, refl, sym, ap, ap₂, ◌∙◌, subst, inl, inr, arith}
-use Rattle.std.specs.Prelude.{◌==◌}
+use Rattle.std.proofs.Common.{◌≡◌, ℕ, zero, suc, ◌+◌, ◌-◌, ◌<◌, ◌≤◌, min, true, ◌&&◌, nat_eq, ◌⊎◌, List, [], ◌∷◌, ◌++◌, map, length, get_or, take, drop, add-one, Option, Some, None, if◌then◌else◌, append_assoc, refl, sym, ap, ap₂, ◌∙◌, subst, inl, inr, arith, ◌==◌}
 use Rattle.std.specs.List.{AllZip, slice_get}
 use Rattle.std.proofs.lemmas.Bool.{and_parts, lt-ltb}
 use Rattle.std.proofs.lemmas.List.{append-nil, length-map, nil_from_length, take-append-drop}
-use Rattle.volume_model.specs.Lists.{IsIn, added, every}
-use Rattle.volume_model.specs.Redo.{Redo, spelling, numbers_before, last_lsn, record_at, of_group, with_record}
+use Rattle.volume_model.specs.Common.{IsIn, added, every, Redo, spelling, numbers_before, last_lsn, record_at, of_group, with_record}
 use Rattle.volume_model.proofs.Basics.{IsIn-added, IsIn-append_right}
 use Rattle.volume_model.proofs.Chains.{record_at-some, record_at-there}
 use Rattle.redo_record.specs.declared.shared_record.SharedRecord.{SharedRecord}
 use Rattle.redo_record.specs.declared.record_set.RecordSet.{RecordSet}
-use Rattle.redo_record.specs.Order.{IsInOrder, ComesAfter}
-use Rattle.redo_record.specs.SharedRecord.{shared_redo}
-use Rattle.redo_record.specs.RecordSet.{packets_of, records_of}
+use Rattle.redo_record.specs.Common.{IsInOrder, ComesAfter, shared_redo, packets_of, records_of}
 use Rattle.redo_record.proofs.Before.{IsBefore}
 use Rattle.redo_record.proofs.Copied.{IsCopy, redos-copied}
 use Rattle.redo_record.proofs.RunLists.{joined-shown}

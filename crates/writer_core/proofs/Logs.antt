@@ -1,10 +1,9 @@
 -- A log that grows at its end.
 use Rattle.std.proofs.Common.{◌≡◌, ℕ, ◌+◌, ◌<◌, List, [], ◌∷◌, ◌++◌, map, take, length, get_or, refl, ap, ◌∙◌}
 use Rattle.std.proofs.lemmas.List.{take_more}
-use Rattle.volume_model.specs.Lists.{added}
-use Rattle.volume_model.specs.Redo.{Redo}
+use Rattle.volume_model.specs.Common.{added, Redo}
 use Rattle.redo_record.specs.declared.shared_record.SharedRecord.{SharedRecord}
-use Rattle.redo_record.specs.SharedRecord.{shared_redo}
+use Rattle.redo_record.specs.Common.{shared_redo}
 use Rattle.writer_core.specs.Logs.{log_of}
 
 pub added_from : (packets : List SharedRecord) (p : SharedRecord) (kept : List Redo) → added (map shared_redo (packets ++ p ∷ [])) kept ≡ shared_redo p ∷ added (map shared_redo packets) kept

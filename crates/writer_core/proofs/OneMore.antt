@@ -3,16 +3,14 @@ use Rattle.std.proofs.Common.{◌≡◌, ℕ, zero, suc, ◌+◌, ◌<◌, ◌�
 use Rattle.std.proofs.lemmas.Bool.{and_parts, ltb-true, leb-true}
 use Rattle.std.proofs.lemmas.List.{take-append-le, length-take}
 use Rattle.std.proofs.lemmas.Bool.Decides.{nat_tests}
-use Rattle.volume_model.specs.Lists.{every}
-use Rattle.volume_model.specs.Redo.{last_lsn}
+use Rattle.volume_model.specs.Common.{every, last_lsn, record_of, is_last, issued_log, issued_writes, is_change}
 use Rattle.volume_model.specs.Message as model
 use Rattle.volume_model.specs.Client as client
 use Rattle.volume_model.specs.ClientWriter as model_writer
-use Rattle.volume_model.specs.ClientWriter.{record_of, is_last, issued_log, issued_writes, is_change}
 use Rattle.redo_record.specs.declared.shared_record.SharedRecord.{SharedRecord}
-use Rattle.redo_record.specs.SharedRecord.{shared_redo}
+use Rattle.redo_record.specs.Common.{shared_redo}
 use Rattle.wire.specs.declared.message.Message.{Message}
-use Rattle.wire.specs.Message.{message_of, messages_of}
+use Rattle.wire.specs.Common.{message_of, messages_of}
 use Rattle.writer_core.specs.declared.change.Change.{Change}
 use Rattle.writer_core.specs.Logs.{log_of}
 use Rattle.writer_core.specs.Changes.{change_of, changes_of}

@@ -1,22 +1,16 @@
 -- Groups whose points are raised, and where they stand.
-use Rattle.std.proofs.Common.{◌≡◌, ℕ, zero, suc, ◌+◌, ◌-◌, ◌<◌, ◌≤◌, Bool, true, false, List, [], ◌∷◌, ◌++◌, length, drop, take, get_or, ◌⊎◌, inl, inr, refl, sym, ap, ap₂, ◌∙◌, arith, subst, drop-cons, add-one, append_assoc, append-nil}
-use Rattle.std.specs.Prelude.{max, map, slice_set, replicate, Result, Ok, Err, OnOk, OnErr, Vec}
+use Rattle.std.proofs.Common.{◌≡◌, ℕ, zero, suc, ◌+◌, ◌-◌, ◌<◌, ◌≤◌, Bool, true, false, List, [], ◌∷◌, ◌++◌, length, drop, take, get_or, ◌⊎◌, inl, inr, refl, sym, ap, ap₂, ◌∙◌, arith, subst, drop-cons, add-one, append_assoc, append-nil, max, map, slice_set, replicate, Result, Ok, Err, OnOk, OnErr, Vec}
 use Rattle.std.specs.Vec.{with_items}
 use Rattle.std.proofs.lemmas.List.{length-map, length-set, length_push, replicate_more, drop_all, map-append, map-set, take-append-drop, take_more_set, drop-set-lt, with_items_is}
 use Rattle.wire.specs.declared.label.Place.{Place}
 use Rattle.wire.specs.Message as wire
-use Rattle.volume_model.specs.Lists.{every_below}
+use Rattle.volume_model.specs.Common.{every_below, place_in, Plan, ClientGroup, no_group, group_of, place_of, newly_at, raised_group, raised_from, with_places, later_group, reread_group, is_later, are_places}
 use Rattle.volume_model.specs.Message as model
-use Rattle.volume_model.specs.Message.{place_in}
 use Rattle.volume_model.proofs.Basics.{every_below-all}
 use Rattle.volume_model.proofs.Groups.{length-slice_set, group_of-beyond, length-with_places, group_of-with_places}
 use Rattle.volume_model.proofs.Views.{place_in-beyond}
 use Rattle.std.proofs.lemmas.Bool.{cases_Bool, cases_lt, and_parts, ltb-true}
-use Rattle.volume_model.specs.Plan.{Plan}
 use Rattle.writer_core.proofs.Below.{below-fails, is_place, places-parts}
-use Rattle.volume_model.specs.Client.{ClientGroup, no_group, group_of, place_of, newly_at}
-use Rattle.volume_model.specs.ClientPoints.{raised_group, raised_from}
-use Rattle.volume_model.specs.ClientMessages.{with_places, later_group, reread_group, is_later, are_places}
 use Rattle.writer_core.specs.declared.group_state.GroupState.{GroupState}
 use Rattle.writer_core.specs.GroupStates.{group_at, groups_of, ArePlaced}
 

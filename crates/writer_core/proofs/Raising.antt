@@ -1,13 +1,8 @@
 -- The point of one group is raised, where those of the others are raised already.
-use Rattle.std.proofs.Common.{◌≡◌, ℕ, zero, suc, ◌+◌, ◌<◌, ◌≤◌, Bool, true, false, ◌||◌, ◌==◌, max, List, [], ◌∷◌, length, refl, sym, ap, ap₂, ◌∙◌, subst, inl, inr, arith, get_or-set_same}
-use Rattle.std.specs.Prelude.{slice_set}
+use Rattle.std.proofs.Common.{◌≡◌, ℕ, zero, suc, ◌+◌, ◌<◌, ◌≤◌, Bool, true, false, ◌||◌, ◌==◌, max, List, [], ◌∷◌, length, refl, sym, ap, ap₂, ◌∙◌, subst, inl, inr, arith, get_or-set_same, slice_set}
 use Rattle.std.proofs.lemmas.List.{set-set, set_past}
 use Rattle.std.proofs.lemmas.Bool.{cases_Bool, cases_lt, true≢false, eqb-true}
-use Rattle.volume_model.specs.Lists.{IsIn}
-use Rattle.volume_model.specs.Formula.{Formula, sat}
-use Rattle.volume_model.specs.Plan.{Plan}
-use Rattle.volume_model.specs.Client.{Count, ClientGroup, no_group, group_of, group_point_of, place_configuration}
-use Rattle.volume_model.specs.ClientPoints.{reaching, best, counted_by, with_count, raised_group, raised_from, raised}
+use Rattle.volume_model.specs.Common.{IsIn, Formula, sat, Plan, Count, ClientGroup, no_group, group_of, group_point_of, place_configuration, reaching, best, counted_by, with_count, raised_group, raised_from, raised}
 use Rattle.volume_model.proofs.FormulaLaws.{sat_more}
 use Rattle.volume_model.proofs.Groups.{set-all, length-slice_set, group_of-beyond, group_of-raised, length-raised}
 use Rattle.volume_model.proofs.Points.{reaching-some, reaching-from}

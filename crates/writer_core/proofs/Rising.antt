@@ -1,11 +1,7 @@
 -- The points of groups rise.
 use Rattle.std.proofs.Common.{◌≡◌, ℕ, ◌≤◌, List, length, refl, ap, ◌∙◌, inl, inr, arith}
 use Rattle.std.proofs.lemmas.Bool.{cases_Bool, cases_lt}
-use Rattle.volume_model.specs.Plan.{Plan}
-use Rattle.volume_model.specs.Message.{Place, place_in}
-use Rattle.volume_model.specs.Client.{ClientGroup, no_group, group_of, group_point_of}
-use Rattle.volume_model.specs.ClientPoints.{raised, raised_group}
-use Rattle.volume_model.specs.ClientMessages.{with_places, later_group, is_later}
+use Rattle.volume_model.specs.Common.{Plan, Place, place_in, ClientGroup, no_group, group_of, group_point_of, raised, raised_group, with_places, later_group, is_later}
 use Rattle.volume_model.proofs.Groups.{set-all, group_of-beyond, group_of-with_places, later_group-none, group_of-raised}
 use Rattle.writer_core.specs.GroupStates.{counted_group, counted_in}
 

@@ -1,16 +1,13 @@
 -- One message more, for one group more.
 use Rattle.std.proofs.Common.{◌≡◌, ℕ, ◌+◌, ◌<◌, Bool, true, false, ◌&&◌, not, nat_lt, List, [], ◌∷◌, ◌++◌, length, get_or, map, if◌then◌else◌, sym, ap, ap₂, ◌∙◌, append-nil, add-one}
 use Rattle.std.proofs.lemmas.List.{map-append}
-use Rattle.volume_model.specs.Lists.{each_below, joined}
+use Rattle.volume_model.specs.Common.{each_below, joined, place_in, ClientGroup, group_of, place_of, later_in, later_unjoined}
 use Rattle.volume_model.proofs.Basics.{joined-append}
 use Rattle.volume_model.specs.Message as model
-use Rattle.volume_model.specs.Message.{place_in}
-use Rattle.volume_model.specs.Client.{ClientGroup, group_of, place_of}
-use Rattle.volume_model.specs.ClientMessages.{later_in, later_unjoined}
 use Rattle.wire.specs.declared.label.Place.{Place}
 use Rattle.wire.specs.declared.message.Message.{Message}
 use Rattle.wire.specs.Message as wire
-use Rattle.wire.specs.Message.{message_of, messages_of}
+use Rattle.wire.specs.Common.{message_of, messages_of}
 use Rattle.writer_core.proofs.Below.{place_in-at}
 
 pub message-more : (old new : List Message) (m : Message) (i : ℕ) (test : ℕ → Bool) (f : ℕ → model.Message) → new ≡ old ++ m ∷ [] → messages_of old ≡ each_below i test f → test i ≡ true → message_of m ≡ f i → messages_of new ≡ each_below (i + 1) test f

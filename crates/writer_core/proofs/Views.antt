@@ -1,19 +1,9 @@
 -- What a View makes a client say.
-use Rattle.std.proofs.Common.{◌≡◌, ℕ, zero, suc, ◌<◌, Bool, true, false, List, [], ◌∷◌, ◌++◌, Ok, length, if◌then◌else◌, refl, sym, ap, ap₂, ◌∙◌, arith}
-use Rattle.std.specs.Prelude.{not, map}
+use Rattle.std.proofs.Common.{◌≡◌, ℕ, zero, suc, ◌<◌, Bool, true, false, List, [], ◌∷◌, ◌++◌, Ok, length, if◌then◌else◌, refl, sym, ap, ap₂, ◌∙◌, arith, not, map}
 use Rattle.std.proofs.lemmas.Bool.{and_parts, eq-eqb}
 use Rattle.std.proofs.lemmas.List.{length-map}
-use Rattle.volume_model.specs.Lists.{each_below, joined}
-use Rattle.volume_model.specs.Plan.{Plan}
+use Rattle.volume_model.specs.Common.{each_below, joined, Plan, place_in, Redo, in_pieces, Lineage, ClientGroup, group_of, place_of, label_of, raised, fences, installs, to_install, is_later, later_in, later_unjoined, later_group, reread_group, with_places, are_places, taken}
 use Rattle.volume_model.specs.Message as model
-use Rattle.volume_model.specs.Message.{place_in}
-use Rattle.volume_model.specs.Redo.{Redo}
-use Rattle.volume_model.specs.Pieces.{in_pieces}
-use Rattle.volume_model.specs.Lineage.{Lineage}
-use Rattle.volume_model.specs.Client.{ClientGroup, group_of, place_of, label_of}
-use Rattle.volume_model.specs.ClientPoints.{raised}
-use Rattle.volume_model.specs.ClientRecovery.{fences, installs, to_install}
-use Rattle.volume_model.specs.ClientMessages.{is_later, later_in, later_unjoined, later_group, reread_group, with_places, are_places, taken}
 use Rattle.volume_model.proofs.Groups.{group_of-with_places, later_group-none, reread_group-none}
 use Rattle.wire.specs.declared.label.Place.{Place}
 use Rattle.wire.specs.Message as wire

@@ -1,7 +1,7 @@
 -- The changes of a transaction, as the model has them.
 use Rattle.std.specs.Prelude.{ℕ, List, map, take}
 use Rattle.volume_model.specs.ClientWriter as model
-use Rattle.redo_record.specs.Payload.{payload_bytes}
+use Rattle.redo_record.specs.Common.{payload_bytes}
 use Rattle.writer_core.specs.declared.inline_bytes.InlineBytes.{InlineBytes}
 use Rattle.writer_core.specs.declared.change.Form.{Form}
 use Rattle.writer_core.specs.declared.change.Form.TheVariants.{Few, Many}

@@ -1,7 +1,7 @@
 -- Counted acknowledgements, as the model's client keeps them.
 use Rattle.std.specs.Prelude.{◌≡◌, ℕ, ◌<◌, List, [], ◌∷◌, ◌++◌, map, max, length, slice_index_or, slice_set}
 use Rattle.volume_model.specs.Client as model
-use Rattle.volume_model.specs.ClientPoints.{with_count}
+use Rattle.volume_model.specs.Common.{with_count}
 use Rattle.writer_core.specs.declared.count.Count.{Count}
 
 -- the count of the model for a count

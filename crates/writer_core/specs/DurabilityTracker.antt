@@ -1,9 +1,6 @@
 -- How much of a log is covered by the points of its groups.
 use Rattle.std.specs.Prelude.{◌≡◌, ℕ, ◌+◌, ◌<◌, ◌≤◌, Bool, true, nat_le, if◌then◌else◌, List, length, take, slice_index, slice_set}
-use Rattle.volume_model.specs.Lists.{every}
-use Rattle.volume_model.specs.Redo.{Redo, last_lsn, last_of_group}
-use Rattle.volume_model.specs.ClientPoints.{complete_of, consistency_point_below}
-use Rattle.volume_model.specs.ClientWriter.{last_of_group_below}
+use Rattle.volume_model.specs.Common.{every, Redo, last_lsn, last_of_group, complete_of, consistency_point_below, last_of_group_below}
 use Rattle.redo_record.specs.declared.shared_record.SharedRecord.{SharedRecord}
 use Rattle.writer_core.specs.Logs.{log_of}
 use Rattle.writer_core.specs.declared.durability.DurabilityTracker.{DurabilityTracker}

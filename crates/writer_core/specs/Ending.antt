@@ -1,8 +1,8 @@
 -- Packets with which the first records of a list end.
 use Rattle.std.specs.Prelude.{◌≡◌, ℕ, ◌≤◌, List, ◌++◌, ◌-◌, length, map, take}
-use Rattle.volume_model.specs.Redo.{Redo}
+use Rattle.volume_model.specs.Common.{Redo}
 use Rattle.redo_record.specs.declared.shared_record.SharedRecord.{SharedRecord}
-use Rattle.redo_record.specs.SharedRecord.{shared_redo}
+use Rattle.redo_record.specs.Common.{shared_redo}
 
 -- the first n of these records end with these packets
 abbrev pub EndsWith : List SharedRecord → ℕ → List Redo → Type 0

@@ -1,14 +1,11 @@
 -- A client's state of its groups, as the model's client has it.
 use Rattle.std.specs.Prelude.{ℕ, ◌<◌, List, length, map, slice_set}
 use Rattle.std.specs.Arc.{arc_value}
-use Rattle.volume_model.specs.Plan.{Plan}
-use Rattle.volume_model.specs.Node.{From, with_first}
+use Rattle.volume_model.specs.Common.{Plan, From, ClientGroup, group_of, with_count}
+use Rattle.volume_model.specs.Node.{with_first}
 use Rattle.volume_model.specs.Client as model
-use Rattle.volume_model.specs.Client.{ClientGroup, group_of}
-use Rattle.volume_model.specs.ClientPoints.{with_count}
 use Rattle.wire.specs.declared.message.Report.{Report}
-use Rattle.wire.specs.Contents.{contents_of}
-use Rattle.wire.specs.Message.{place_of}
+use Rattle.wire.specs.Common.{contents_of, place_of}
 use Rattle.hydration.specs.Copies.{copies_in}
 use Rattle.writer_core.specs.declared.group_state.GroupState.{GroupState}
 use Rattle.writer_core.specs.Counts.{counts_of}

@@ -1,9 +1,9 @@
 -- A client's state of the groups of its plan.
 use Rattle.std.specs.Prelude.{List}
 use Rattle.std.specs.Arc.{arc_value}
-use Rattle.volume_model.specs.Plan.{Plan}
-use Rattle.volume_model.specs.Client.{Client, ClientGroup, unborn}
-use Rattle.plan.specs.CheckedModel.{checked_model}
+use Rattle.volume_model.specs.Common.{Plan, ClientGroup, unborn}
+use Rattle.volume_model.specs.Client.{Client}
+use Rattle.plan.specs.Common.{checked_model}
 use Rattle.writer_core.specs.declared.group_states.GroupStates.{GroupStates}
 use Rattle.writer_core.specs.GroupStates.{groups_of}
 

@@ -1,6 +1,6 @@
 -- The last LSNs of groups and blocks.
 use Rattle.std.specs.Prelude.{◌≡◌, ◌≢◌, ℕ, ◌<◌, ◌≤◌, List, length, take, slice_index}
-use Rattle.volume_model.specs.Redo.{Redo, last_of_group, last_of_block}
+use Rattle.volume_model.specs.Common.{Redo, last_of_group, last_of_block}
 use Rattle.redo_record.specs.declared.shared_record.SharedRecord.{SharedRecord}
 use Rattle.writer_core.specs.Logs.{log_of}
 use Rattle.writer_core.specs.BlockLsns.{kept_in}

@@ -1,11 +1,10 @@
 -- A program's log as one of the model.
 use Rattle.std.specs.Prelude.{ℕ, List, ◌++◌, ◌-◌, vec_len, vec_capacity}
-use Rattle.volume_model.specs.Redo.{Redo}
+use Rattle.volume_model.specs.Common.{Redo}
 use Rattle.redo_record.specs.declared.shared_record.SharedRecord.{SharedRecord}
 use Rattle.redo_record.specs.declared.record_set.RecordSet.{RecordSet}
-use Rattle.redo_record.specs.RecordSet.{packets_of}
+use Rattle.redo_record.specs.Common.{packets_of, packets_left}
 use Rattle.writer_core.specs.Logs.{log_of}
-use Rattle.redo_record.specs.Records.{packets_left}
 use Rattle.writer_core.specs.declared.log.Log.{Log}
 use Rattle.writer_core.specs.declared.log.LogRecords.{LogRecords}
 

@@ -1,11 +1,9 @@
 -- A program's log grows at its end; the model keeps it newest first.
 use Rattle.std.specs.Prelude.{Bool, true, ◌&&◌, nat_lt, List, [], ◌∷◌, map}
-use Rattle.volume_model.specs.Lists.{added}
-use Rattle.volume_model.specs.Redo.{Redo, last_lsn}
+use Rattle.volume_model.specs.Common.{added, Redo, last_lsn}
 use Rattle.redo_record.specs.declared.shared_record.SharedRecord.{SharedRecord}
 use Rattle.redo_record.specs.declared.record_set.RecordSet.{RecordSet}
-use Rattle.redo_record.specs.SharedRecord.{shared_redo}
-use Rattle.redo_record.specs.RecordSet.{records_of}
+use Rattle.redo_record.specs.Common.{shared_redo, records_of}
 
 -- the log of the model for a list of packets
 abbrev pub log_of : List SharedRecord → List Redo

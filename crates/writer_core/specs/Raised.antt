@@ -1,9 +1,6 @@
 -- Points of groups that are raised by the counted acknowledgements.
 use Rattle.std.specs.Prelude.{◌≡◌, ℕ, ◌<◌, ◌≤◌, true, List, length, slice_set}
-use Rattle.volume_model.specs.Formula.{sat}
-use Rattle.volume_model.specs.Plan.{Plan}
-use Rattle.volume_model.specs.Client.{ClientGroup, group_of, group_point_of, place_configuration}
-use Rattle.volume_model.specs.ClientPoints.{best, counted_by, raised_group}
+use Rattle.volume_model.specs.Common.{sat, Plan, ClientGroup, group_of, group_point_of, place_configuration, best, counted_by, raised_group}
 
 -- the greatest of a group's counted complete points that a write quorum has reached, else 0
 abbrev pub counted_point : Plan → ℕ → ClientGroup → ℕ

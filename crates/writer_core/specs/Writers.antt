@@ -1,19 +1,13 @@
 -- The client of the model for a writer, and a writer's answers.
-use Rattle.std.specs.Prelude.{◌≡◌, ℕ, ◌+◌, ◌^◌, ◌≤◌, true, List, [], ◌∷◌, length, max}
-use Rattle.std.specs.Prelude.{Vec}
+use Rattle.std.specs.Prelude.{◌≡◌, ℕ, ◌+◌, ◌^◌, ◌≤◌, true, List, [], ◌∷◌, length, max, Vec}
 use Rattle.std.specs.Global.{Global}
-use Rattle.volume_model.specs.Plan.{Plan}
-use Rattle.volume_model.specs.Redo.{Redo, last_lsn}
-use Rattle.volume_model.specs.Lineage.{Lineage, last_start}
-use Rattle.volume_model.specs.Client.{Client, ClientGroup, ClientStep}
-use Rattle.volume_model.specs.ClientWriter.{Change, is_transaction}
-use Rattle.volume_model.specs.Client.Stage.{Installing, Writing}
+use Rattle.volume_model.specs.Common.{Plan, Redo, last_lsn, Lineage, last_start, ClientGroup, ClientStep, Change, is_transaction, Installing, Writing}
+use Rattle.volume_model.specs.Client.{Client}
 use Rattle.lineage.specs.Lineage.{lineage_of}
 use Rattle.wire.specs.declared.carried.Carried.{Carried}
 use Rattle.wire.specs.declared.message.Message.{Message}
 use Rattle.wire.specs.declared.messages.Messages.{Messages}
-use Rattle.wire.specs.Listed.{listed}
-use Rattle.wire.specs.Message.{message_of, messages_of}
+use Rattle.wire.specs.Common.{listed, message_of, messages_of}
 use Rattle.writer_core.specs.Carried.{carried_write}
 use Rattle.writer_core.specs.Logs.{log_of_set}
 use Rattle.writer_core.specs.Log.{found_of, log_in}

@@ -32,7 +32,7 @@ const _: () = prove!(size_of::<Change>() <= 16);
 
 impl Change {
     ghost use Rattle.std.specs.Prelude.{◌≡◌, IfOk, length};
-    ghost use Rattle.redo_record.specs.Payload.{payload_bytes, HasRoom};
+    ghost use Rattle.redo_record.specs.Common.{payload_bytes, HasRoom};
     ghost use Rattle.writer_core.specs.Changes.{change_of};
 
     /// Returns a change that writes these bytes from the offset on. Fails only with `NoMemory`.

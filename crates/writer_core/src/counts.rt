@@ -2,8 +2,8 @@
 
 ghost use Rattle.std.specs.Prelude.{◌≡◌, ◌<◌, max, OnOk, OnErr, MatchOption};
 ghost use Rattle.std.specs.FinSet as set;
-ghost use Rattle.volume_model.specs.ClientPoints.{best, reaching, with_count};
-ghost use Rattle.quorum_expr.specs.Expr.{formula_of};
+ghost use Rattle.volume_model.specs.Common.{best, reaching, with_count};
+ghost use Rattle.quorum_expr.specs.Common.{formula_of};
 ghost use Rattle.writer_core.specs.Counts.{counts_of, IsNew, IsPlaceOf};
 
 use crate::count::Count;

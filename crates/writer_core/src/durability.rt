@@ -1,6 +1,6 @@
 //! Tracks how much of a log is covered by the points of its groups.
 
-ghost use Rattle.std.specs.Prelude.{◌≡◌, length};
+ghost use Rattle.std.specs.Prelude.{◌≡◌, length, ◌+◌, ◌^◌, ◌<◌, slice_index};
 
 use crate::group_states::GroupStates;
 use crate::last_lsns::GROUPS;
@@ -25,9 +25,8 @@ pub struct DurabilityTracker {
 }
 
 impl DurabilityTracker {
-    ghost use Rattle.std.specs.Prelude.{◌+◌, ◌^◌, ◌<◌, slice_index};
-    ghost use Rattle.volume_model.specs.Client.{group_point_of};
-    ghost use Rattle.redo_record.specs.Record.{redo_of};
+    ghost use Rattle.volume_model.specs.Common.{group_point_of};
+    ghost use Rattle.redo_record.specs.Common.{redo_of};
     ghost use Rattle.writer_core.specs.Log.{packets_in};
     ghost use Rattle.writer_core.specs.Groups.{groups_in};
     ghost use Rattle.writer_core.specs.DurabilityTracker.{CoversNone, Covers, CoversPrefix, CoversLog};

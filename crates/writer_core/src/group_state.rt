@@ -26,13 +26,9 @@ pub struct GroupState {
 
 impl GroupState {
     ghost use Rattle.std.specs.Prelude.{◌≡◌, ◌<◌, OnOk, OnErr};
-    ghost use Rattle.volume_model.specs.Formula.{sat};
-    ghost use Rattle.volume_model.specs.Node.{senders};
-    ghost use Rattle.volume_model.specs.Client.{born_group, newly_at, no_group, place_configuration};
-    ghost use Rattle.volume_model.specs.ClientPoints.{raised_group, counted_by};
-    ghost use Rattle.volume_model.specs.ClientMessages.{later_group, reread_group};
-    ghost use Rattle.plan.specs.CheckedModel.{checked_model};
-    ghost use Rattle.wire.specs.Message.{place_of};
+    ghost use Rattle.volume_model.specs.Common.{sat, senders, born_group, newly_at, no_group, place_configuration, raised_group, counted_by, later_group, reread_group};
+    ghost use Rattle.plan.specs.Common.{checked_model};
+    ghost use Rattle.wire.specs.Common.{place_of};
     ghost use Rattle.writer_core.specs.GroupStates.{group_at, counted_group, report_of, reported_group};
 
     /// Makes the state of a group at this place, with no reports and acknowledgements.

@@ -1,8 +1,8 @@
 //! A client's state of the groups of its View.
 
-ghost use Rattle.std.specs.Prelude.{◌≡◌, ◌≤◌, length};
+ghost use Rattle.std.specs.Prelude.{◌≡◌, ◌≤◌, length, ◌<◌, true, IfOk, OnOk, OnErr, MatchOption, map, replicate};
 ghost use Rattle.std.specs.Arc.{arc_value};
-ghost use Rattle.plan.specs.CheckedModel.{checked_model};
+ghost use Rattle.plan.specs.Common.{checked_model};
 ghost use Rattle.writer_core.specs.GroupStates.{groups_of, ArePlaced};
 
 use crate::count::Count;
@@ -23,13 +23,9 @@ pub struct GroupStates {
 }
 
 impl GroupStates {
-    ghost use Rattle.std.specs.Prelude.{◌<◌, true, IfOk, OnOk, OnErr, MatchOption, map, replicate};
-    ghost use Rattle.volume_model.specs.Client.{newly_at, born_group, group_of, group_point_of};
-    ghost use Rattle.volume_model.specs.ClientPoints.{raised};
-    ghost use Rattle.volume_model.specs.ClientRecovery.{has_read, has_installed};
-    ghost use Rattle.volume_model.specs.ClientMessages.{with_places, later_group, reread_group, are_places};
+    ghost use Rattle.volume_model.specs.Common.{newly_at, born_group, group_of, group_point_of, raised, has_read, has_installed, with_places, later_group, reread_group, are_places};
     ghost use Rattle.volume_model.specs.Client as client;
-    ghost use Rattle.wire.specs.Message.{place_of, label_of};
+    ghost use Rattle.wire.specs.Common.{place_of, label_of};
     ghost use Rattle.writer_core.specs.GroupStates.{group_at, counted_in, report_of, reported_in};
     ghost use Rattle.writer_core.specs.Raised.{raised_in};
     ghost use Rattle.writer_core.specs.Groups.{groups_in, group_states_plan, keeping};

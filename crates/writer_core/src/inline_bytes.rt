@@ -1,6 +1,6 @@
 //! Short byte strings, stored inline.
 
-ghost use Rattle.std.specs.Prelude.{◌≡◌, ◌≤◌, ℕ, slice_index};
+ghost use Rattle.std.specs.Prelude.{◌≡◌, ◌≤◌, ℕ, slice_index, length};
 
 use redo_record::{FEW_BYTES, Payload};
 
@@ -15,8 +15,7 @@ pub struct InlineBytes {
 }
 
 impl InlineBytes {
-    ghost use Rattle.std.specs.Prelude.{◌≡◌, ◌≤◌, length};
-    ghost use Rattle.redo_record.specs.Payload.{payload_bytes, HasRoom};
+    ghost use Rattle.redo_record.specs.Common.{payload_bytes, HasRoom};
     ghost use Rattle.writer_core.specs.Changes.{inline_bytes};
 
     /// Returns these bytes.

@@ -2,16 +2,11 @@
 
 ghost use Rattle.std.specs.Prelude.{◌≡◌, ◌≤◌, [], length, map, IfOk};
 ghost use Rattle.volume_model.specs.Message as model;
-ghost use Rattle.volume_model.specs.Message.{place_in};
-ghost use Rattle.volume_model.specs.Pieces.{in_pieces, pieces_of};
-ghost use Rattle.volume_model.specs.Redo.{of_group};
-ghost use Rattle.volume_model.specs.ClientRecovery.{installs, to_install};
-ghost use Rattle.volume_model.specs.ClientMessages.{later_unjoined};
+ghost use Rattle.volume_model.specs.Common.{place_in, in_pieces, pieces_of, of_group, installs, to_install, later_unjoined};
 ghost use Rattle.lineage.specs.Lineage.{lineage_of};
-ghost use Rattle.redo_record.specs.RecordSet.{records_of};
-ghost use Rattle.wire.specs.Contents.{contents_of};
+ghost use Rattle.redo_record.specs.Common.{records_of};
+ghost use Rattle.wire.specs.Common.{contents_of, messages_of};
 ghost use Rattle.wire.specs.Message as wire;
-ghost use Rattle.wire.specs.Message.{messages_of};
 ghost use Rattle.writer_core.specs.Logs.{log_of_set};
 ghost use Rattle.writer_core.specs.Groups.{groups_in};
 

@@ -2,15 +2,10 @@
 
 ghost use Rattle.std.specs.Prelude.{◌≡◌, ◌+◌, ◌^◌, ◌<◌, ◌≤◌, ◌++◌, ◌∷◌, [], true, length, max, take, IfOk, IfErr, OnOk};
 ghost use Rattle.volume_model.specs.declared.fault.Fault.TheVariants.{NoMemory};
-ghost use Rattle.volume_model.specs.Redo.{last_lsn};
-ghost use Rattle.volume_model.specs.Client.{place_of};
-ghost use Rattle.volume_model.specs.ClientWriter.{record_of, issued_log, issued_writes, is_change};
-ghost use Rattle.volume_model.specs.Lists.{every};
-ghost use Rattle.redo_record.specs.SharedRecord.{shared_redo};
+ghost use Rattle.volume_model.specs.Common.{last_lsn, place_of, record_of, issued_log, issued_writes, is_change, every, label_of};
+ghost use Rattle.redo_record.specs.Common.{shared_redo};
 ghost use Rattle.volume_model.specs.Message as model;
-ghost use Rattle.volume_model.specs.Client.{label_of};
-ghost use Rattle.wire.specs.Listed.{listed};
-ghost use Rattle.wire.specs.Message.{messages_of};
+ghost use Rattle.wire.specs.Common.{listed, messages_of};
 ghost use Rattle.writer_core.specs.Log.{found_of, log_in, packets_in};
 ghost use Rattle.writer_core.specs.LastLsns.{AreLastsOf};
 ghost use Rattle.writer_core.specs.Groups.{groups_in};

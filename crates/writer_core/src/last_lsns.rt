@@ -1,6 +1,6 @@
 //! The last LSN of each group and of each block of a log.
 
-ghost use Rattle.std.specs.Prelude.{◌≡◌, length, List, IfOk, OnOk};
+ghost use Rattle.std.specs.Prelude.{◌≡◌, length, List, IfOk, OnOk, ◌≤◌, ◌<◌, ◌++◌, ◌∷◌, []};
 ghost use Rattle.writer_core.specs.Kept.{first_known};
 
 use crate::block_lsns::BlockLsns;
@@ -33,10 +33,8 @@ pub struct LastLsns {
 }
 
 impl LastLsns {
-    ghost use Rattle.std.specs.Prelude.{◌≤◌, ◌<◌, ◌++◌, ◌∷◌, []};
-    ghost use Rattle.volume_model.specs.Redo.{Redo, last_of_group, last_of_block};
-    ghost use Rattle.redo_record.specs.Record.{redo_of};
-    ghost use Rattle.redo_record.specs.SharedRecord.{shared_redo};
+    ghost use Rattle.volume_model.specs.Common.{Redo, last_of_group, last_of_block};
+    ghost use Rattle.redo_record.specs.Common.{redo_of, shared_redo};
     ghost use Rattle.redo_record.specs.declared.shared_record.SharedRecord.{SharedRecord};
     ghost use Rattle.writer_core.specs.Log.{log_in, packets_in};
     ghost use Rattle.writer_core.specs.LastLsns.{AreLasts, AreLastsOf};

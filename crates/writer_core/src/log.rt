@@ -1,7 +1,7 @@
 //! A log, in order of LSN.
 
-ghost use Rattle.std.specs.Prelude.{◌≡◌, ◌<◌, ◌++◌, true, length};
-ghost use Rattle.redo_record.specs.RecordSet.{packets_of};
+ghost use Rattle.std.specs.Prelude.{◌≡◌, ◌<◌, ◌++◌, true, length, ◌≤◌, ◌+◌, [], ◌∷◌, drop, map, take, slice_index_or, option_copied, option_map, OnOk, MatchOption};
+ghost use Rattle.redo_record.specs.Common.{packets_of, shared_redo};
 ghost use Rattle.writer_core.specs.Logs.{log_of, is_growing};
 
 use crate::lookup::{record_at, run_before};
@@ -20,11 +20,7 @@ pub struct Log {
 }
 
 impl Log {
-    ghost use Rattle.std.specs.Prelude.{◌≤◌, ◌+◌, [], ◌∷◌, drop, map, take, slice_index_or, option_copied, option_map, OnOk, OnErr};
-    ghost use Rattle.volume_model.specs.Redo.{last_lsn, record_at};
-    ghost use Rattle.volume_model.specs.ClientPoints.{is_consistency_point};
-    ghost use Rattle.redo_record.specs.SharedRecord.{shared_redo};
-    ghost use Rattle.redo_record.specs.RecordSet.{records_of};
+    ghost use Rattle.volume_model.specs.Common.{last_lsn, record_at, is_consistency_point};
     ghost use Rattle.writer_core.specs.Ending.{EndsWith};
     ghost use Rattle.writer_core.specs.Logs.{log_of_set};
     ghost use Rattle.writer_core.specs.Log.{found_of, packets_in, log_in, log_left, room_in};
@@ -175,7 +171,6 @@ pub struct LogRecords<'a> {
 }
 
 impl<'a> LogRecords<'a> {
-    ghost use Rattle.std.specs.Prelude.{◌≡◌, [], ◌∷◌, MatchOption};
     ghost use Rattle.writer_core.specs.Log.{log_left};
 
     /// Reads the next record; `None` at the end.

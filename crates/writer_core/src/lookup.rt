@@ -1,10 +1,8 @@
 //! Looks up records in lists and runs in order of LSN.
 
 ghost use Rattle.std.specs.Prelude.{◌≡◌, ◌<◌, ◌≤◌, length, true, option_copied, option_map};
-ghost use Rattle.volume_model.specs.Redo.{last_lsn, record_at};
-ghost use Rattle.redo_record.specs.Joined.{joined};
-ghost use Rattle.redo_record.specs.Run.{runs_in};
-ghost use Rattle.redo_record.specs.SharedRecord.{shared_redo};
+ghost use Rattle.volume_model.specs.Common.{record_at};
+ghost use Rattle.redo_record.specs.Common.{joined, runs_in, shared_redo};
 ghost use Rattle.writer_core.specs.Ending.{EndsWith};
 ghost use Rattle.writer_core.specs.Logs.{log_of, is_growing};
 

@@ -1,11 +1,9 @@
 //! The places of a client's groups, and how they change.
 
 ghost use Rattle.std.specs.Prelude.{◌≡◌, ◌≤◌, ◌-◌, ◌++◌, length, map, replicate, OnErr, OnOk};
-ghost use Rattle.volume_model.specs.Client.{no_group};
-ghost use Rattle.volume_model.specs.ClientPoints.{raised};
-ghost use Rattle.volume_model.specs.ClientMessages.{with_places, later_group, reread_group, are_places};
-ghost use Rattle.plan.specs.CheckedModel.{checked_model};
-ghost use Rattle.wire.specs.Message.{place_of};
+ghost use Rattle.volume_model.specs.Common.{no_group, raised, with_places, later_group, reread_group, are_places};
+ghost use Rattle.plan.specs.Common.{checked_model};
+ghost use Rattle.wire.specs.Common.{place_of};
 ghost use Rattle.writer_core.specs.GroupStates.{groups_of, ArePlaced};
 
 use crate::group_state::GroupState;

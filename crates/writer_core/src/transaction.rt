@@ -1,7 +1,7 @@
 //! Checks transactions.
 
 ghost use Rattle.std.specs.Prelude.{◌≡◌};
-ghost use Rattle.volume_model.specs.ClientWriter.{have_joined, is_change, is_transaction};
+ghost use Rattle.volume_model.specs.Common.{have_joined, is_change, is_transaction};
 ghost use Rattle.writer_core.specs.Changes.{change_of, changes_of};
 ghost use Rattle.writer_core.specs.Groups.{groups_in};
 

@@ -1,13 +1,13 @@
 //! The writer of a volume epoch.
 
-ghost use Rattle.std.specs.Prelude.{◌≡◌, ◌≤◌, true, length};
+ghost use Rattle.std.specs.Prelude.{◌≡◌, ◌≤◌, true, length, ◌<◌, ◌≢◌, map, Ok, OnOk, IfOk, IfErr, MatchResult};
 ghost use Rattle.writer_core.specs.Logs.{log_of_set, is_growing};
 ghost use Rattle.writer_core.specs.Log.{log_in, packets_in};
 ghost use Rattle.writer_core.specs.LastLsns.{AreLastsOf};
 ghost use Rattle.writer_core.specs.DurabilityTracker.{CoversLog};
 ghost use Rattle.writer_core.specs.Groups.{groups_in, group_states_plan};
 ghost use Rattle.writer_core.specs.Raised.{AreRaised, HaveJoined};
-ghost use Rattle.volume_model.specs.Client.{group_point_of};
+ghost use Rattle.volume_model.specs.Common.{group_point_of, Answers, AnswersAlways, AnswersNew, refusal_of, first_writer, acknowledged, complete_point, durable_point, has_installed, writing, issue_step, issued, resent, page_asked, are_places, is_for, taken, last_start};
 
 use crate::change::Change;
 use crate::durability::DurabilityTracker;
@@ -44,18 +44,10 @@ pub struct Writer {
 }
 
 impl Writer {
-    ghost use Rattle.std.specs.Prelude.{◌<◌, ◌≢◌, map, Ok, OnOk, IfOk, IfErr, MatchResult};
     ghost use Rattle.std.specs.Arc.{arc_value};
-    ghost use Rattle.plan.specs.CheckedModel.{checked_model};
-    ghost use Rattle.volume_model.specs.Answer.{Answers, AnswersAlways, AnswersNew, refusal_of};
-    ghost use Rattle.volume_model.specs.Client.{first_writer};
-    ghost use Rattle.volume_model.specs.ClientPoints.{acknowledged, complete_point, durable_point};
-    ghost use Rattle.volume_model.specs.ClientRecovery.{has_installed, writing};
-    ghost use Rattle.volume_model.specs.ClientWriter.{issue_step, issued, resent, page_asked};
-    ghost use Rattle.volume_model.specs.ClientMessages.{are_places, is_for, taken};
+    ghost use Rattle.plan.specs.Common.{checked_model};
     ghost use Rattle.volume_model.specs.declared.fault.Fault.TheVariants.{NoGroup, NoMemory};
-    ghost use Rattle.wire.specs.Message.{message_of, place_of};
-    ghost use Rattle.volume_model.specs.Lineage.{last_start};
+    ghost use Rattle.wire.specs.Common.{message_of, place_of};
     ghost use Rattle.writer_core.specs.Changes.{changes_of};
     ghost use Rattle.writer_core.specs.Groups.{keeping};
     ghost use Rattle.writer_core.specs.Writers.{client_of, writer_plan, writer_volume, installing, CanIssue, acted, answered, silent, asked, sent};

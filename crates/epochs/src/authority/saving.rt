@@ -2,7 +2,7 @@
 
 ghost use Rattle.std.specs.Prelude.{◌≡◌, Ok, IfOk};
 ghost use Rattle.std.specs.Arc.{arc_value};
-ghost use Rattle.plan.specs.CheckedModel.{checked_model};
+ghost use Rattle.plan.specs.Common.{checked_model};
 
 use super::Authority;
 use crate::snapshot::AuthoritySnapshot;
@@ -12,7 +12,7 @@ use std::sync::Arc;
 use volume_model::Fault;
 
 impl Authority {
-    ghost use Rattle.volume_model.specs.Answer.{AnswersNew};
+    ghost use Rattle.volume_model.specs.Common.{AnswersNew};
     ghost use Rattle.epochs.specs.Authority.{authority_of, authority_plan};
     ghost use Rattle.epochs.specs.Snapshot.{authority_in, resumed};
 

@@ -1,9 +1,7 @@
 use Rattle.std.proofs.Common.{◌≡◌, ◌+◌, ◌++◌, List, drop, sym, ap, subst, ◌∙◌}
 use Rattle.std.proofs.lemmas.List.{drop_all}
-use Rattle.volume_model.specs.Redo.{Redo}
-use Rattle.volume_model.specs.Node.{page_from, page_of}
-use Rattle.redo_record.specs.Joined.{joined}
-use Rattle.redo_record.specs.Run.{run_records, runs_in}
+use Rattle.volume_model.specs.Common.{Redo, page_from, page_of}
+use Rattle.redo_record.specs.Common.{joined, run_records, runs_in}
 use Rattle.redo_record.specs.declared.run.Run.{Run}
 use Rattle.redo_record.proofs.RunLists.{joined-drop}
 use Rattle.pages.proofs.Parted.{page_joined}

@@ -1,8 +1,6 @@
 use Rattle.std.proofs.Common.{◌≡◌, drop}
-use Rattle.volume_model.specs.Node.{page_from, page_of}
-use Rattle.redo_record.specs.Joined.{joined}
-use Rattle.redo_record.specs.RecordSet.{records_of}
-use Rattle.redo_record.specs.Run.{runs_in}
+use Rattle.volume_model.specs.Common.{page_from, page_of}
+use Rattle.redo_record.specs.Common.{joined, records_of, runs_in}
 use Rattle.pages.proofs.Runs.{AreOfBlock}
 use Rattle.pages.proofs.page_of_set.Given as goal
 

@@ -1,6 +1,6 @@
 use Rattle.std.proofs.Common.{◌≡◌, drop, map}
-use Rattle.volume_model.specs.Node.{page_from}
-use Rattle.redo_record.specs.SharedRecord.{shared_redo}
+use Rattle.volume_model.specs.Common.{page_from}
+use Rattle.redo_record.specs.Common.{shared_redo}
 use Rattle.pages.proofs.write_all.Given as goal
 
 abbrev pub invariant-loop-packet : goal.invariant-loop-packet

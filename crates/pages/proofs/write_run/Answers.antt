@@ -1,6 +1,6 @@
 use Rattle.std.proofs.Common.{rules, ap, sym, ◌∙◌, List, map}
-use Rattle.volume_model.specs.Node.{page_from}
-use Rattle.redo_record.specs.SharedRecord.{shared_redo}
+use Rattle.volume_model.specs.Common.{page_from}
+use Rattle.redo_record.specs.Common.{shared_redo}
 use Rattle.redo_record.specs.declared.shared_record.SharedRecord.{SharedRecord}
 use Rattle.pages.proofs.Parted.{page_parted}
 use Rattle.pages.proofs.write_run.Goals as goal

@@ -1,6 +1,6 @@
 use Rattle.std.proofs.Common.{◌≡◌, length, map, All}
-use Rattle.volume_model.specs.Node.{page_from}
-use Rattle.redo_record.specs.SharedRecord.{shared_redo}
+use Rattle.volume_model.specs.Common.{page_from}
+use Rattle.redo_record.specs.Common.{shared_redo}
 use Rattle.pages.proofs.write_run.Given as goal
 
 abbrev pub invariant-loop-rest : goal.invariant-loop-rest

@@ -1,5 +1,4 @@
-use Rattle.refutation.specs.Rule.{depth_of}
-use Rattle.refutation.specs.Certificate.{certificate_rule}
+use Rattle.refutation.specs.Common.{depth_of, certificate_rule}
 use Rattle.quorum_checker.specs.Items.{shown}
 use Rattle.quorum_checker.specs.Refutes.{claim_state}
 use Rattle.quorum_checker.proofs.Outcomes.{started, ok_refutes, err_refutes_not, err_faults, ok_meets}

@@ -15,9 +15,8 @@ use wire::Place;
 
 impl Segment {
     ghost use Rattle.std.specs.Arc.{arc_value};
-    ghost use Rattle.volume_model.specs.Answer.{AnswersNew};
-    ghost use Rattle.volume_model.specs.Node.{restarted};
-    ghost use Rattle.plan.specs.CheckedModel.{checked_model};
+    ghost use Rattle.volume_model.specs.Common.{AnswersNew, restarted};
+    ghost use Rattle.plan.specs.Common.{checked_model};
     ghost use Rattle.segment_core.specs.Segment.{node_of, segment_plan, segment_group, segment_member, IsSameActor, IsSegmentOf};
     ghost use Rattle.segment_core.specs.Snapshot.{node_in, resumed};
 

@@ -1,5 +1,4 @@
-use Rattle.std.proofs.Common.{◌≡◌, All, length}
-use Rattle.std.specs.Prelude.{None}
+use Rattle.std.proofs.Common.{◌≡◌, All, length, None}
 use Rattle.cert_search.proofs.filling.empty_places.Given as goal
 
 -- so many places so far, all empty

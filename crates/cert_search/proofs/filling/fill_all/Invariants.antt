@@ -1,5 +1,5 @@
 use Rattle.std.proofs.Common.{ℕ, List, All, vec_len}
-use Rattle.plan.specs.PlanClaims.{PlacedClaim}
+use Rattle.plan.specs.Common.{PlacedClaim}
 use Rattle.cert_search.specs.Places.{ArePlaces, IsWork}
 use Rattle.cert_search.proofs.filling.fill_all.Given as goal
 

@@ -1,5 +1,4 @@
-use Rattle.std.proofs.Common.{subst}
-use Rattle.std.specs.Prelude.{IfSome}
+use Rattle.std.proofs.Common.{subst, IfSome}
 use Rattle.std.proofs.lemmas.List.Elements.{All-pop}
 use Rattle.cert_search.specs.Places.{IsFound}
 use Rattle.cert_search.proofs.filling.fill_each.Goals as goal

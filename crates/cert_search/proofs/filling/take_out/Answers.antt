@@ -1,5 +1,4 @@
-use Rattle.std.proofs.Common.{◌≡◌, get_or, sym, subst}
-use Rattle.std.specs.Prelude.{slice_set}
+use Rattle.std.proofs.Common.{◌≡◌, get_or, sym, subst, slice_set}
 use Rattle.cert_search.specs.Places.{ArePlaces}
 use Rattle.cert_search.proofs.Places.{emptied, taken}
 use Rattle.cert_search.proofs.filling.take_out.Goals as goal

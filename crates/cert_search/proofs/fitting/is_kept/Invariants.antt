@@ -1,5 +1,4 @@
-use Rattle.std.proofs.Common.{◌≡◌, drop}
-use Rattle.std.specs.Prelude.{nat_le}
+use Rattle.std.proofs.Common.{◌≡◌, drop, nat_le}
 use Rattle.cert_search.specs.Kept.{length_up_to}
 use Rattle.cert_search.proofs.fitting.is_kept.Given as goal
 

@@ -1,5 +1,4 @@
-use Rattle.std.proofs.Common.{ℕ, ◌∙◌, List, ap, arith, get_or, length, map}
-use Rattle.std.specs.Prelude.{nat_le}
+use Rattle.std.proofs.Common.{ℕ, ◌∙◌, List, ap, arith, get_or, map, nat_le}
 use Rattle.cert_search.specs.Answers.{rule_in}
 use Rattle.cert_search.specs.Kept.{length_up_to}
 use Rattle.cert_search.specs.Lengths.{length_in}

@@ -1,5 +1,4 @@
-use Rattle.std.proofs.Common.{◌≡◌, ◌<◌, ℕ, map, length, set, get_or, true, Some, sym, ap, ◌∙◌, arith, below_more}
-use Rattle.std.specs.Prelude.{slice_get}
+use Rattle.std.proofs.Common.{◌≡◌, ◌<◌, ℕ, map, length, set, get_or, true, Some, sym, ap, ◌∙◌, arith, below_more, slice_get}
 use Rattle.cert_search.specs.declared.deque.DequeView.{DequeView}
 use Rattle.cert_search.specs.NamedViews.{NamedView, handle_named, handle_calm}
 use Rattle.cert_search.proofs.Rows.{map_set, map_len, map_get, set_same, set_other, set_at, all_of}

@@ -1,5 +1,4 @@
-use Rattle.std.proofs.Common.{◌≡◌, ℕ, ◌<◌, map, vec_len, true}
-use Rattle.std.specs.Prelude.{Some, slice_get}
+use Rattle.std.proofs.Common.{◌≡◌, ℕ, ◌<◌, map, vec_len, true, Some, slice_get}
 use Rattle.cert_search.specs.NamedViews.{NamedView, handle_named, handle_calm}
 use Rattle.cert_search.proofs.hand.steal_any.Given as goal
 

@@ -1,8 +1,6 @@
-use Rattle.std.proofs.Common.{◌+◌, ◌-◌, ◌∙◌, refl, ap, map, drop}
+use Rattle.std.proofs.Common.{◌+◌, ◌-◌, ◌∙◌, refl, ap, map, drop, falls}
 use Rattle.std.proofs.Math.Nat.{le_of_lt, le_refl}
-use borrow.Author.Count.{falls}
-use Rattle.refutation.specs.Rule.{branches_of, branch_depth}
-use Rattle.refutation.specs.Refutation.{rule_of}
+use Rattle.refutation.specs.Common.{branches_of, branch_depth, rule_of}
 use Rattle.cert_search.specs.Lengths.{branches_length}
 use Rattle.refutation.proofs.Rules.{depth_step, branch_below, pick_below, match_below, open_below, left_below}
 use Rattle.cert_search.proofs.Rooms.{length_step, all_taken, behind_open, behind_pick, behind_match}

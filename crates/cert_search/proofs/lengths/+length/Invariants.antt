@@ -1,6 +1,5 @@
 use Rattle.std.proofs.Common.{◌≡◌, ◌+◌, ◌-◌, ◌*◌, ◌≤◌, drop, map}
-use Rattle.refutation.specs.Rule.{branches_of, branch_depth, depth_of}
-use Rattle.refutation.specs.Refutation.{rule_of}
+use Rattle.refutation.specs.Common.{branches_of, branch_depth, depth_of, rule_of}
 use Rattle.cert_search.specs.Lengths.{branches_length}
 use Rattle.cert_search.proofs.lengths.+length.Given as goal
 

@@ -1,8 +1,8 @@
 use Rattle.std.proofs.Common.{◌≡◌, subst}
-use Rattle.refutation.specs.Refutation.{rule_of}
+use Rattle.refutation.specs.Common.{rule_of}
 use Rattle.quorum_checker.specs.Claim.{first_state}
 use Rattle.quorum_checker.specs.Refutes.{Refutes}
-use Rattle.quorum_expr.specs.Expr.{formula_of}
+use Rattle.quorum_expr.specs.Common.{formula_of}
 use Rattle.cert_search.specs.Plain.{plain_rule}
 use Rattle.cert_search.proofs.one.plain.Goals as goal
 

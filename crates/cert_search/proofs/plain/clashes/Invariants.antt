@@ -1,5 +1,5 @@
 use Rattle.std.proofs.Common.{◌≡◌, ◌++◌, drop}
-use Rattle.refutation.specs.Forms.{rules_of}
+use Rattle.refutation.specs.Common.{rules_of}
 use Rattle.cert_search.specs.Plain.{clashes}
 use Rattle.cert_search.proofs.plain.clashes.Given as goal
 

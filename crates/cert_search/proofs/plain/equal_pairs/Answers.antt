@@ -1,7 +1,5 @@
-use Rattle.std.proofs.Common.{◌+◌, ◌∷◌, [], ◌++◌, length, drop, ap, ◌∙◌, sym, arith}
-use Rattle.std.proofs.lemmas.List.{length-append}
-use Rattle.quorum_expr.specs.Expr.{formula_of}
-use Rattle.quorum_expr.specs.Forms.{formulas_of}
+use Rattle.std.proofs.Common.{◌+◌, ◌∷◌, [], ◌++◌, length, drop, ap, ◌∙◌, sym, arith, length-append}
+use Rattle.quorum_expr.specs.Common.{formula_of, formulas_of}
 use Rattle.cert_search.specs.Plain.{equal_pairs}
 use Rattle.refutation.proofs.Loop.{next}
 use Rattle.cert_search.proofs.Pairs.{kept, paired}

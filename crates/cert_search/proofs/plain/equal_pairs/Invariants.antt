@@ -1,5 +1,5 @@
 use Rattle.std.proofs.Common.{◌≡◌, ◌≤◌, ◌++◌, drop, length}
-use Rattle.quorum_expr.specs.Forms.{formulas_of}
+use Rattle.quorum_expr.specs.Common.{formulas_of}
 use Rattle.cert_search.specs.Plain.{equal_pairs}
 use Rattle.cert_search.proofs.plain.equal_pairs.Given as goal
 

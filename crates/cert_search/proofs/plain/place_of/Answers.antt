@@ -1,5 +1,5 @@
 use Rattle.std.proofs.Common.{sym}
-use Rattle.quorum_expr.specs.Expr.{formula_of}
+use Rattle.quorum_expr.specs.Common.{formula_of}
 use Rattle.cert_search.specs.Plain.{is_member}
 use Rattle.cert_search.proofs.Pairs.{found_at, not_at}
 use Rattle.cert_search.proofs.plain.place_of.Goals as goal

@@ -1,6 +1,6 @@
 use Rattle.std.proofs.Common.{◌≡◌, drop}
 use Rattle.std.specs.List.{position_from}
-use Rattle.quorum_expr.specs.Forms.{formulas_of}
+use Rattle.quorum_expr.specs.Common.{formulas_of}
 use Rattle.cert_search.specs.Plain.{is_member, place_of}
 use Rattle.cert_search.proofs.plain.place_of.Given as goal
 

@@ -1,7 +1,5 @@
 use Rattle.std.proofs.Common.{◌≡◌, ap, ◌∙◌, sym}
-use Rattle.refutation.specs.Forms.{rules_of}
-use Rattle.refutation.specs.Limits.{is_certificate}
-use Rattle.refutation.specs.Rule.{branches_of, pair_up}
+use Rattle.refutation.specs.Common.{rules_of, is_certificate, branches_of, pair_up}
 use Rattle.cert_search.specs.Plain.{clashes}
 use Rattle.cert_search.proofs.Pairs.{within}
 use Rattle.cert_search.proofs.plain.plain_tree.Goals as goal

@@ -1,4 +1,4 @@
-use Rattle.plan.specs.LentClaims.{all_lent}
+use Rattle.plan.specs.Common.{all_lent}
 use Rattle.cert_search.proofs.searching.answer.Goals as goal
 
 pub returns-in_err-claim_in-in-None-clause-places : goal.returns-in_err-claim_in-in-None-clause-places

@@ -1,8 +1,6 @@
-use Rattle.std.proofs.Common.{◌∷◌, [], length, map, ap, sym, ◌∙◌, arith}
-use Rattle.std.proofs.lemmas.List.{length-append}
-use Rattle.plan.specs.LentClaims.{all_lent}
+use Rattle.std.proofs.Common.{◌∷◌, [], length, map, ap, sym, ◌∙◌, arith, length-append}
+use Rattle.plan.specs.Common.{all_lent, lent_placed}
 use Rattle.std.proofs.lemmas.List.{length-map}
-use Rattle.plan.specs.LentClaims.{lent_placed}
 use Rattle.cert_search.specs.Answers.{rule_in}
 use Rattle.cert_search.proofs.Rows.{map_len, map_push}
 use Rattle.cert_search.proofs.Places.{one_more}

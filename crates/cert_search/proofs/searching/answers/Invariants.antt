@@ -1,5 +1,5 @@
 use Rattle.std.proofs.Common.{◌≡◌, length, map}
-use Rattle.plan.specs.LentClaims.{all_lent}
+use Rattle.plan.specs.Common.{all_lent}
 use Rattle.cert_search.specs.Answers.{rule_in, EachAnswers}
 use Rattle.cert_search.specs.Places.{ArePlaces}
 use Rattle.cert_search.proofs.searching.answers.Given as goal

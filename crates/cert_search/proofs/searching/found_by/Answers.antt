@@ -1,5 +1,5 @@
 use Rattle.std.proofs.Common.{All, sym, subst}
-use Rattle.plan.specs.LentClaims.{all_lent}
+use Rattle.plan.specs.Common.{all_lent}
 use Rattle.cert_search.specs.Places.{IsWork}
 use Rattle.cert_search.specs.Settled.{AreOfDeal, HadOnce, EachHad}
 use Rattle.cert_search.proofs.Ended.{still_dealt, all_had, all_found}

@@ -1,5 +1,5 @@
 use Rattle.std.proofs.Common.{length, arith}
-use Rattle.plan.specs.LentClaims.{all_lent}
+use Rattle.plan.specs.Common.{all_lent}
 use Rattle.cert_search.specs.Settled.{AreOfOneDeal}
 use Rattle.cert_search.proofs.Ended.{dealt_together, deal_at}
 use Rattle.cert_search.proofs.searching.searched.Goals as goal

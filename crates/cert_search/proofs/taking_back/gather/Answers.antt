@@ -1,5 +1,4 @@
-use Rattle.std.proofs.Common.{ap, sym, ◌∙◌, map, suc, arith}
-use Rattle.std.specs.Prelude.{slice_get}
+use Rattle.std.proofs.Common.{ap, sym, ◌∙◌, map, suc, arith, slice_get}
 use Rattle.std.specs.Vec.Iter.{into_iter_items}
 use Rattle.cert_search.specs.NamedViews.{handle_named}
 use Rattle.cert_search.specs.Settled.{taken_back}

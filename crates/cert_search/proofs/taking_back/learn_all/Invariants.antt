@@ -1,5 +1,4 @@
-use Rattle.std.proofs.Common.{◌≡◌, ℕ, ◌<◌, vec_len}
-use Rattle.std.specs.Prelude.{Some, slice_get}
+use Rattle.std.proofs.Common.{◌≡◌, ℕ, ◌<◌, vec_len, Some, slice_get}
 use Rattle.cert_search.specs.declared.deque.DequeView.{DequeView}
 use Rattle.cert_search.specs.Deque.{Settles}
 use Rattle.cert_search.specs.Settled.{own_views}

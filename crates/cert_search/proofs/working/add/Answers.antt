@@ -1,4 +1,4 @@
-use Rattle.plan.specs.LentClaims.{all_lent}
+use Rattle.plan.specs.Common.{all_lent}
 use Rattle.cert_search.specs.Places.{IsFound}
 use Rattle.cert_search.proofs.Places.{added}
 use Rattle.cert_search.proofs.working.add.Goals as goal

@@ -1,5 +1,5 @@
 use Rattle.std.proofs.Common.{All}
-use Rattle.plan.specs.LentClaims.{all_lent}
+use Rattle.plan.specs.Common.{all_lent}
 use Rattle.cert_search.specs.Hands.{SameDeal}
 use Rattle.cert_search.specs.Places.{IsFound}
 use Rattle.cert_search.proofs.working.work.Given as goal

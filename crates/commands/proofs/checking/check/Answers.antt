@@ -1,6 +1,5 @@
 use Rattle.std.proofs.Common.{◌≡◌}
-use Rattle.plan.specs.CheckedModel.{checked_model}
-use Rattle.plan.specs.PlanData.{model_of}
+use Rattle.plan.specs.Common.{checked_model, model_of}
 use Rattle.commands.specs.Answer.{printed}
 use Rattle.commands.specs.Answers.{file_of}
 use Rattle.commands.specs.RunText.{plan_line}

@@ -1,5 +1,5 @@
 use Rattle.std.proofs.Common.{◌≡◌, ◌∙◌, rules, string_bytes, subst, sym}
-use Rattle.plan.specs.Plan.{plan_data}
+use Rattle.plan.specs.Common.{plan_data}
 use Rattle.commands.specs.Explains.{ExplainsTo}
 use Rattle.commands.proofs.ExplainedPlans.{explains_checked, explains_no}
 use Rattle.commands.proofs.explaining.explained_plan.Goals as goal

@@ -1,7 +1,5 @@
 use Rattle.std.proofs.Common.{◌≡◌, ◌∙◌, [], Err, Some, ap, subst}
-use Rattle.plan.specs.Plan.{plan_data}
-use Rattle.plan.specs.PlanFaults.{plan_fault}
-use Rattle.plan.specs.PlanText.{plan_of}
+use Rattle.plan.specs.Common.{plan_data, plan_fault, plan_of}
 use Rattle.commands.specs.Explains.{ExplainsTo}
 use Rattle.commands.specs.Stops.{StopsBy}
 use Rattle.commands.specs.Verdict.{first_fault}

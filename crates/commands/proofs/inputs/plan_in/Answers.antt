@@ -1,6 +1,5 @@
 use Rattle.std.proofs.Common.{◌≡◌, Err, IfErr, IfOk, Ok, subst}
-use Rattle.plan.specs.Plan.{plan_data}
-use Rattle.plan.specs.PlanText.{plan_of}
+use Rattle.plan.specs.Common.{plan_data, plan_of}
 use Rattle.commands.specs.Stops.{StopsBy}
 use Rattle.commands.proofs.inputs.plan_in.Goals as goal
 

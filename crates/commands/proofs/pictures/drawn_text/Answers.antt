@@ -1,7 +1,6 @@
 use Rattle.std.proofs.Common.{◌≡◌, Err, refl}
 use Rattle.std.proofs.lemmas.Result.{IfOk-weaker}
-use Rattle.plan.specs.Plan.{plan_data}
-use Rattle.plan.specs.PlanText.{plan_of}
+use Rattle.plan.specs.Common.{plan_data, plan_of}
 use Rattle.commands.specs.Draws.{DrawsTo}
 use Rattle.commands.specs.Draws.DrawsTo.{faulty, undrawn, drawn}
 use Rattle.commands.proofs.Due.{plan_says, stop_says}

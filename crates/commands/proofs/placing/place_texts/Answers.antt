@@ -1,5 +1,4 @@
-use Rattle.std.proofs.Common.{◌≡◌, ◌⊎◌, inl, inr, List, Option, None, option_map, ap, refl, Bor}
-use Rattle.std.specs.Prelude.{◌≢◌, ℕ}
+use Rattle.std.proofs.Common.{◌≡◌, ◌⊎◌, inl, inr, List, Option, None, option_map, ap, refl, Bor, ◌≢◌, ℕ}
 use Rattle.commands.specs.Places.Reaches.{printed}
 use Rattle.commands.proofs.Placed.{to_file}
 use Rattle.commands.proofs.placing.place_texts.Goals as goal

@@ -1,8 +1,6 @@
 use Rattle.std.proofs.Common.{◌≡◌, List, ℕ, Err, Ok, refl}
 use Rattle.std.proofs.lemmas.Result.{IfOk-weaker}
-use Rattle.plan.specs.Plan.{plan_data}
-use Rattle.plan.specs.PlanData.{PlanData}
-use Rattle.plan.specs.PlanText.{plan_of}
+use Rattle.plan.specs.Common.{plan_data, PlanData, plan_of}
 use Rattle.commands.specs.Answer.{Answer}
 use Rattle.commands.specs.Replaces.{IsEdit, ReplacesTo, replacement_of}
 use Rattle.commands.specs.Replaces.IsEdit.{edited, unedited}

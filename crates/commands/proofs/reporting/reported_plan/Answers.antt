@@ -1,6 +1,5 @@
 use Rattle.std.proofs.Common.{◌≡◌, ◌∙◌, Some, sym}
-use Rattle.plan.specs.Plan.{plan_data}
-use Rattle.plan.specs.PlanFaults.{plan_fault}
+use Rattle.plan.specs.Common.{plan_data, plan_fault}
 use Rattle.commands.proofs.Reported.{only_memory, reports_no, reports_yes}
 use Rattle.commands.proofs.reporting.reported_plan.Goals as goal
 

@@ -1,7 +1,6 @@
 use Rattle.std.proofs.Common.{◌≡◌, ◌∙◌, ◌*◌, ◌-◌, arith}
 use Rattle.std.proofs.lemmas.Result.{IfOk-weaker}
-use Rattle.plan.specs.CheckedModel.{checked_model}
-use Rattle.plan.specs.Sums.{sum_below}
+use Rattle.plan.specs.Common.{checked_model, sum_below}
 use Rattle.commands.proofs.Printing.{same_counts}
 use Rattle.commands.proofs.run_text.checked_line.Goals as goal
 

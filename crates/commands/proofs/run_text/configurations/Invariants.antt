@@ -1,6 +1,5 @@
 use Rattle.std.proofs.Common.{◌≡◌, ◌≤◌, ◌*◌}
-use Rattle.plan.specs.CheckedModel.{checked_model}
-use Rattle.plan.specs.Sums.{sum_below}
+use Rattle.plan.specs.Common.{checked_model, sum_below}
 use Rattle.commands.proofs.run_text.configurations.Given as goal
 
 abbrev pub invariant-loop-group : goal.invariant-loop-group

@@ -1,5 +1,5 @@
 use Rattle.std.specs.Arc.{arc_value}
-use Rattle.plan.specs.CheckedModel.{checked_model}
+use Rattle.plan.specs.Common.{checked_model}
 use Rattle.commands.specs.Answers.{PrintsFleetOf, PrintsScript, file_of, script_name}
 use Rattle.commands.specs.Draws.{printing}
 use Rattle.commands.specs.declared.running.ScriptUse.TheVariants.{Draw}

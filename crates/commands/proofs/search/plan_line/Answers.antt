@@ -1,6 +1,6 @@
 use Rattle.std.proofs.Common.{map, option_map}
-use Rattle.refutation.specs.Certificate.{certificate_rule}
-use Rattle.plan.specs.Written.{rewritten}
+use Rattle.refutation.specs.Common.{certificate_rule}
+use Rattle.plan.specs.Common.{rewritten}
 use Rattle.commands.proofs.Searching.{ok_and}
 use Rattle.commands.proofs.search.plan_line.Goals as goal
 

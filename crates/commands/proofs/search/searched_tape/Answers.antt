@@ -2,14 +2,9 @@ use Rattle.std.proofs.Common.{◌≡◌, ◌∙◌, ap, ap₂, sym, subst, List,
 use Rattle.std.specs.List.{list_any}
 use Rattle.std.specs.declared.alloc.Global.{Global}
 use Rattle.refutation.specs.declared.certificate.Certificate.{Certificate}
-use Rattle.refutation.specs.Certificate.{certificate_rule}
-use Rattle.plan.specs.PlanClaims.{PlacedClaim}
+use Rattle.refutation.specs.Common.{certificate_rule}
+use Rattle.plan.specs.Common.{PlacedClaim, plan_data, PlanData, all_lent, with_certificates, rewritten}
 use Rattle.plan.specs.declared.fault.PlanFault.{PlanFault}
-use Rattle.plan.specs.Plan.{plan_data}
-use Rattle.plan.specs.PlanData.{PlanData}
-use Rattle.plan.specs.LentClaims.{all_lent}
-use Rattle.plan.specs.WithCertificates.{with_certificates}
-use Rattle.plan.specs.Written.{rewritten}
 use Rattle.plan.proofs.Reread.{ok_is}
 use Rattle.cert_search.specs.Answers.{rule_in, AreAnswers, AreAnswersOf}
 use Rattle.commands.specs.Searched.{IsPlanLine}

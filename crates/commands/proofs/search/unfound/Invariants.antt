@@ -1,5 +1,5 @@
 use Rattle.std.proofs.Common.{◌≡◌, ◌++◌, drop, map, string_bytes}
-use Rattle.plan.specs.LentClaims.{all_lent}
+use Rattle.plan.specs.Common.{all_lent}
 use Rattle.commands.specs.Unfound.{unfound_lines}
 use Rattle.cert_search.specs.Answers.{rule_in}
 use Rattle.commands.proofs.search.unfound.Given as goal

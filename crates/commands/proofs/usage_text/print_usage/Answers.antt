@@ -1,11 +1,10 @@
-use Rattle.std.proofs.Common.{[], refl}
+use Rattle.std.proofs.Common.{[], refl, true}
 use Rattle.std.proofs.lemmas.Bool.{both_ways}
 use Rattle.commands.specs.Answer.{line_answer, no_memory, printed}
 use Rattle.commands.proofs.Given.{ends_as}
 use Rattle.commands.specs.UsageText.{AnswersUsage}
 use Rattle.commands.specs.UsageText.AnswersUsage.{asked_for, mistaken, wanting}
 use Rattle.commands.proofs.usage_text.print_usage.Goals as goal
-use Rattle.std.specs.Prelude.{true}
 
 pub returns-in-Ok-clause-given : goal.returns-in-Ok-clause-given
 returns-in-Ok-clause-given g c = record {

@@ -1,7 +1,6 @@
-use Rattle.clap.specs.Words.{found_of, rows_of}
+use Rattle.clap.specs.Words.{found_of, rows_of, Row, Text, subcommand_rows_of}
 use Rattle.clap.specs.declared.parser.matches.ArgMatches.TheViews.{out-ArgMatches}
 use Rattle.std.proofs.Common.{◌≡◌, ◌∙◌, List, Some, subst, sym}
-use Rattle.clap.specs.Words.{Row, Text, subcommand_rows_of}
 use Rattle.commands.specs.Jobs.{NamesPlan, name_of}
 use Rattle.commands.proofs.Entered.{is_entered, same_entered}
 use Rattle.commands.proofs.words.job_of.Goals as goal

@@ -1,6 +1,6 @@
 use Rattle.std.proofs.Common.{Some, ap, eqb, subst, sym, ℕ, ◌≡◌, ◌∙◌}
 use Rattle.std.specs.List.{slice_split}
-use Rattle.redo_record.specs.Payload.{payload_bytes}
+use Rattle.redo_record.specs.Common.{payload_bytes}
 use Rattle.writer_core.specs.Changes.{change_of}
 use Rattle.drivers.specs.Grammar.{change_by, most_offsets}
 use Rattle.drivers.specs.Parts.{first_number, parts_left}

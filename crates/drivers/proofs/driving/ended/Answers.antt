@@ -1,11 +1,10 @@
 -- What a closed fleet leaves follows from its journal.
-use Rattle.std.proofs.Common.{rules, ◌≡◌, ◌+◌, ◌==◌, ◌&&◌, ℕ, not, is_err, length, map, vec_len, refl, sym, ap, subst, ◌∙◌}
+use Rattle.std.proofs.Common.{rules, ◌≡◌, ◌==◌, ◌&&◌, not, is_err, length, vec_len, refl, sym, ap, subst, ◌∙◌}
 use Rattle.std.proofs.lemmas.List.{length-map}
 use Rattle.std.specs.List.{list_any}
 use Rattle.std.specs.Arc.{arc_value}
-use Rattle.volume_model.specs.Journal.{IsRun, events}
-use Rattle.volume_model.specs.World.{opening, results}
-use Rattle.plan.specs.CheckedModel.{checked_model}
+use Rattle.volume_model.specs.Common.{IsRun, events, opening, results}
+use Rattle.plan.specs.Common.{checked_model}
 use Rattle.world.specs.Events.{event_of, events_of}
 use Rattle.world.specs.Outcomes.{KeepsPromises, IsOutcomeOfRun}
 use Rattle.node_fleet.specs.Journals.{entries_in}

@@ -1,5 +1,4 @@
-use Rattle.std.proofs.Common.{◌≡◌, ◌∙◌, arith, sym, length, take}
-use Rattle.std.proofs.lemmas.List.{length-take-le}
+use Rattle.std.proofs.Common.{◌≡◌, ◌∙◌, arith, sym, length, take, length-take-le}
 use Rattle.drivers.specs.Grammar.{changes_in}
 use Rattle.drivers.specs.Words.{words_in}
 use Rattle.drivers.proofs.PlainChanges.{last_one, none_left, one_more}

@@ -1,6 +1,5 @@
 use Rattle.std.proofs.Common.{List, map, ap, sym, ◌∙◌}
-use Rattle.volume_model.specs.Lineage.{newest_with}
-use Rattle.volume_model.specs.Pieces.{KeptPiece}
+use Rattle.volume_model.specs.Common.{newest_with, KeptPiece}
 use Rattle.lineage.specs.Lineage.{lineage_of}
 use Rattle.hydration.proofs.Bringing.{newest-front}
 use Rattle.hydration.proofs.brought.+newest_brought.Goals as goal

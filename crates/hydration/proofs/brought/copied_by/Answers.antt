@@ -1,8 +1,7 @@
-use Rattle.std.proofs.Common.{◌≡◌, ℕ, ◌+◌, drop, ap, sym, subst, ◌∙◌}
-use Rattle.std.specs.Prelude.{◌||◌}
+use Rattle.std.proofs.Common.{◌≡◌, ℕ, ◌+◌, drop, ap, sym, subst, ◌∙◌, ◌||◌}
 use Rattle.std.specs.Ordering.{nat_cmp}
 use Rattle.std.specs.FinSet.{FinSet, contains, contains-empty}
-use Rattle.volume_model.specs.Pieces.{copied_by}
+use Rattle.volume_model.specs.Common.{copied_by}
 use Rattle.hydration.specs.KeptCopies.{all_kept_copies}
 use Rattle.hydration.proofs.Bringing.{copied-more, copied-same}
 use Rattle.hydration.proofs.brought.copied_by.Goals as goal

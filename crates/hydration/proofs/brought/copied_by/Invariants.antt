@@ -1,7 +1,6 @@
-use Rattle.std.proofs.Common.{◌≡◌, ℕ, drop}
-use Rattle.std.specs.Prelude.{◌||◌}
+use Rattle.std.proofs.Common.{◌≡◌, ℕ, drop, ◌||◌}
 use Rattle.std.specs.FinSet.{contains}
-use Rattle.volume_model.specs.Pieces.{copied_by}
+use Rattle.volume_model.specs.Common.{copied_by}
 use Rattle.hydration.specs.KeptCopies.{all_kept_copies}
 use Rattle.hydration.proofs.brought.copied_by.Given as goal
 

@@ -1,5 +1,5 @@
 use Rattle.std.proofs.Common.{◌≡◌, ◌≤◌, length, drop}
-use Rattle.volume_model.specs.Lineage.{newest_with}
+use Rattle.volume_model.specs.Common.{newest_with}
 use Rattle.lineage.specs.Lineage.{lineage_of}
 use Rattle.hydration.specs.KeptCopies.{contents_kept}
 use Rattle.hydration.proofs.brought.newest_of.Given as goal

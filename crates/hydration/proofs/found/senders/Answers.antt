@@ -1,8 +1,7 @@
-use Rattle.std.proofs.Common.{◌≡◌, ℕ, ◌+◌, drop, ap, sym, subst, ◌∙◌}
-use Rattle.std.specs.Prelude.{◌||◌}
+use Rattle.std.proofs.Common.{◌≡◌, ℕ, ◌+◌, drop, ap, sym, subst, ◌∙◌, ◌||◌}
 use Rattle.std.specs.Ordering.{nat_cmp}
 use Rattle.std.specs.FinSet.{contains, contains-empty}
-use Rattle.volume_model.specs.Node.{senders}
+use Rattle.volume_model.specs.Common.{senders}
 use Rattle.hydration.specs.Copies.{copies_in}
 use Rattle.hydration.proofs.CopiesMore.{senders-more}
 use Rattle.hydration.proofs.found.senders.Goals as goal

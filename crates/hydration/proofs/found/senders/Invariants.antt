@@ -1,7 +1,6 @@
-use Rattle.std.proofs.Common.{◌≡◌, ℕ, drop}
-use Rattle.std.specs.Prelude.{◌||◌}
+use Rattle.std.proofs.Common.{◌≡◌, ℕ, drop, ◌||◌}
 use Rattle.std.specs.FinSet.{contains}
-use Rattle.volume_model.specs.Node.{senders}
+use Rattle.volume_model.specs.Common.{senders}
 use Rattle.hydration.specs.Copies.{copies_in}
 use Rattle.hydration.proofs.found.senders.Given as goal
 

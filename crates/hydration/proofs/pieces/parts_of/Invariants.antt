@@ -1,5 +1,5 @@
 use Rattle.std.proofs.Common.{◌≡◌, map, take}
-use Rattle.redo_record.specs.RecordSet.{records_of}
+use Rattle.redo_record.specs.Common.{records_of}
 use Rattle.hydration.specs.Kept.{sets_kept}
 use Rattle.hydration.proofs.pieces.parts_of.Given as goal
 

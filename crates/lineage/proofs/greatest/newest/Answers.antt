@@ -1,6 +1,6 @@
 use Rattle.std.proofs.Common.{◌≡◌, ◌∙◌, ◌+◌, ◌<◌, ℕ, List, get_or, length, subst, sym, ap, arith}
 use Rattle.std.proofs.lemmas.List.{get_or-map}
-use Rattle.volume_model.specs.Lineage.{last_epoch}
+use Rattle.volume_model.specs.Common.{last_epoch}
 use Rattle.lineage.specs.declared.lineage.Lineage.{Lineage}
 use Rattle.lineage.specs.Lineage.{lineage_of}
 use Rattle.lineage.specs.Newest.{last_epochs}

@@ -1,9 +1,7 @@
 use Rattle.std.proofs.Common.{◌≡◌, ◌<◌, ◌-◌, ◌∙◌, true, List, length, map, get_or, ap, ap₂, sym, subst, arith}
 use Rattle.std.proofs.lemmas.List.{get_or-map, length-map}
-use Rattle.volume_model.specs.Lineage.{is_live}
-use Rattle.volume_model.specs.Lists.{IsIn}
-use Rattle.volume_model.specs.Redo.{Redo}
-use Rattle.redo_record.specs.SharedRecord.{shared_redo}
+use Rattle.volume_model.specs.Common.{is_live, IsIn, Redo}
+use Rattle.redo_record.specs.Common.{shared_redo}
 use Rattle.redo_record.specs.declared.shared_record.SharedRecord.{SharedRecord}
 use Rattle.redo_record.proofs.Places.{IsIn-get_or}
 use Rattle.lineage.specs.Lineage.{lineage_of}

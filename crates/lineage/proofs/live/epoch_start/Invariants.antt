@@ -1,5 +1,5 @@
 use Rattle.std.proofs.Common.{◌<◌, map}
-use Rattle.redo_record.specs.SharedRecord.{shared_redo}
+use Rattle.redo_record.specs.Common.{shared_redo}
 use Rattle.lineage.proofs.LiveRecords.{AreOfEpoch}
 use Rattle.lineage.proofs.live.epoch_start.Given as goal
 

@@ -1,5 +1,4 @@
-use Rattle.std.proofs.Common.{◌≡◌, ◌∷◌, ◌∙◌, false, min, sym, ap, subst}
-use Rattle.std.specs.Prelude.{◌&&◌, nat_lt, nat_le}
+use Rattle.std.proofs.Common.{◌≡◌, ◌∷◌, ◌∙◌, false, min, sym, ap, subst, ◌&&◌, nat_lt, nat_le}
 use Rattle.std.proofs.lemmas.Bool.{le-leb, lt-leb}
 use Rattle.volume_model.specs.Lineage as model
 use Rattle.lineage.specs.Entries.{entries_from, entries_left, entry_of}

@@ -1,7 +1,7 @@
 use Rattle.std.proofs.Common.{◌≡◌, ◌<◌, ◌-◌, ◌∙◌, List, true, length, map, ap, ap₂, sym, arith}
 use Rattle.std.proofs.lemmas.List.{get_or-map, length-map}
-use Rattle.volume_model.specs.Lineage.{is_live}
-use Rattle.redo_record.specs.SharedRecord.{shared_redo}
+use Rattle.volume_model.specs.Common.{is_live}
+use Rattle.redo_record.specs.Common.{shared_redo}
 use Rattle.redo_record.specs.declared.shared_record.SharedRecord.{SharedRecord}
 use Rattle.lineage.specs.Lineage.{lineage_of}
 use Rattle.lineage.proofs.LiveRecords.{parts-record}

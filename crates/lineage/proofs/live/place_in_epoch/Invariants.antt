@@ -1,5 +1,5 @@
 use Rattle.std.proofs.Common.{◌≤◌, length, map}
-use Rattle.redo_record.specs.SharedRecord.{shared_redo}
+use Rattle.redo_record.specs.Common.{shared_redo}
 use Rattle.lineage.specs.Lineage.{lineage_of}
 use Rattle.lineage.specs.Live.{Parts}
 use Rattle.lineage.specs.Walk.{Walks}

@@ -1,8 +1,6 @@
 use Rattle.std.proofs.Common.{◌≡◌, ◌-◌, ◌∙◌, List, length, ap, sym, subst, arith}
 use Rattle.std.proofs.lemmas.List.{length-map}
-use Rattle.redo_record.specs.Order.{IsInOrder}
-use Rattle.redo_record.specs.Run.{run_records}
-use Rattle.redo_record.specs.SharedRecord.{shared_redo}
+use Rattle.redo_record.specs.Common.{IsInOrder, run_records, shared_redo}
 use Rattle.redo_record.specs.declared.run.Run.{Run}
 use Rattle.lineage.specs.Lineage.{lineage_of}
 use Rattle.lineage.proofs.LiveRecords.{in_order-run, parts-run_dead, parts-run_live, run-before}

@@ -1,6 +1,5 @@
 use Rattle.std.proofs.Common.{◌≡◌, ◌≤◌, length, take}
-use Rattle.redo_record.specs.Joined.{joined}
-use Rattle.redo_record.specs.Run.{runs_in}
+use Rattle.redo_record.specs.Common.{joined, runs_in}
 use Rattle.lineage.specs.Lineage.{lineage_of}
 use Rattle.lineage.specs.Live.{Parts}
 use Rattle.lineage.specs.Walk.{Walks}

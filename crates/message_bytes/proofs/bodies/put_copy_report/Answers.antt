@@ -1,7 +1,7 @@
 use Rattle.std.proofs.Common.{ℕ, ◌<◌, ◌^◌, List, [], ◌∷◌, ◌++◌, ap, subst, ◌∙◌}
 use Rattle.std.specs.Int.{w32, w64, to_be_bytes}
 use Rattle.wire.specs.declared.message.CopyPart.{CopyPart}
-use Rattle.wire.specs.Contents.{contents_of, piece_in}
+use Rattle.wire.specs.Common.{contents_of, piece_in}
 use Rattle.message_bytes.specs.Spelling.{piece_spelled, contents_spelled}
 use Rattle.message_bytes.proofs.Again.{copied}
 use Rattle.message_bytes.proofs.Back.{AreBack, copy_report_back}

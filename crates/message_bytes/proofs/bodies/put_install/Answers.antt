@@ -1,7 +1,6 @@
 use Rattle.std.proofs.Common.{ℕ, List, ◌++◌, ap, subst, ◌∙◌}
 use Rattle.wire.specs.declared.contents.Contents.{Contents}
-use Rattle.wire.specs.Contents.{contents_of, piece_in}
-use Rattle.wire.specs.Message.{label_of}
+use Rattle.wire.specs.Common.{contents_of, piece_in, label_of}
 use Rattle.message_bytes.specs.Spelling.{labelled_spelled, piece_spelled, contents_spelled}
 use Rattle.message_bytes.proofs.Again.{three}
 use Rattle.message_bytes.proofs.Back.{AreBack, install_back}

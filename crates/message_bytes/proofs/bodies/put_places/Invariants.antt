@@ -1,5 +1,5 @@
 use Rattle.std.proofs.Common.{◌≡◌, ◌++◌, take, map}
-use Rattle.wire.specs.Message.{place_of}
+use Rattle.wire.specs.Common.{place_of}
 use Rattle.message_bytes.specs.Spelling.{places_spelled, ArePlaces}
 use Rattle.message_bytes.proofs.bodies.put_places.Given as goal
 

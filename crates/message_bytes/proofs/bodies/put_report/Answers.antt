@@ -1,8 +1,7 @@
 use Rattle.std.proofs.Common.{ℕ, List, [], ◌∷◌, ◌++◌, ap, subst, ◌∙◌}
 use Rattle.std.specs.Arc.{arc_value}
 use Rattle.wire.specs.declared.contents.Contents.{Contents}
-use Rattle.wire.specs.Contents.{contents_of}
-use Rattle.wire.specs.Message.{label_of}
+use Rattle.wire.specs.Common.{contents_of, label_of}
 use Rattle.message_bytes.specs.Spelling.{labelled_spelled, contents_spelled}
 use Rattle.message_bytes.proofs.Again.{three}
 use Rattle.message_bytes.proofs.Back.{AreBack, report_back}

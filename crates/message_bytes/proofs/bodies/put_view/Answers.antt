@@ -1,8 +1,7 @@
-use Rattle.std.proofs.Common.{◌≡◌, ◌<◌, ◌^◌, List, Vec, length, map, ap, subst, ◌∙◌, arith}
-use Rattle.std.specs.Global.{Global}
+use Rattle.std.proofs.Common.{◌≡◌, ◌<◌, ◌^◌, List, Vec, length, map, ap, subst, ◌∙◌, arith, Global}
 use Rattle.std.proofs.lemmas.List.{length-map}
 use Rattle.wire.specs.declared.label.Place.{Place}
-use Rattle.wire.specs.Message.{place_of}
+use Rattle.wire.specs.Common.{place_of}
 use Rattle.message_bytes.specs.Spelling.{ArePlaces}
 use Rattle.message_bytes.proofs.Back.{view_back}
 use Rattle.message_bytes.proofs.bodies.put_view.Goals as goal

@@ -1,9 +1,7 @@
 use Rattle.std.proofs.Common.{◌∙◌, ◌-◌, ◌<◌, ◌∷◌, [], List, length, sym, ap, arith, refl}
 use Rattle.std.proofs.lemmas.Option.{slice_get_within, get_or_from_slice_get}
-use Rattle.volume_model.specs.Redo.{Redo, spelling, numbers_before}
-use Rattle.redo_record.specs.Order.{IsInOrder}
-use Rattle.redo_record.specs.RecordSet.{records_of}
-use Rattle.redo_record.specs.SharedRecord.{shared_redo}
+use Rattle.volume_model.specs.Common.{Redo, spelling, numbers_before}
+use Rattle.redo_record.specs.Common.{IsInOrder, records_of, shared_redo}
 use Rattle.redo_record.proofs.Places.{before_from}
 use Rattle.redo_record.proofs.Rows.{row-in_order}
 use Rattle.message_bytes.proofs.Next.{next-last}

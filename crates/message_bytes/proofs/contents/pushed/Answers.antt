@@ -1,6 +1,5 @@
 use Rattle.std.proofs.Common.{[], ◌∷◌, ◌++◌, refl}
-use Rattle.redo_record.specs.RecordSet.{records_of}
-use Rattle.redo_record.specs.SharedRecord.{shared_redo}
+use Rattle.redo_record.specs.Common.{records_of, shared_redo}
 use Rattle.redo_record.proofs.Merging.{merged-after}
 use Rattle.message_bytes.proofs.contents.pushed.Goals as goal
 

@@ -1,8 +1,7 @@
 use Rattle.std.proofs.Common.{◌∙◌, [], List, Ok, ap, sym}
 use Rattle.std.proofs.lemmas.Result.{err_from_is_err_and}
-use Rattle.volume_model.specs.Redo.{Redo}
-use Rattle.redo_record.specs.SharedRecord.{shared_redo}
-use Rattle.redo_record.specs.RecordSet.{records_of}
+use Rattle.volume_model.specs.Common.{Redo}
+use Rattle.redo_record.specs.Common.{shared_redo, records_of}
 use Rattle.message_bytes.specs.Contents.{records_at}
 use Rattle.message_bytes.proofs.Loop.{records, read-on, read-short, read-bad, read-done}
 use Rattle.message_bytes.proofs.contents.read_records.Goals as goal

@@ -1,8 +1,8 @@
 use Rattle.std.proofs.Common.{◌≡◌, ℕ, List, Result, Ok, Err, IfOk, arith}
-use Rattle.volume_model.specs.Answer.{Gives}
+use Rattle.volume_model.specs.Common.{Gives}
 use Rattle.volume_model.specs.declared.fault.Fault.{Fault}
 use Rattle.wire.specs.declared.message.Message.{Message}
-use Rattle.wire.specs.Message.{message_of}
+use Rattle.wire.specs.Common.{message_of}
 use Rattle.message_bytes.specs.Reading.{message_in}
 use Rattle.message_bytes.specs.Spelling.{message_spelled}
 use Rattle.message_bytes.proofs.Fields.{IsBytes}

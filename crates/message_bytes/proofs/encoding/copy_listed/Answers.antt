@@ -1,5 +1,5 @@
 use Rattle.std.proofs.Common.{◌≡◌, ◌+◌, ◌++◌, ℕ, List, length, drop, ap, ◌∙◌, arith}
-use Rattle.wire.specs.Message.{message_of}
+use Rattle.wire.specs.Common.{message_of}
 use Rattle.message_bytes.specs.Spelling.{message_spelled}
 use Rattle.message_bytes.proofs.Filled.{filled}
 use Rattle.message_bytes.proofs.encoding.copy_listed.Goals as goal

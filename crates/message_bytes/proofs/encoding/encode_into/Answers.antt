@@ -1,6 +1,5 @@
-use Rattle.std.proofs.Common.{◌≡◌, ◌≤◌, ◌++◌, length, drop, take, sym, ap, ◌∙◌, arith}
-use Rattle.std.proofs.lemmas.List.{take_all, take_at}
-use Rattle.wire.specs.Message.{message_of}
+use Rattle.std.proofs.Common.{◌≡◌, ◌≤◌, ◌++◌, length, drop, take, sym, ap, ◌∙◌, arith, take_all, take_at}
+use Rattle.wire.specs.Common.{message_of}
 use Rattle.message_bytes.specs.Reading.{message_in}
 use Rattle.message_bytes.specs.Spelling.{message_spelled}
 use Rattle.message_bytes.proofs.Back.{message_again}

@@ -1,4 +1,4 @@
-use Rattle.wire.specs.Message.{label_of}
+use Rattle.wire.specs.Common.{label_of}
 use Rattle.message_bytes.proofs.Back.{fence_back}
 use Rattle.message_bytes.proofs.fixed.write_fence.Goals as goal
 

@@ -1,6 +1,6 @@
 use Rattle.std.proofs.Common.{◌≡◌, ◌<◌, ◌^◌, length, subst}
 use Rattle.wire.specs.declared.message.Image.{Image}
-use Rattle.wire.specs.Message.{label_of}
+use Rattle.wire.specs.Common.{label_of}
 use Rattle.message_bytes.proofs.Back.{page_back}
 use Rattle.message_bytes.proofs.fixed.write_page.Goals as goal
 

@@ -1,4 +1,4 @@
-use Rattle.wire.specs.Message.{label_of}
+use Rattle.wire.specs.Common.{label_of}
 use Rattle.message_bytes.proofs.Back.{page_ask_back}
 use Rattle.message_bytes.proofs.fixed.write_page_ask.Goals as goal
 

@@ -1,4 +1,4 @@
-use Rattle.wire.specs.Message.{place_of}
+use Rattle.wire.specs.Common.{place_of}
 use Rattle.message_bytes.proofs.Back.{step_back}
 use Rattle.message_bytes.proofs.fixed.write_step.Goals as goal
 

@@ -1,5 +1,5 @@
-use Rattle.redo_record.specs.SharedRecord.{shared_redo}
-use Rattle.wire.specs.Message.{label_of}
+use Rattle.redo_record.specs.Common.{shared_redo}
+use Rattle.wire.specs.Common.{label_of}
 use Rattle.message_bytes.proofs.Back.{write_back}
 use Rattle.message_bytes.proofs.fixed.write_write.Goals as goal
 

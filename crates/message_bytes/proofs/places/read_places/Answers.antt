@@ -1,7 +1,7 @@
 use Rattle.std.proofs.Common.{[], ◌∷◌, Ok, map, ap, sym, ◌∙◌}
 use Rattle.std.proofs.lemmas.List.{map-append}
 use Rattle.std.proofs.lemmas.Result.{err_from_is_err_and}
-use Rattle.wire.specs.Message.{place_of}
+use Rattle.wire.specs.Common.{place_of}
 use Rattle.message_bytes.specs.Reading.{places_at}
 use Rattle.message_bytes.proofs.Loop.{places, read-on, read-short, read-done}
 use Rattle.message_bytes.proofs.places.read_places.Goals as goal

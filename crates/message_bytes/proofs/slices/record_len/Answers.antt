@@ -1,6 +1,6 @@
 use Rattle.std.proofs.Common.{length, ap, arith}
-use Rattle.volume_model.specs.Redo.{Redo}
-use Rattle.redo_record.specs.SharedRecord.{shared_redo}
+use Rattle.volume_model.specs.Common.{Redo}
+use Rattle.redo_record.specs.Common.{shared_redo}
 use Rattle.redo_record.proofs.Again.{length-spelled}
 use Rattle.message_bytes.proofs.slices.record_len.Goals as goal
 

@@ -1,4 +1,4 @@
-use Rattle.wire.specs.Contents.{contents_of}
+use Rattle.wire.specs.Common.{contents_of}
 use Rattle.message_bytes.proofs.Again.{contents_again}
 use Rattle.message_bytes.proofs.writing.put_contents_head.Goals as goal
 

@@ -1,5 +1,5 @@
 use Rattle.std.proofs.Common.{◌<◌, ◌^◌, length, arith}
-use Rattle.redo_record.specs.RecordSet.{records_of}
+use Rattle.redo_record.specs.Common.{records_of}
 use Rattle.message_bytes.proofs.Again.{set_again}
 use Rattle.message_bytes.proofs.writing.put_count.Goals as goal
 

@@ -1,6 +1,5 @@
 use Rattle.std.proofs.Common.{length}
-use Rattle.redo_record.specs.Records.{left_of}
-use Rattle.redo_record.specs.RecordSet.{records_of}
+use Rattle.redo_record.specs.Common.{left_of, records_of}
 use Rattle.message_bytes.specs.Spelling.{AreReadBack}
 use Rattle.message_bytes.proofs.writing.read_back.Given as goal
 

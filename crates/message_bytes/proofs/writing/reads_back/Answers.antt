@@ -1,6 +1,5 @@
 use Rattle.std.proofs.Common.{List, ℕ, length, subst, arith}
-use Rattle.redo_record.specs.Payload.{HasRoom}
-use Rattle.redo_record.specs.Record.{redo_of}
+use Rattle.redo_record.specs.Common.{HasRoom, redo_of}
 use Rattle.redo_record.proofs.Again.{decoded-spelled}
 use Rattle.redo_record.proofs.KeptRanges.{redo_of-ranges}
 use Rattle.message_bytes.proofs.writing.reads_back.Goals as goal

@@ -1,9 +1,6 @@
-use Rattle.std.proofs.Common.{◌≡◌, ◌∙◌, ◌+◌, ◌<◌, ◌++◌, ◌∷◌, List, [], ℕ, length, take, ap, sym, arith, rules}
-use Rattle.std.proofs.lemmas.List.{append-nil}
-use Rattle.volume_model.specs.Redo.{Redo}
-use Rattle.redo_record.specs.Records.{left_of}
-use Rattle.redo_record.specs.SharedRecord.{shared_redo}
-use Rattle.redo_record.specs.Spelling.{spelled}
+use Rattle.std.proofs.Common.{◌≡◌, ◌∙◌, ◌+◌, ◌<◌, ◌++◌, ◌∷◌, List, [], ℕ, length, take, ap, sym, arith, rules, append-nil}
+use Rattle.volume_model.specs.Common.{Redo}
+use Rattle.redo_record.specs.Common.{left_of, shared_redo, spelled}
 use Rattle.redo_record.proofs.Again.{length-spelled}
 use Rattle.message_bytes.specs.Spelling.{records_spelled}
 use Rattle.message_bytes.proofs.Again.{drop-further}

@@ -1,5 +1,5 @@
 use Rattle.std.proofs.Common.{◌≡◌, ◌≤◌, take, drop, length}
-use Rattle.redo_record.specs.Records.{left_of}
+use Rattle.redo_record.specs.Common.{left_of}
 use Rattle.message_bytes.specs.Spelling.{records_spelled}
 use Rattle.message_bytes.proofs.writing.write_records.Given as goal
 

@@ -1,5 +1,5 @@
 use Rattle.std.proofs.Common.{Option}
-use Rattle.volume_model.specs.Client.{ClientAnswer}
+use Rattle.volume_model.specs.Common.{ClientAnswer}
 use Rattle.volume_model.specs.Message as model
 use Rattle.writer_core.specs.Writers.{answered}
 use Rattle.world.specs.Clients.{client_plan, client_volume, seen_client}

@@ -1,7 +1,6 @@
-use Rattle.std.proofs.Common.{◌++◌, [], ◌∷◌, List, Option, length, map, All, refl, sym, ap, ◌∙◌, subst, arith}
-use Rattle.std.specs.Prelude.{sum_by}
+use Rattle.std.proofs.Common.{◌++◌, [], ◌∷◌, List, Option, length, map, All, refl, sym, ap, ◌∙◌, subst, arith, sum_by}
 use Rattle.std.proofs.lemmas.List.Sums.{sum_by-append}
-use Rattle.volume_model.specs.Judging.{IsRefused}
+use Rattle.volume_model.specs.Common.{IsRefused}
 use Rattle.volume_model.specs.Journal.{Entry}
 use Rattle.atomic_table.specs.Seated.{TableId}
 use Rattle.board.specs.Seats.{returned, AreReturnedTo}

@@ -1,6 +1,5 @@
-use Rattle.std.proofs.Common.{◌≡◌, ◌+◌, ◌++◌, ℕ, length, map, vec_len, All}
-use Rattle.std.specs.Prelude.{sum_by}
-use Rattle.volume_model.specs.Judging.{IsRefused}
+use Rattle.std.proofs.Common.{◌≡◌, ◌+◌, ◌++◌, ℕ, length, map, vec_len, All, sum_by}
+use Rattle.volume_model.specs.Common.{IsRefused}
 use Rattle.board.specs.Seats.{returned, AreReturnedTo}
 use Rattle.node_fleet.specs.Mails.{back_at, steps_at, AreBack, Has}
 use Rattle.node_fleet.specs.declared.mailbox.Mailbox.{Mailbox}

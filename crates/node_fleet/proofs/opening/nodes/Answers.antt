@@ -1,8 +1,7 @@
 use Rattle.std.proofs.Common.{◌≡◌, ◌*◌, ℕ, length, sym, ap, ◌∙◌, subst, rules}
 use Rattle.std.specs.Arc.{arc_value}
-use Rattle.volume_model.specs.Plan.{Plan}
-use Rattle.plan.specs.CheckedModel.{checked_model}
-use Rattle.plan.specs.Plan.{plan_data}
+use Rattle.volume_model.specs.Common.{Plan}
+use Rattle.plan.specs.Common.{checked_model, plan_data}
 use Rattle.plan.specs.declared.checked.CheckedPlan.{CheckedPlan}
 use Rattle.world.proofs.Low.{is_low}
 use Rattle.world.proofs.Steps.{LowFor}

@@ -1,6 +1,5 @@
-use Rattle.std.proofs.Common.{subst}
+use Rattle.std.proofs.Common.{subst, falls}
 use Rattle.std.proofs.Math.Nat.{le_of_lt}
-use borrow.Author.Count.{falls}
 use Rattle.refutation.proofs.Rules.{branch_below, pick_below, match_below, open_below, left_below, right_below}
 use Rattle.plan.specs.Puts.{Puts}
 use Rattle.plan.specs.Rules.{rule_data}

@@ -1,6 +1,5 @@
 use Rattle.std.proofs.Common.{◌+◌, ◌*◌, map, take}
-use Rattle.refutation.specs.Rule.{branches_of, branch_depth, depth_of}
-use Rattle.refutation.specs.Refutation.{rule_of}
+use Rattle.refutation.specs.Common.{branches_of, branch_depth, depth_of, rule_of}
 use Rattle.plan.specs.Puts.{Lists}
 use Rattle.plan.specs.Rules.{rule_data}
 use Rattle.plan.proofs.certificates.+put.Given as goal

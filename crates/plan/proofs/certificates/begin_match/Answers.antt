@@ -1,6 +1,6 @@
 use Rattle.std.proofs.Common.{subst, codes}
 use Rattle.serde_json.specs.Data.{array}
-use Rattle.refutation.specs.Writing.{number_data, pairs_data}
+use Rattle.refutation.specs.Common.{number_data, pairs_data}
 use Rattle.plan.specs.Puts.{PutsMember}
 use Rattle.plan.proofs.PutRules.{match_opens, with_value, with_key}
 use Rattle.plan.proofs.Putting.{then_put}

@@ -1,5 +1,5 @@
 use Rattle.std.proofs.Common.{subst, codes}
-use Rattle.refutation.specs.Writing.{number_data}
+use Rattle.refutation.specs.Common.{number_data}
 use Rattle.plan.specs.Puts.{PutsMember}
 use Rattle.plan.proofs.PutRules.{items_open}
 use Rattle.plan.proofs.Putting.{then_put, closed}

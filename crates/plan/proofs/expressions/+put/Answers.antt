@@ -1,7 +1,6 @@
-use Rattle.std.proofs.Common.{refl}
-use Rattle.std.specs.Prelude.{codes}
+use Rattle.std.proofs.Common.{refl, codes}
 use Rattle.serde_json.specs.Data.{no_members, member}
-use Rattle.quorum_expr.specs.Tapes.{data_of}
+use Rattle.quorum_expr.specs.Common.{data_of}
 use Rattle.plan.proofs.Copied.{one_copied, ended}
 use Rattle.plan.proofs.Putting.{then_put, opened, one_more}
 use Rattle.plan.proofs.expressions.+put.Goals as goal

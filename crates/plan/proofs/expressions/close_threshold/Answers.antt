@@ -1,11 +1,10 @@
-use Rattle.std.proofs.Common.{◌≡◌, ◌∙◌, ap, sym, subst, Some, arith}
-use Rattle.quorum_expr.specs.Tapes.{data_of}
+use Rattle.std.proofs.Common.{◌≡◌, ◌∙◌, ap, sym, subst, Some, arith, OnSome}
+use Rattle.quorum_expr.specs.Common.{data_of}
 use Rattle.quorum_expr.proofs.Sorted.{here_in_order}
 use Rattle.plan.specs.Known.{EndsThreshold}
 use Rattle.plan.specs.Puts.{Puts}
 use Rattle.plan.proofs.Known.{two_keys, known-two}
 use Rattle.plan.proofs.Putting.{then_put, closed}
-use Rattle.std.specs.Prelude.{OnSome}
 use Rattle.plan.proofs.expressions.close_threshold.Goals as goal
 
 pub returns-then-keys-eq3 : goal.returns-then-keys-eq3

@@ -1,6 +1,5 @@
-use Rattle.std.proofs.Common.{sym, subst, refl}
-use Rattle.std.specs.Prelude.{codes}
-use Rattle.quorum_expr.specs.Tapes.{data_of}
+use Rattle.std.proofs.Common.{sym, subst, refl, codes}
+use Rattle.quorum_expr.specs.Common.{data_of}
 use Rattle.quorum_expr.proofs.Sorted.{here_in_order}
 use Rattle.plan.specs.Puts.{Puts}
 use Rattle.plan.proofs.Known.{two_keys, three_keys, known-three}

@@ -1,8 +1,6 @@
-use Rattle.std.proofs.Common.{◌≡◌, subst}
-use Rattle.std.specs.Prelude.{MatchOption}
+use Rattle.std.proofs.Common.{◌≡◌, subst, MatchOption}
 use Rattle.serde_json.specs.Data.{no_items, item}
-use Rattle.quorum_expr.specs.Placed.{items_at, or_none}
-use Rattle.quorum_expr.specs.Tapes.{data_of}
+use Rattle.quorum_expr.specs.Common.{items_at, or_none, data_of}
 use Rattle.plan.proofs.Copied.{begun, one_copied, ended}
 use Rattle.plan.proofs.Putting.{then_put}
 use Rattle.plan.proofs.expressions.put_wholes.Goals as goal

@@ -1,6 +1,5 @@
 use Rattle.serde_json.specs.Events.{items_len}
-use Rattle.quorum_expr.specs.Placed.{items_at, or_none}
-use Rattle.quorum_expr.specs.Tapes.{data_of}
+use Rattle.quorum_expr.specs.Common.{items_at, or_none, data_of}
 use Rattle.plan.proofs.Copied.{Copies}
 use Rattle.plan.proofs.expressions.put_wholes.Given as goal
 

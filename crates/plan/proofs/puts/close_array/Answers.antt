@@ -1,5 +1,4 @@
-use Rattle.std.proofs.Common.{subst, sym}
-use Rattle.std.specs.Prelude.{OnSome}
+use Rattle.std.proofs.Common.{subst, sym, OnSome}
 use Rattle.json.specs.Token as token
 use Rattle.plan.specs.Puts.{PutsToken}
 use Rattle.plan.proofs.Putting.{token_put}

@@ -1,5 +1,4 @@
-use Rattle.std.proofs.Common.{subst, sym}
-use Rattle.std.specs.Prelude.{OnSome}
+use Rattle.std.proofs.Common.{subst, sym, OnSome}
 use Rattle.json.specs.Token as token
 use Rattle.serde_json.specs.Data.{null}
 use Rattle.plan.specs.Puts.{Puts}

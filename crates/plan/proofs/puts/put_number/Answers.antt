@@ -1,10 +1,9 @@
-use Rattle.std.proofs.Common.{subst, sym, decimal, arith}
-use Rattle.std.specs.Prelude.{OnSome}
+use Rattle.std.proofs.Common.{subst, sym, decimal, arith, OnSome}
 use Rattle.json.specs.Print.{IsNumber}
 use Rattle.json.specs.Token as token
 use Rattle.json.specs.Written.{Writes}
 use Rattle.json.proofs.Printed.Decimals.{IsNumber-decimal}
-use Rattle.refutation.specs.Writing.{number_data}
+use Rattle.refutation.specs.Common.{number_data}
 use Rattle.plan.specs.Puts.{Puts}
 use Rattle.plan.proofs.Putting.{value_put, number_put}
 use Rattle.plan.proofs.puts.put_number.Goals as goal

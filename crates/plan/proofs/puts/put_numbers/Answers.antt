@@ -1,5 +1,5 @@
 use Rattle.std.proofs.Common.{arith, subst}
-use Rattle.refutation.specs.Writing.{number_data, numbers_data}
+use Rattle.refutation.specs.Common.{number_data, numbers_data}
 use Rattle.plan.specs.Puts.{Puts}
 use Rattle.plan.proofs.Putting.{then_put, one_of, all_of}
 use Rattle.plan.proofs.Joined.{joined-numbers}

@@ -1,5 +1,5 @@
 use Rattle.std.proofs.Common.{[], ◌∷◌, subst}
-use Rattle.refutation.specs.Writing.{number_data}
+use Rattle.refutation.specs.Common.{number_data}
 use Rattle.plan.specs.Puts.{Puts}
 use Rattle.plan.proofs.Putting.{then_put, listing, one_listed, listed}
 use Rattle.plan.proofs.puts.put_pair.Goals as goal

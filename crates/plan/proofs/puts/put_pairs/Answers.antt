@@ -1,5 +1,5 @@
 use Rattle.std.proofs.Common.{arith}
-use Rattle.refutation.specs.Writing.{pair_data, pairs_data}
+use Rattle.refutation.specs.Common.{pair_data, pairs_data}
 use Rattle.plan.proofs.Putting.{then_put, one_of, all_of}
 use Rattle.plan.proofs.Joined.{joined-pairs}
 use Rattle.plan.proofs.puts.put_pairs.Goals as goal

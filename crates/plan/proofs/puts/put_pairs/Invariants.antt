@@ -1,5 +1,5 @@
 use Rattle.std.proofs.Common.{map, take}
-use Rattle.refutation.specs.Writing.{pair_data}
+use Rattle.refutation.specs.Common.{pair_data}
 use Rattle.plan.specs.Puts.{Lists}
 use Rattle.plan.proofs.puts.put_pairs.Given as goal
 

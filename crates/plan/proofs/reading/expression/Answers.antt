@@ -1,10 +1,8 @@
 use Rattle.std.proofs.Common.{◌≡◌, ◌≢◌, ℕ, Result, Err, refl, ap}
 use Rattle.volume_model.specs.declared.fault.Fault.{Fault}
 use Rattle.volume_model.specs.declared.fault.Fault.TheVariants.{NoMemory}
-use Rattle.volume_model.specs.Answer.{Fails}
-use Rattle.volume_model.specs.Formula.{Formula}
-use Rattle.quorum_expr.specs.Expr.{formula_of}
-use Rattle.quorum_expr.specs.Reading.{expression_in}
+use Rattle.volume_model.specs.Common.{Fails, Formula}
+use Rattle.quorum_expr.specs.Common.{formula_of, expression_in}
 use Rattle.plan.specs.declared.fault.Quorum.{Quorum}
 use Rattle.plan.specs.declared.fault.PlanFault.TheVariants.{Text}
 use Rattle.plan.specs.PlanText.{expression_error, in_quorum}

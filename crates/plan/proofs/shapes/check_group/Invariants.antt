@@ -1,5 +1,4 @@
-use Rattle.std.proofs.Common.{map}
-use Rattle.std.specs.Prelude.{IsOk}
+use Rattle.std.proofs.Common.{map, IsOk}
 use Rattle.plan.specs.Plan.{configuration_data}
 use Rattle.plan.specs.PlanClaims.{claims_below, configuration_claims}
 use Rattle.plan.proofs.shapes.check_group.Given as goal

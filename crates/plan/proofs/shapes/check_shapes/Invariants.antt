@@ -1,5 +1,4 @@
-use Rattle.std.proofs.Common.{map, slice_index_or, []}
-use Rattle.std.specs.Prelude.{IsOk}
+use Rattle.std.proofs.Common.{map, slice_index_or, [], IsOk}
 use Rattle.plan.specs.Plan.{group_data}
 use Rattle.plan.specs.PlanClaims.{claims_below, group_claims}
 use Rattle.plan.proofs.shapes.check_shapes.Given as goal

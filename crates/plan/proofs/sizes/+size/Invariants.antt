@@ -1,7 +1,5 @@
 use Rattle.std.proofs.Common.{◌+◌, ◌*◌, drop, map}
-use Rattle.refutation.specs.Rule.{branches_of, branch_depth, depth_of}
-use Rattle.refutation.specs.Ranges.{EachHasRanges}
-use Rattle.refutation.specs.Refutation.{rule_of}
+use Rattle.refutation.specs.Common.{branches_of, branch_depth, depth_of, EachHasRanges, rule_of}
 use Rattle.plan.proofs.sizes.+size.Given as goal
 
 -- the depth, with a rule above its branches

@@ -1,7 +1,6 @@
-use Rattle.std.proofs.Common.{subst}
-use Rattle.std.specs.Prelude.{option_map}
+use Rattle.std.proofs.Common.{subst, option_map}
 use Rattle.std.proofs.lemmas.List.Elements.{All-more}
-use Rattle.refutation.specs.Certificate.{certificate_rule}
+use Rattle.refutation.specs.Common.{certificate_rule}
 use Rattle.plan.specs.Certificates.{IsReadBack}
 use Rattle.plan.proofs.Rooms.{all_through}
 use Rattle.plan.proofs.sizes.room_for.Goals as goal

@@ -1,6 +1,5 @@
-use Rattle.std.proofs.Common.{take}
-use Rattle.std.specs.Prelude.{All, option_map}
-use Rattle.refutation.specs.Certificate.{certificate_rule}
+use Rattle.std.proofs.Common.{take, All, option_map}
+use Rattle.refutation.specs.Common.{certificate_rule}
 use Rattle.plan.specs.Certificates.{IsReadBack}
 use Rattle.plan.proofs.sizes.room_for.Given as goal
 

@@ -1,7 +1,5 @@
-use Rattle.std.proofs.Common.{subst, sym}
-use Rattle.std.specs.Prelude.{option_map}
-use Rattle.refutation.specs.Ranges.{HasRanges}
-use Rattle.refutation.specs.Certificate.{certificate_rule}
+use Rattle.std.proofs.Common.{subst, sym, option_map}
+use Rattle.refutation.specs.Common.{HasRanges, certificate_rule}
 use Rattle.plan.specs.Certificates.{IsReadBack}
 use Rattle.plan.proofs.Rooms.{none_back, some_back}
 use Rattle.plan.proofs.sizes.with_certificate.Goals as goal

@@ -1,5 +1,5 @@
 use Rattle.std.proofs.lemmas.List.Elements.{All-more}
-use Rattle.refutation.specs.Ranges.{IsPairInRange}
+use Rattle.refutation.specs.Common.{IsPairInRange}
 use Rattle.plan.proofs.Rooms.{all_through}
 use Rattle.plan.proofs.sizes.with_pairs.Goals as goal
 

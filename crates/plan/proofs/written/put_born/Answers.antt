@@ -1,7 +1,6 @@
-use Rattle.std.proofs.Common.{refl, sym, subst}
-use Rattle.std.specs.Prelude.{codes}
+use Rattle.std.proofs.Common.{refl, sym, subst, codes}
 use Rattle.serde_json.specs.Data.{no_members}
-use Rattle.refutation.specs.Writing.{number_data}
+use Rattle.refutation.specs.Common.{number_data}
 use Rattle.plan.specs.Puts.{PutsMember}
 use Rattle.plan.specs.PutPlans.{PutsBorn}
 use Rattle.plan.proofs.Putting.{then_put, one_more}

@@ -1,4 +1,4 @@
-use Rattle.quorum_expr.specs.Tapes.{data_of}
+use Rattle.quorum_expr.specs.Common.{data_of}
 use Rattle.plan.specs.TextForms.{fields_data}
 use Rattle.plan.specs.Certificates.{certificate_values}
 use Rattle.plan.proofs.Made.{made-configuration}

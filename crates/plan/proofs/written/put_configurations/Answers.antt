@@ -1,7 +1,5 @@
 use Rattle.std.proofs.Common.{◌+◌, ◌∙◌, ap, subst, arith}
-use Rattle.quorum_expr.specs.Nodes.{items_in}
-use Rattle.quorum_expr.specs.Placed.{items_at, or_none}
-use Rattle.quorum_expr.specs.Tapes.{data_of}
+use Rattle.quorum_expr.specs.Common.{items_in, items_at, or_none, data_of}
 use Rattle.plan.specs.Rewriting.{configurations_written}
 use Rattle.plan.specs.Certificates.{certificate_values}
 use Rattle.plan.proofs.Copied.{items-array}

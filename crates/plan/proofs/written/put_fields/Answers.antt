@@ -1,7 +1,6 @@
-use Rattle.std.proofs.Common.{refl, subst}
-use Rattle.std.specs.Prelude.{codes}
+use Rattle.std.proofs.Common.{refl, subst, codes}
 use Rattle.serde_json.specs.Data.{no_members}
-use Rattle.quorum_expr.specs.Tapes.{data_of}
+use Rattle.quorum_expr.specs.Common.{data_of}
 use Rattle.plan.specs.Rewriting.{value_or_null, meets_value, step_value}
 use Rattle.plan.specs.TextForms.{fields_data}
 use Rattle.plan.specs.Certificates.{certificate_values}

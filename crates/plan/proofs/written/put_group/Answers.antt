@@ -1,8 +1,6 @@
-use Rattle.std.proofs.Common.{refl}
-use Rattle.std.specs.Prelude.{codes}
+use Rattle.std.proofs.Common.{refl, codes}
 use Rattle.serde_json.specs.Data.{no_members}
-use Rattle.quorum_expr.specs.Nodes.{items_in}
-use Rattle.quorum_expr.specs.Tapes.{data_of}
+use Rattle.quorum_expr.specs.Common.{items_in, data_of}
 use Rattle.plan.specs.Certificates.{certificate_values}
 use Rattle.plan.proofs.Made.{made-whole}
 use Rattle.plan.proofs.Putting.{then_put, opened, one_more, closed}

@@ -1,7 +1,5 @@
 use Rattle.serde_json.specs.Events.{items_len}
-use Rattle.quorum_expr.specs.Nodes.{items_in}
-use Rattle.quorum_expr.specs.Placed.{items_at, or_none}
-use Rattle.quorum_expr.specs.Tapes.{data_of}
+use Rattle.quorum_expr.specs.Common.{items_in, items_at, or_none, data_of}
 use Rattle.plan.specs.Rewriting.{groups_written}
 use Rattle.plan.specs.Certificates.{certificate_values}
 use Rattle.plan.proofs.Made.{Makes}

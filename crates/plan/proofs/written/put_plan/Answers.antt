@@ -1,8 +1,7 @@
-use Rattle.std.proofs.Common.{subst}
-use Rattle.std.specs.Prelude.{codes}
-use Rattle.quorum_expr.specs.Tapes.{data_of}
+use Rattle.std.proofs.Common.{subst, codes}
+use Rattle.quorum_expr.specs.Common.{data_of}
 use Rattle.plan.specs.TextForms.{header_data}
-use Rattle.refutation.specs.Writing.{number_data}
+use Rattle.refutation.specs.Common.{number_data}
 use Rattle.plan.specs.Certificates.{certificate_values}
 use Rattle.plan.specs.Puts.{PutsMember}
 use Rattle.plan.proofs.Made.{made-plan, plan-put}

@@ -1,5 +1,5 @@
 use Rattle.std.proofs.Common.{◌≤◌, length, sym, ◌∙◌, arith}
-use Rattle.plan.specs.Plan.{configuration_data}
+use Rattle.plan.specs.Common.{configuration_data}
 use Rattle.plan_edit.specs.Drafts.{bare, uncertified}
 use Rattle.plan_edit.proofs.Behind.{map-twice, same-done}
 use Rattle.plan_edit.proofs.comparing.are_kept.Goals as goal

@@ -1,6 +1,5 @@
 use Rattle.std.proofs.Common.{◌≡◌, ◌<◌, ℕ, map}
-use Rattle.plan.specs.Plan.{plan_data}
-use Rattle.plan.specs.PlanData.{group_at}
+use Rattle.plan.specs.Common.{plan_data, group_at}
 use Rattle.plan_edit.specs.Drafts.{draft_data, uncertified}
 use Rattle.plan_edit.specs.Edited.{extended}
 use Rattle.plan_edit.proofs.comparing.extends.Given as goal

@@ -1,6 +1,6 @@
 use Rattle.std.proofs.Common.{◌≡◌, ◌≤◌, length, ap, sym, ◌∙◌, arith}
-use Rattle.volume_model.specs.Formula.{at_least}
-use Rattle.quorum_expr.specs.Expr.{formula_of, weighed}
+use Rattle.volume_model.specs.Common.{at_least}
+use Rattle.quorum_expr.specs.Common.{formula_of, weighed}
 use Rattle.quorum_expr.proofs.ExprLaws.{formula_of-KOf}
 use Rattle.quorum_expr.proofs.Weighed.{weighed-done}
 use Rattle.plan_edit.proofs.expressions.+are_same.Goals as goal

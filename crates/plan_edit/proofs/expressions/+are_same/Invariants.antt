@@ -1,5 +1,5 @@
 use Rattle.std.proofs.Common.{◌≡◌, drop}
-use Rattle.quorum_expr.specs.Expr.{formula_of, weighed}
+use Rattle.quorum_expr.specs.Common.{formula_of, weighed}
 use Rattle.plan_edit.proofs.expressions.+are_same.Given as goal
 
 -- if the children that are left are the same, then all are

@@ -1,8 +1,7 @@
-use Rattle.std.proofs.Common.{ap, ◌∙◌, sym, map}
-use Rattle.std.specs.Global.{Global}
-use Rattle.volume_model.specs.Formula.{at_least}
+use Rattle.std.proofs.Common.{ap, ◌∙◌, sym, map, Global}
+use Rattle.volume_model.specs.Common.{at_least}
 use Rattle.quorum_expr.specs.declared.expression.Expr.{Expr}
-use Rattle.quorum_expr.specs.Expr.{formula_of}
+use Rattle.quorum_expr.specs.Common.{formula_of}
 use Rattle.quorum_expr.proofs.ExprLaws.{formula_of-KOf}
 use Rattle.quorum_expr.proofs.Rebuilt.{pushed, finish, given, Ok-same}
 use Rattle.quorum_expr.proofs.Weighed.{seen, weighed-same}

@@ -1,5 +1,5 @@
 use Rattle.std.proofs.Common.{◌≡◌, ◌++◌, drop, map}
-use Rattle.quorum_expr.specs.Expr.{formula_of}
+use Rattle.quorum_expr.specs.Common.{formula_of}
 use Rattle.quorum_expr.proofs.Weighed.{seen}
 use Rattle.plan_edit.specs.Renamed.{renamed}
 use Rattle.plan_edit.proofs.expressions.+renamed.Given as goal

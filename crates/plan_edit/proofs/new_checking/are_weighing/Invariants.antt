@@ -1,5 +1,5 @@
 use Rattle.std.proofs.Common.{◌≡◌, drop}
-use Rattle.quorum_expr.specs.Expr.{formula_of, weighed}
+use Rattle.quorum_expr.specs.Common.{formula_of, weighed}
 use Rattle.plan_edit.specs.NewPlans.{weighing}
 use Rattle.plan_edit.proofs.new_checking.are_weighing.Given as goal
 

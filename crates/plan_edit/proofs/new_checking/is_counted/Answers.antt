@@ -1,6 +1,6 @@
 use Rattle.std.proofs.Common.{ℕ, ap, sym, ◌∙◌}
-use Rattle.volume_model.specs.Formula.{at_least}
-use Rattle.quorum_expr.specs.Expr.{formula_of, weighed}
+use Rattle.volume_model.specs.Common.{at_least}
+use Rattle.quorum_expr.specs.Common.{formula_of, weighed}
 use Rattle.quorum_expr.proofs.ExprLaws.{formula_of-KOf}
 use Rattle.plan_edit.proofs.new_checking.is_counted.Goals as goal
 

@@ -1,8 +1,7 @@
 use Rattle.std.proofs.Common.{◌≡◌, ℕ, true, map, sym, subst, below_more, arith, rules}
 use Rattle.std.proofs.lemmas.Grind.{common_steps}
 use Rattle.std.proofs.lemmas.List.{get_or-map}
-use Rattle.plan.specs.Plan.{configuration_data, plan_data}
-use Rattle.plan.specs.PlanData.{group_at}
+use Rattle.plan.specs.Common.{configuration_data, plan_data, group_at}
 use Rattle.plan_edit.specs.NewPlans.{HasRoot}
 use Rattle.plan_edit.proofs.new_checking.is_wanted.Goals as goal
 

@@ -1,6 +1,5 @@
 use Rattle.std.proofs.Common.{◌<◌, ℕ}
-use Rattle.plan.specs.Plan.{plan_data}
-use Rattle.plan.specs.PlanData.{group_at}
+use Rattle.plan.specs.Common.{plan_data, group_at}
 use Rattle.plan_edit.specs.NewPlans.{HasRoot}
 use Rattle.plan_edit.proofs.new_checking.is_wanted.Given as goal
 

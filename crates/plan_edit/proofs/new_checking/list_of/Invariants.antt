@@ -1,6 +1,6 @@
 use Rattle.std.proofs.Common.{◌≡◌}
 use Rattle.std.specs.FinSet as set
-use Rattle.volume_model.specs.Lists.{each_below}
+use Rattle.volume_model.specs.Common.{each_below}
 use Rattle.plan_edit.proofs.new_checking.list_of.Given as goal
 
 abbrev pub invariant-loop-member : goal.invariant-loop-member

@@ -1,9 +1,7 @@
-use Rattle.std.proofs.Common.{◌<◌, Option, subst, arith}
-use Rattle.std.specs.Prelude.{IfSome}
-use Rattle.std.proofs.lemmas.Bool.{ltb-true}
+use Rattle.std.proofs.Common.{◌<◌, Option, subst, arith, IfSome, ltb-true}
 use Rattle.std.specs.Ordering.{nat_cmp}
 use Rattle.std.specs.FinSet.{FinSet}
-use Rattle.quorum_expr.specs.Expr.{formula_of}
+use Rattle.quorum_expr.specs.Common.{formula_of}
 use Rattle.quorum_checker.specs.Tolerance.{count_of, IsLeastLoss}
 use Rattle.plan_edit.proofs.new_checking.outlasts.Goals as goal
 

@@ -1,7 +1,7 @@
 use Rattle.std.proofs.Common.{◌≡◌, ◌<◌, ℕ, true}
 use Rattle.std.specs.FinSet.{contains, remove}
-use Rattle.volume_model.specs.Formula.{sat}
-use Rattle.quorum_expr.specs.Expr.{formula_of}
+use Rattle.volume_model.specs.Common.{sat}
+use Rattle.quorum_expr.specs.Common.{formula_of}
 use Rattle.plan_edit.proofs.new_checking.outlasts_one.Given as goal
 
 -- the members so far

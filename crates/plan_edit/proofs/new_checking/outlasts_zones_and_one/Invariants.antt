@@ -1,6 +1,6 @@
 use Rattle.std.proofs.Common.{◌<◌, ℕ, slice_index_or}
 use Rattle.std.specs.FinSet.{empty, difference}
-use Rattle.quorum_expr.specs.Expr.{formula_of}
+use Rattle.quorum_expr.specs.Common.{formula_of}
 use Rattle.plan_edit.specs.NewPlans.{OutlastsOne}
 use Rattle.plan_edit.proofs.new_checking.outlasts_zones_and_one.Given as goal
 

@@ -1,8 +1,8 @@
 use Rattle.std.proofs.Common.{◌≡◌, ◌∙◌, sym, ap, true, false, subst, IfOk, rules}
 use Rattle.std.specs.FinSet.{contains}
-use Rattle.volume_model.specs.Formula.{sat}
-use Rattle.quorum_expr.specs.Expr.{formula_of}
-use Rattle.refutation.specs.Refutation.{rule_of}
+use Rattle.volume_model.specs.Common.{sat}
+use Rattle.quorum_expr.specs.Common.{formula_of}
+use Rattle.refutation.specs.Common.{rule_of}
 use Rattle.quorum_checker.specs.Cases.{present}
 use Rattle.quorum_checker.specs.Decision.{cases_of}
 use Rattle.quorum_checker.proofs.Split.{parts, no_members, left_dead, right_dead, stopped, left_apart, right_apart, both_refuted}

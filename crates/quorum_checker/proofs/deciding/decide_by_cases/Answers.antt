@@ -1,8 +1,8 @@
 use Rattle.std.proofs.Common.{◌≡◌, ◌∙◌, ap, sym, subst, length}
 use Rattle.std.specs.FinSet.{empty}
-use Rattle.volume_model.specs.Sets.{listed}
-use Rattle.quorum_expr.specs.Expr.{formula_of}
-use Rattle.refutation.specs.Refutation.{rule_of}
+use Rattle.volume_model.specs.Common.{listed}
+use Rattle.quorum_expr.specs.Common.{formula_of}
+use Rattle.refutation.specs.Common.{rule_of}
 use Rattle.quorum_checker.specs.Cases.{AreSmall, cases, refuted, apart}
 use Rattle.quorum_checker.specs.Decision.{cases_of, common}
 use Rattle.quorum_checker.proofs.Complete.{refutes, within, leaves}

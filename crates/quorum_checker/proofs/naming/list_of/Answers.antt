@@ -1,6 +1,6 @@
 use Rattle.std.proofs.Common.{◌≡◌, ◌∙◌, ◌++◌, ◌∷◌, [], ap, sym, arith}
 use Rattle.std.specs.FinSet as set
-use Rattle.volume_model.specs.Lists.{each_below}
+use Rattle.volume_model.specs.Common.{each_below}
 use Rattle.quorum_expr.proofs.MemberLists.{one_more, no_more}
 use Rattle.quorum_checker.proofs.naming.list_of.Goals as goal
 use Rattle.quorum_checker.proofs.naming.list_of.Goals.{then-contains+in_ok-push, else-contains}

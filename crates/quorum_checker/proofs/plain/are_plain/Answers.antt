@@ -1,6 +1,6 @@
 use Rattle.std.proofs.Common.{◌≡◌, ◌∙◌, ◌+◌, ap, arith, rules, drop, true, false}
 use Rattle.std.specs.FinSet.{contains}
-use Rattle.quorum_expr.specs.Expr.{formula_of, weighed}
+use Rattle.quorum_expr.specs.Common.{formula_of, weighed}
 use Rattle.quorum_expr.proofs.ExprLaws.{formula_of-Member}
 use Rattle.quorum_expr.proofs.Weighed.{weighed-step}
 use Rattle.quorum_checker.proofs.PlainLosses.{plain_step}

@@ -1,5 +1,5 @@
 use Rattle.std.proofs.Common.{◌≡◌, drop}
-use Rattle.quorum_expr.specs.Expr.{formula_of, weighed}
+use Rattle.quorum_expr.specs.Common.{formula_of, weighed}
 use Rattle.quorum_checker.specs.PlainChildren.{are_plain}
 use Rattle.quorum_checker.proofs.plain.are_plain.Given as goal
 

@@ -1,7 +1,7 @@
 use Rattle.std.proofs.Common.{◌≡◌, ◌∙◌, ◌+◌, ◌≤◌, ap, sym, subst, arith, rules, length, true, false}
 use Rattle.std.specs.FinSet.{contains, difference, empty}
-use Rattle.volume_model.specs.Formula.{formulas, sat}
-use Rattle.quorum_expr.specs.Expr.{formula_of, weighed}
+use Rattle.volume_model.specs.Common.{formulas, sat}
+use Rattle.quorum_expr.specs.Common.{formula_of, weighed}
 use Rattle.quorum_expr.proofs.ExprLaws.{formula_of-KOf}
 use Rattle.quorum_expr.proofs.Weighed.{length-weighed}
 use Rattle.quorum_checker.specs.PlainChildren.{are_plain}

@@ -1,6 +1,6 @@
 use Rattle.std.proofs.Common.{◌-◌, length, take, drop}
 use Rattle.std.specs.FinSet.{difference}
-use Rattle.quorum_expr.specs.Expr.{formula_of}
+use Rattle.quorum_expr.specs.Common.{formula_of}
 use Rattle.quorum_checker.specs.Tolerance.{IsLeastAfter}
 use Rattle.quorum_checker.proofs.Losses.{joined_of, if_some}
 use Rattle.quorum_checker.proofs.tolerance.+smallest.Goals as goal

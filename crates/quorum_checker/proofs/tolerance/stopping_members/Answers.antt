@@ -1,5 +1,5 @@
 use Rattle.std.proofs.Common.{◌∙◌, sym}
-use Rattle.quorum_expr.specs.Expr.{formula_of}
+use Rattle.quorum_expr.specs.Common.{formula_of}
 use Rattle.quorum_checker.specs.Tolerance.{is_stopping}
 use Rattle.quorum_checker.proofs.Losses.{put_start, put_one, put_none}
 use Rattle.quorum_checker.proofs.tolerance.stopping_members.Goals as goal

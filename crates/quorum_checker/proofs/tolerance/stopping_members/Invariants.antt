@@ -1,7 +1,6 @@
-use Rattle.std.proofs.Common.{◌≡◌, ℕ}
-use Rattle.std.specs.Prelude.{◌&&◌, nat_lt}
+use Rattle.std.proofs.Common.{◌≡◌, ℕ, ◌&&◌, nat_lt}
 use Rattle.std.specs.FinSet.{contains}
-use Rattle.quorum_expr.specs.Expr.{formula_of}
+use Rattle.quorum_expr.specs.Common.{formula_of}
 use Rattle.quorum_checker.specs.Tolerance.{is_stopping}
 use Rattle.quorum_checker.proofs.tolerance.stopping_members.Given as goal
 

@@ -1,7 +1,7 @@
 use Rattle.std.proofs.Common.{◌≡◌, ◌∙◌, true, false, sym, ap, subst, arith, length, rules, refl}
 use Rattle.std.specs.FinSet.{contains}
-use Rattle.volume_model.specs.Formula.{sat}
-use Rattle.quorum_expr.specs.Expr.{formula_of}
+use Rattle.volume_model.specs.Common.{sat}
+use Rattle.quorum_expr.specs.Common.{formula_of}
 use Rattle.quorum_expr.proofs.ValidLaws.{counts, well_shaped}
 use Rattle.quorum_checker.specs.Cases.{AreSmall}
 use Rattle.quorum_checker.specs.Tolerance.{all_of, count_of, evaluations}

@@ -1,5 +1,5 @@
 use Rattle.std.proofs.Common.{◌≡◌, drop}
-use Rattle.volume_model.specs.Formula.{each_weighs}
+use Rattle.volume_model.specs.Common.{each_weighs}
 use Rattle.quorum_checker.specs.Items.{bare}
 use Rattle.quorum_checker.proofs.weights.all_weigh.Given as goal
 

@@ -1,5 +1,5 @@
 use Rattle.std.proofs.Common.{◌≡◌, ◌+◌, ◌*◌, ◌≤◌, drop}
-use Rattle.volume_model.specs.Formula.{total_weight}
+use Rattle.volume_model.specs.Common.{total_weight}
 use Rattle.quorum_checker.specs.Items.{bare}
 use Rattle.quorum_checker.proofs.weights.total.Given as goal
 

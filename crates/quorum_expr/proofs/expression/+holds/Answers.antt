@@ -1,8 +1,7 @@
-use Rattle.std.proofs.Common.{◌≡◌, ◌∙◌, refl, sym}
+use Rattle.std.proofs.Common.{◌≡◌, ◌∙◌, refl, sym, falls}
 use Rattle.std.proofs.Math.Nat.{le_of_lt}
 use Rattle.std.specs.FinSet as set
-use borrow.Author.Count.{falls}
-use Rattle.volume_model.specs.Formula.{sat}
+use Rattle.volume_model.specs.Common.{sat}
 use Rattle.quorum_expr.specs.Expr.{formula_of}
 use Rattle.quorum_expr.proofs.Held.{missing_less, missing_same, sat-Member, sat-KOf}
 use Rattle.quorum_expr.proofs.Smaller.{smaller}

@@ -1,8 +1,7 @@
-use Rattle.std.proofs.Common.{◌+◌, ◌∙◌, refl, ap, sym}
+use Rattle.std.proofs.Common.{◌+◌, ◌∙◌, refl, ap, sym, falls}
 use Rattle.std.proofs.Math.Nat.{le_of_lt, le_refl}
 use Rattle.std.specs.FinSet as set
-use borrow.Author.Count.{falls}
-use Rattle.volume_model.specs.Formula.{dual_of}
+use Rattle.volume_model.specs.Common.{dual_of}
 use Rattle.quorum_expr.specs.Expr.{formula_of}
 use Rattle.quorum_expr.proofs.Held.{none_yet, held_more, held_same, few_more, few_same, dual_sat-Member, dual_sat-KOf}
 use Rattle.quorum_expr.proofs.Weighed.{total-step}

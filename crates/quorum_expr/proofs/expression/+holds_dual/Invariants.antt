@@ -1,6 +1,6 @@
 use Rattle.std.proofs.Common.{◌≡◌, ◌+◌, ◌≤◌, drop, ◌*◌}
 use Rattle.std.specs.FinSet as set
-use Rattle.volume_model.specs.Formula.{weight_held, total_weight, dual_of}
+use Rattle.volume_model.specs.Common.{weight_held, total_weight, dual_of}
 use Rattle.quorum_expr.specs.Expr.{formula_of, weighed}
 use Rattle.quorum_expr.specs.Valid.{nodes}
 use Rattle.quorum_expr.proofs.expression.+holds_dual.Given as goal

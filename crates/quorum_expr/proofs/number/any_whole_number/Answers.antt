@@ -1,5 +1,4 @@
-use Rattle.std.proofs.Common.{◌≡◌, drop, get_or, Bool, true, false, None, ◌==◌, refl, sym, ap, ◌∙◌}
-use Rattle.std.specs.Prelude.{option_and_then, Some, if◌then◌else◌}
+use Rattle.std.proofs.Common.{◌≡◌, drop, get_or, Bool, true, false, None, ◌==◌, refl, sym, ap, ◌∙◌, option_and_then, Some, if◌then◌else◌}
 use Rattle.std.specs.Float.{float_is_finite, binary64}
 use Rattle.fast_float.specs.Text.{Parts, scan, nearest, digits_of, with_sign}
 use Rattle.serde_json.specs.Data.{Num, float, negative}

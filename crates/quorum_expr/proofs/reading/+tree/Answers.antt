@@ -1,15 +1,13 @@
 use Rattle.std.proofs.Common.{◌-◌, ◌∙◌, ap, refl, sym, subst, map, Ok, arith, rules}
 use Rattle.std.proofs.lemmas.Grind.{common_steps}
 use Rattle.std.proofs.lemmas.Result.{err_from_is_err_and}
-use Rattle.volume_model.specs.Answer.{Gives}
+use Rattle.volume_model.specs.Common.{Gives, listed}
 use Rattle.volume_model.specs.Formula.{member}
-use Rattle.volume_model.specs.Sets.{listed}
-use Rattle.quorum_expr.specs.Forms.{formulas_of}
+use Rattle.quorum_expr.specs.Forms.{formulas_of, child_list, weights_data, form_data}
 use Rattle.quorum_expr.specs.Reading.{children_at, formula_at}
 use Rattle.quorum_expr.proofs.MemberLists.{pushed_nodes}
 use Rattle.quorum_expr.proofs.Rows.{weights_pushed, choice_read, nodes-weighing}
 use Rattle.quorum_expr.proofs.Levels.{too_deep, one_level, no_form, some_level}
-use Rattle.quorum_expr.specs.Forms.{child_list, weights_data, form_data}
 use Rattle.quorum_expr.proofs.reading.+tree.Goals as goal
 
 pub tree-returns-in_err-form-clause-read : goal.tree-returns-in_err-form-clause-read

@@ -1,11 +1,10 @@
 use Rattle.std.proofs.Common.{◌≡◌, ◌+◌, ◌-◌, ◌*◌}
 use Rattle.serde_json.specs.Events.{items_len}
-use Rattle.volume_model.specs.Formula.{each_once}
+use Rattle.volume_model.specs.Common.{each_once}
 use Rattle.quorum_expr.specs.Valid.{row_nodes}
-use Rattle.quorum_expr.specs.Forms.{formulas_of, HaveWeights}
+use Rattle.quorum_expr.specs.Forms.{formulas_of, HaveWeights, weights_data}
 use Rattle.quorum_expr.specs.Reading.{each_of, formula_at}
 use Rattle.quorum_expr.proofs.Loop.{with_front}
-use Rattle.quorum_expr.specs.Forms.{weights_data}
 use Rattle.quorum_expr.proofs.reading.+tree.Given as goal
 
 abbrev pub decreases-child_trees : goal.decreases-child_trees

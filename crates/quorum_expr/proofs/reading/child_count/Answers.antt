@@ -1,5 +1,5 @@
 use Rattle.std.proofs.Common.{length, min, sym, ap, ◌∙◌}
-use Rattle.volume_model.specs.Sets.{listed}
+use Rattle.volume_model.specs.Common.{listed}
 use Rattle.quorum_expr.specs.Reading.{set_of, child_count}
 use Rattle.quorum_expr.specs.Forms.{child_list}
 use Rattle.quorum_expr.proofs.NodeForms.{few_listed}

@@ -1,6 +1,6 @@
 use Rattle.std.proofs.Common.{◌++◌, ◌∷◌, ◌∙◌, ap, sym, length, map, arith, Ok, rules}
 use Rattle.volume_model.specs.Formula.{member}
-use Rattle.volume_model.specs.Sets.{listed}
+use Rattle.volume_model.specs.Common.{listed}
 use Rattle.quorum_expr.specs.Forms.{formulas_of, weights_data}
 use Rattle.quorum_expr.proofs.MemberLists.{empty_listed, first_removed, member_moved, member_counted, nil_right}
 use Rattle.quorum_expr.proofs.Rows.{weights_pushed}

@@ -1,6 +1,6 @@
 use Rattle.std.proofs.Common.{◌≡◌, ◌-◌, ◌++◌, length, map}
-use Rattle.volume_model.specs.Formula.{member, each_once}
-use Rattle.volume_model.specs.Sets.{listed}
+use Rattle.volume_model.specs.Common.{each_once, listed}
+use Rattle.volume_model.specs.Formula.{member}
 use Rattle.quorum_expr.specs.Forms.{formulas_of, HaveWeights, weights_data}
 use Rattle.quorum_expr.specs.Valid.{row_nodes}
 use Rattle.quorum_expr.proofs.reading.each_member.Given as goal

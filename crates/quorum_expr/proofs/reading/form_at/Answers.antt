@@ -1,7 +1,6 @@
-use Rattle.std.proofs.Common.{Ok, Err, sym, ap, ◌∙◌}
+use Rattle.std.proofs.Common.{Ok, Err, sym, ap, ◌∙◌, if◌then◌else◌}
 use Rattle.std.proofs.lemmas.Result.{err_from_is_err_and}
-use Rattle.volume_model.specs.Answer.{◌>>=◌}
-use Rattle.std.specs.Prelude.{if◌then◌else◌}
+use Rattle.volume_model.specs.Common.{◌>>=◌}
 use Rattle.volume_model.specs.declared.fault.Fault.TheVariants.{Malformed}
 use Rattle.quorum_expr.specs.Reading.{choice_of, single, whole_of}
 use Rattle.quorum_expr.proofs.Levels.{Fails-at}

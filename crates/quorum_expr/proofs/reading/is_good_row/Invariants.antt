@@ -1,5 +1,5 @@
 use Rattle.std.proofs.Common.{◌≡◌, ◌+◌, ◌-◌, ◌*◌, ◌≤◌}
-use Rattle.volume_model.specs.Formula.{total_weight}
+use Rattle.volume_model.specs.Common.{total_weight}
 use Rattle.quorum_expr.specs.Valid.{each_fits}
 use Rattle.quorum_expr.specs.Reading.{weighing, unread}
 use Rattle.quorum_expr.specs.Forms.{weights_data}

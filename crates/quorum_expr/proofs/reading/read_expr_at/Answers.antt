@@ -1,5 +1,4 @@
-use Rattle.std.proofs.Common.{◌≡◌, true, arith}
-use Rattle.std.specs.Prelude.{nat_le}
+use Rattle.std.proofs.Common.{◌≡◌, true, arith, nat_le}
 use Rattle.std.proofs.lemmas.Bool.Decides.{nat_tests}
 use Rattle.quorum_expr.specs.Expr.{formula_of}
 use Rattle.quorum_expr.specs.Valid.{nodes}

@@ -1,6 +1,6 @@
 use Rattle.std.proofs.Common.{◌≡◌, Ok, ◌++◌}
 use Rattle.serde_json.specs.Events.{items_len}
-use Rattle.volume_model.specs.Answer.{◌>>=◌}
+use Rattle.volume_model.specs.Common.{◌>>=◌}
 use Rattle.quorum_expr.specs.Reading.{wholes_of}
 use Rattle.quorum_expr.proofs.reading.wholes.Given as goal
 

@@ -1,7 +1,6 @@
-use Rattle.std.proofs.Common.{◌+◌, ◌-◌, ◌++◌, refl, ap, ◌∙◌, sym, map}
+use Rattle.std.proofs.Common.{◌+◌, ◌-◌, ◌++◌, refl, ap, ◌∙◌, sym, map, falls}
 use Rattle.std.proofs.Math.Nat.{le_of_lt, le_refl}
-use borrow.Author.Count.{falls}
-use Rattle.volume_model.specs.Formula.{at_least, total_weight, dual_of}
+use Rattle.volume_model.specs.Common.{at_least, total_weight, dual_of}
 use Rattle.quorum_expr.specs.Expr.{formula_of, weighed}
 use Rattle.quorum_expr.proofs.ExprLaws.{formula_of-KOf}
 use Rattle.quorum_expr.proofs.Handed.{wants, handed}

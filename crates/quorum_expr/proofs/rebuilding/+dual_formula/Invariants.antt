@@ -1,5 +1,5 @@
 use Rattle.std.proofs.Common.{◌≡◌, ◌+◌, ◌*◌, ◌≤◌, ◌++◌, drop, map}
-use Rattle.volume_model.specs.Formula.{total_weight, dual_of, EachHasCounts}
+use Rattle.volume_model.specs.Common.{total_weight, dual_of, EachHasCounts}
 use Rattle.quorum_expr.specs.Expr.{formula_of, weighed}
 use Rattle.quorum_expr.specs.Valid.{nodes}
 use Rattle.quorum_expr.proofs.Weighed.{seen}

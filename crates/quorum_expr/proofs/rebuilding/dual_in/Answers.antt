@@ -1,8 +1,6 @@
-use Rattle.std.proofs.Common.{◌≡◌, ap, ◌∙◌, Ok, Err}
-use Rattle.std.specs.Prelude.{Result, IfOk, None, not}
+use Rattle.std.proofs.Common.{◌≡◌, ap, ◌∙◌, Ok, Err, Result, IfOk, None, not}
 use Rattle.volume_model.specs.declared.fault.Fault.{Fault}
-use Rattle.volume_model.specs.Answer.{Gives}
-use Rattle.volume_model.specs.Formula.{Formula, Members, sat, dual_of}
+use Rattle.volume_model.specs.Common.{Gives, Formula, Members, sat, dual_of}
 use Rattle.volume_model.proofs.FormulaLaws.{sat-dual_of}
 use Rattle.quorum_expr.specs.declared.expression.Expr.{Expr}
 use Rattle.quorum_expr.specs.Expr.{formula_of}

@@ -1,6 +1,5 @@
-use Rattle.std.proofs.Common.{rules, ◌≡◌, ◌+◌, ◌-◌, drop, refl, ap, ◌∙◌, sym, true, false, Some, None}
+use Rattle.std.proofs.Common.{rules, ◌≡◌, ◌+◌, ◌-◌, drop, refl, ap, ◌∙◌, sym, true, false, Some, None, falls}
 use Rattle.std.proofs.Math.Nat.{le_of_lt}
-use borrow.Author.Count.{falls}
 use Rattle.quorum_expr.specs.Expr.{formula_of, weighed}
 use Rattle.quorum_expr.specs.Valid.{or_then, good_choice, row_fault}
 use Rattle.quorum_expr.proofs.Tested.{no_choice, row-is, row_step, row_done, row_skipped, no_level, good_member, bad_member, counted_member, counted_step, counted_all, one_fewer, some_positive}

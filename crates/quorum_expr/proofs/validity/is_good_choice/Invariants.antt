@@ -1,5 +1,5 @@
 use Rattle.std.proofs.Common.{◌≡◌, ◌+◌, ◌*◌, ◌≤◌, drop}
-use Rattle.volume_model.specs.Formula.{total_weight}
+use Rattle.volume_model.specs.Common.{total_weight}
 use Rattle.quorum_expr.specs.Expr.{formula_of, weighed}
 use Rattle.quorum_expr.specs.Valid.{each_fits}
 use Rattle.quorum_expr.proofs.validity.is_good_choice.Given as goal

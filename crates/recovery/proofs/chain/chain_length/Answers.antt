@@ -1,9 +1,6 @@
 use Rattle.std.proofs.Common.{◌≡◌, ◌∙◌, ◌^◌, ◌≤◌, ◌∷◌, ◌++◌, [], List, length, length-append, append_assoc, take, refl, sym, ap, subst, arith}
-use Rattle.volume_model.specs.Lists.{added}
-use Rattle.volume_model.specs.Redo.{Redo}
-use Rattle.redo_record.specs.Record.{redo_of}
-use Rattle.redo_record.specs.Records.{left_of}
-use Rattle.redo_record.specs.RecordSet.{records_of}
+use Rattle.volume_model.specs.Common.{added, Redo}
+use Rattle.redo_record.specs.Common.{redo_of, left_of, records_of}
 use Rattle.recovery.specs.Chains.{is_chain_to, IsChainTo}
 use Rattle.recovery.proofs.Sharing.{added-more, chain-more, front-is, set-few}
 use Rattle.recovery.proofs.chain.chain_length.Goals as goal

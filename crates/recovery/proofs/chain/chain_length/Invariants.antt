@@ -1,8 +1,6 @@
 use Rattle.std.proofs.Common.{◌≡◌, List, [], ◌++◌, length}
-use Rattle.volume_model.specs.Lists.{added}
-use Rattle.volume_model.specs.Redo.{Redo}
-use Rattle.redo_record.specs.Records.{left_of}
-use Rattle.redo_record.specs.RecordSet.{records_of}
+use Rattle.volume_model.specs.Common.{added, Redo}
+use Rattle.redo_record.specs.Common.{left_of, records_of}
 use Rattle.recovery.specs.Chains.{IsChainTo}
 use Rattle.recovery.proofs.chain.chain_length.Given as goal
 

@@ -1,12 +1,9 @@
 use Rattle.std.proofs.Common.{◌≡◌, ◌∙◌, ℕ, true, List, [], map, take, sym, ap, subst}
 use Rattle.std.proofs.lemmas.Result.{IfOk-weaker}
-use Rattle.volume_model.specs.Lists.{added}
-use Rattle.volume_model.specs.Redo.{Redo, chain_from, chain_or_none}
+use Rattle.volume_model.specs.Common.{added, Redo, chain_from, chain_or_none}
 use Rattle.redo_record.specs.declared.shared_record.SharedRecord.{SharedRecord}
 use Rattle.redo_record.specs.declared.record_set.RecordSet.{RecordSet}
-use Rattle.redo_record.specs.Order.{IsInOrder}
-use Rattle.redo_record.specs.SharedRecord.{shared_redo}
-use Rattle.redo_record.specs.RecordSet.{records_of}
+use Rattle.redo_record.specs.Common.{IsInOrder, shared_redo, records_of}
 use Rattle.writer_core.specs.Logs.{log_of, log_of_set, is_growing}
 use Rattle.recovery.specs.Chains.{is_chain_to}
 use Rattle.recovery.proofs.Cuts.{set-back}

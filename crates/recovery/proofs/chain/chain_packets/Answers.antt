@@ -1,10 +1,9 @@
 use Rattle.std.proofs.Common.{◌≡◌, ◌∙◌, ℕ, ◌<◌, List, Some, None, map, sym, ap, ap₂, arith}
-use Rattle.volume_model.specs.Redo.{Redo, record_at, chain_or_none}
+use Rattle.volume_model.specs.Common.{Redo, record_at, chain_or_none}
 use Rattle.volume_model.proofs.Chains.{record_at-some}
 use Rattle.redo_record.specs.declared.record_set.RecordSet.{RecordSet}
 use Rattle.redo_record.specs.declared.shared_record.SharedRecord.{SharedRecord}
-use Rattle.redo_record.specs.SharedRecord.{shared_redo}
-use Rattle.redo_record.specs.RecordSet.{records_of}
+use Rattle.redo_record.specs.Common.{shared_redo, records_of}
 use Rattle.writer_core.specs.Logs.{log_of, log_of_set, is_growing}
 use Rattle.writer_core.proofs.Joined.{growing-same}
 use Rattle.recovery.proofs.Links.{chain, chain_from-is}

@@ -1,5 +1,5 @@
 use Rattle.std.proofs.Common.{◌≡◌, map}
-use Rattle.redo_record.specs.SharedRecord.{shared_redo}
+use Rattle.redo_record.specs.Common.{shared_redo}
 use Rattle.writer_core.specs.Logs.{log_of_set}
 use Rattle.recovery.proofs.Links.{chain}
 use Rattle.recovery.proofs.Ends.{then_chain}

@@ -1,12 +1,7 @@
-use Rattle.std.proofs.Common.{◌≡◌, ◌<◌, ◌≤◌, List, [], ◌∷◌, ◌++◌, refl, inl, inr, sym, ap, ap₂, ◌∙◌, subst, arith, ◌&&◌, append_assoc, append-nil}
-use Rattle.std.proofs.lemmas.Bool.{lt-ltb}
-use Rattle.volume_model.specs.Lists.{IsIn, added}
-use Rattle.volume_model.specs.Redo.{Redo, last_lsn, record_at}
-use Rattle.redo_record.specs.Order.{IsInOrder}
-use Rattle.redo_record.specs.SharedRecord.{shared_redo}
+use Rattle.std.proofs.Common.{◌≡◌, ◌<◌, ◌≤◌, List, [], ◌∷◌, ◌++◌, refl, inl, inr, sym, ap, ap₂, ◌∙◌, subst, arith, ◌&&◌, append_assoc, append-nil, lt-ltb}
+use Rattle.volume_model.specs.Common.{IsIn, added, Redo, last_lsn, record_at}
+use Rattle.redo_record.specs.Common.{IsInOrder, shared_redo, left_of, records_of}
 use Rattle.redo_record.proofs.KeptRanges.{shared_redo-ranges}
-use Rattle.redo_record.specs.Records.{left_of}
-use Rattle.redo_record.specs.RecordSet.{records_of}
 use Rattle.writer_core.specs.Logs.{log_of_set, is_growing}
 use Rattle.recovery.proofs.Sharing.{added-more, copy-grows, copy-same, greater-after}
 use Rattle.recovery.proofs.Firsts.{find, find-is, find-new, find-same, order-next}

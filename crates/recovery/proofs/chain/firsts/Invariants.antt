@@ -1,9 +1,6 @@
 use Rattle.std.proofs.Common.{◌≡◌, ℕ, ◌≤◌, true, List, ◌++◌, length}
-use Rattle.volume_model.specs.Lists.{IsIn}
-use Rattle.volume_model.specs.Redo.{Redo, last_lsn, record_at}
-use Rattle.redo_record.specs.Order.{IsInOrder}
-use Rattle.redo_record.specs.Records.{left_of}
-use Rattle.redo_record.specs.RecordSet.{records_of}
+use Rattle.volume_model.specs.Common.{IsIn, Redo, last_lsn, record_at}
+use Rattle.redo_record.specs.Common.{IsInOrder, left_of, records_of}
 use Rattle.writer_core.specs.Logs.{log_of_set, is_growing}
 use Rattle.recovery.proofs.Firsts.{find}
 use Rattle.recovery.proofs.chain.firsts.Given as goal

@@ -1,9 +1,6 @@
-use Rattle.std.proofs.Common.{◌≡◌, ◌∙◌, ◌<◌, ◌≤◌, ◌&&◌, nat_lt, List, [], ◌∷◌, refl, sym, ap, arith}
-use Rattle.std.proofs.lemmas.Bool.{le-ltb, lt-ltb}
-use Rattle.volume_model.specs.Lists.{added}
-use Rattle.volume_model.specs.Redo.{Redo, last_lsn}
-use Rattle.redo_record.specs.SharedRecord.{shared_redo}
-use Rattle.redo_record.specs.Records.{left_of}
+use Rattle.std.proofs.Common.{◌≡◌, ◌∙◌, ◌<◌, ◌≤◌, ◌&&◌, nat_lt, List, [], ◌∷◌, refl, sym, ap, arith, le-ltb, lt-ltb}
+use Rattle.volume_model.specs.Common.{added, Redo, last_lsn}
+use Rattle.redo_record.specs.Common.{shared_redo, left_of}
 use Rattle.writer_core.specs.Logs.{log_of_set, is_growing}
 use Rattle.recovery.proofs.cut_reader.are_growing.Goals as goal
 use Rattle.recovery.proofs.cut_reader.are_growing.Goals.{then-last-lsn, else-last-lsn}

@@ -1,7 +1,6 @@
 use Rattle.std.proofs.Common.{◌≡◌, List, length}
-use Rattle.volume_model.specs.Lists.{added}
-use Rattle.volume_model.specs.Redo.{Redo, last_lsn}
-use Rattle.redo_record.specs.Records.{left_of}
+use Rattle.volume_model.specs.Common.{added, Redo, last_lsn}
+use Rattle.redo_record.specs.Common.{left_of}
 use Rattle.writer_core.specs.Logs.{log_of_set, is_growing}
 use Rattle.recovery.proofs.cut_reader.are_growing.Given as goal
 

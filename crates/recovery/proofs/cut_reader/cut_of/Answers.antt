@@ -1,7 +1,7 @@
 use Rattle.std.proofs.Common.{◌<◌, List, take, sym, subst}
-use Rattle.volume_model.specs.Redo.{Redo, last_lsn}
+use Rattle.volume_model.specs.Common.{Redo, last_lsn}
 use Rattle.redo_record.specs.declared.«record».Record.{Record}
-use Rattle.redo_record.specs.Record.{redo_of}
+use Rattle.redo_record.specs.Common.{redo_of}
 use Rattle.recovery.specs.CutReader.{IsCutOf, log_of_records}
 use Rattle.recovery.proofs.Cuts.{below-next, records-above, records-more}
 use Rattle.recovery.proofs.cut_reader.cut_of.Goals as goal

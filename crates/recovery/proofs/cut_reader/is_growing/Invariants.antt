@@ -1,5 +1,5 @@
 use Rattle.std.proofs.Common.{◌≡◌, take}
-use Rattle.volume_model.specs.Redo.{last_lsn}
+use Rattle.volume_model.specs.Common.{last_lsn}
 use Rattle.writer_core.specs.Logs.{is_growing}
 use Rattle.recovery.specs.CutReader.{log_of_records}
 use Rattle.recovery.proofs.cut_reader.is_growing.Given as goal

@@ -1,8 +1,6 @@
 use Rattle.std.proofs.Common.{◌≡◌, ◌∙◌, ◌<◌, List, [], ◌∷◌, Ok, sym, ap}
-use Rattle.volume_model.specs.Lists.{added}
-use Rattle.volume_model.specs.Redo.{Redo, last_lsn, cut_of}
-use Rattle.redo_record.specs.Record.{redo_of}
-use Rattle.redo_record.specs.Records.{left_of}
+use Rattle.volume_model.specs.Common.{added, Redo, last_lsn, cut_of}
+use Rattle.redo_record.specs.Common.{redo_of, left_of}
 use Rattle.writer_core.specs.Logs.{log_of_set, is_growing}
 use Rattle.recovery.proofs.Cuts.{below-next, next-above}
 use Rattle.recovery.proofs.cut_reader.shared_cut_of.Goals as goal

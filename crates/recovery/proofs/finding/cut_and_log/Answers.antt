@@ -1,8 +1,7 @@
 use Rattle.std.proofs.Common.{◌≡◌, List, [], Ok, is_some, refl, sym, ap, ◌∙◌}
-use Rattle.volume_model.specs.Lists.{added}
-use Rattle.volume_model.specs.Redo.{Redo, chain_from, chain_or_none, cut_of}
+use Rattle.volume_model.specs.Common.{added, Redo, chain_from, chain_or_none, cut_of}
 use Rattle.redo_record.specs.declared.record_set.RecordSet.{RecordSet}
-use Rattle.redo_record.specs.RecordSet.{records_of}
+use Rattle.redo_record.specs.Common.{records_of}
 use Rattle.writer_core.specs.Logs.{log_of_set, is_growing}
 use Rattle.recovery.proofs.Leaves.{cut-there, log-same, cut-same, is_value}
 use Rattle.recovery.proofs.OneChain.{one_chain-cut, one_chain-grows, one_chain-log}

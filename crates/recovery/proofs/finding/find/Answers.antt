@@ -1,12 +1,9 @@
 use Rattle.std.proofs.Common.{◌≡◌, ◌<◌, List, Result, sym, ap, ap₂, ◌∙◌, subst}
 use Rattle.volume_model.specs.declared.fault.Fault.{Fault}
-use Rattle.volume_model.specs.Answer.{Fails}
-use Rattle.volume_model.specs.Plan.{Plan}
-use Rattle.volume_model.specs.Redo.{cut_of, log_found}
-use Rattle.volume_model.specs.Lineage.{Lineage, extension, last_epoch, newest, found_in}
-use Rattle.volume_model.specs.Client.{ClientGroup}
+use Rattle.volume_model.specs.Common.{Fails, Plan, cut_of, log_found, Lineage, extension, last_epoch, newest, ClientGroup}
+use Rattle.volume_model.specs.Lineage.{found_in}
 use Rattle.lineage.specs.Lineage.{lineage_of}
-use Rattle.redo_record.specs.RecordSet.{records_of}
+use Rattle.redo_record.specs.Common.{records_of}
 use Rattle.writer_core.specs.Groups.{groups_in, group_states_plan}
 use Rattle.recovery.specs.Reported.{reports_in}
 use Rattle.recovery.specs.Finds.{live_records}

@@ -1,9 +1,7 @@
 use Rattle.std.proofs.Common.{◌≡◌, true}
-use Rattle.volume_model.specs.Lists.{each_below}
-use Rattle.volume_model.specs.Client.{label_of, place_of}
-use Rattle.wire.specs.Message.{messages_of}
+use Rattle.volume_model.specs.Common.{each_below, label_of, place_of, Fence}
+use Rattle.wire.specs.Common.{messages_of}
 use Rattle.writer_core.specs.Groups.{groups_in}
-use Rattle.volume_model.specs.Message.Message.{Fence}
 use Rattle.recovery.proofs.messages.fences.Given as goal
 
 abbrev pub invariant-loop-group : goal.invariant-loop-group

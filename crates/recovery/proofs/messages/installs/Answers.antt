@@ -1,9 +1,6 @@
 use Rattle.std.proofs.Common.{ℕ, true, List, refl, ap, ◌∙◌}
 use Rattle.volume_model.specs.Message as model
-use Rattle.volume_model.specs.Client.{label_of, place_of}
-use Rattle.volume_model.specs.Pieces.{in_pieces}
-use Rattle.volume_model.specs.ClientRecovery.{to_install}
-use Rattle.volume_model.specs.Lineage.{Contents}
+use Rattle.volume_model.specs.Common.{label_of, place_of, in_pieces, to_install, Contents}
 use Rattle.lineage.specs.Lineage.{lineage_of}
 use Rattle.writer_core.specs.Logs.{log_of_set}
 use Rattle.writer_core.specs.Groups.{groups_in}

@@ -1,13 +1,9 @@
 use Rattle.std.proofs.Common.{◌≡◌, true}
-use Rattle.volume_model.specs.Lists.{each_below, joined}
-use Rattle.volume_model.specs.Client.{label_of, place_of}
-use Rattle.volume_model.specs.Pieces.{in_pieces}
-use Rattle.volume_model.specs.ClientRecovery.{to_install}
+use Rattle.volume_model.specs.Common.{each_below, joined, label_of, place_of, in_pieces, to_install, Install}
 use Rattle.lineage.specs.Lineage.{lineage_of}
-use Rattle.wire.specs.Message.{messages_of}
+use Rattle.wire.specs.Common.{messages_of}
 use Rattle.writer_core.specs.Logs.{log_of_set}
 use Rattle.writer_core.specs.Groups.{groups_in}
-use Rattle.volume_model.specs.Message.Message.{Install}
 use Rattle.recovery.proofs.messages.installs.Given as goal
 
 abbrev pub invariant-loop-group : goal.invariant-loop-group

@@ -1,9 +1,6 @@
-use Rattle.std.proofs.Common.{ℕ, Bool, true, false, ◌<◌, List, map, length, sym, ap, ◌∙◌}
-use Rattle.std.proofs.lemmas.Bool.{lt-ltb, le-ltb}
+use Rattle.std.proofs.Common.{ℕ, Bool, true, false, ◌<◌, List, map, length, sym, ap, ◌∙◌, lt-ltb, le-ltb}
 use Rattle.volume_model.specs.Message as model
-use Rattle.volume_model.specs.Message.{place_in}
-use Rattle.volume_model.specs.Client.{label_of, place_of}
-use Rattle.volume_model.specs.ClientMessages.{later_in}
+use Rattle.volume_model.specs.Common.{place_in, label_of, place_of, later_in}
 use Rattle.wire.specs.declared.label.Place.{Place}
 use Rattle.wire.specs.Message as wire
 use Rattle.writer_core.specs.Groups.{groups_in}

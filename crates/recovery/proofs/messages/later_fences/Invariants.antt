@@ -1,12 +1,8 @@
 use Rattle.std.proofs.Common.{◌≡◌, map}
-use Rattle.volume_model.specs.Lists.{each_below}
-use Rattle.volume_model.specs.Client.{label_of, place_of}
-use Rattle.volume_model.specs.ClientMessages.{later_in}
-use Rattle.volume_model.specs.Message.{place_in}
+use Rattle.volume_model.specs.Common.{each_below, label_of, place_of, later_in, place_in, Fence}
 use Rattle.wire.specs.Message as wire
-use Rattle.wire.specs.Message.{messages_of}
+use Rattle.wire.specs.Common.{messages_of}
 use Rattle.writer_core.specs.Groups.{groups_in}
-use Rattle.volume_model.specs.Message.Message.{Fence}
 use Rattle.recovery.proofs.messages.later_fences.Given as goal
 
 abbrev pub invariant-loop-group : goal.invariant-loop-group

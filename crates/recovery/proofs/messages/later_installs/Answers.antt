@@ -1,12 +1,6 @@
-use Rattle.std.proofs.Common.{ℕ, Bool, true, false, ◌<◌, List, map, length, sym, ap, ◌∙◌}
-use Rattle.std.proofs.lemmas.Bool.{lt-ltb, le-ltb}
+use Rattle.std.proofs.Common.{ℕ, Bool, true, false, ◌<◌, List, map, length, sym, ap, ◌∙◌, lt-ltb, le-ltb}
 use Rattle.volume_model.specs.Message as model
-use Rattle.volume_model.specs.Message.{place_in}
-use Rattle.volume_model.specs.Client.{label_of, place_of}
-use Rattle.volume_model.specs.ClientMessages.{later_in}
-use Rattle.volume_model.specs.Pieces.{in_pieces}
-use Rattle.volume_model.specs.ClientRecovery.{to_install}
-use Rattle.volume_model.specs.Lineage.{Contents}
+use Rattle.volume_model.specs.Common.{place_in, label_of, place_of, later_in, in_pieces, to_install, Contents}
 use Rattle.lineage.specs.Lineage.{lineage_of}
 use Rattle.writer_core.specs.Logs.{log_of_set}
 use Rattle.wire.specs.declared.label.Place.{Place}

@@ -1,16 +1,10 @@
 use Rattle.std.proofs.Common.{◌≡◌, map}
-use Rattle.volume_model.specs.Lists.{each_below, joined}
-use Rattle.volume_model.specs.Client.{label_of, place_of}
-use Rattle.volume_model.specs.ClientMessages.{later_in}
-use Rattle.volume_model.specs.Message.{place_in}
+use Rattle.volume_model.specs.Common.{each_below, joined, label_of, place_of, later_in, place_in, in_pieces, to_install, Install}
 use Rattle.wire.specs.Message as wire
-use Rattle.volume_model.specs.Pieces.{in_pieces}
-use Rattle.volume_model.specs.ClientRecovery.{to_install}
 use Rattle.lineage.specs.Lineage.{lineage_of}
-use Rattle.wire.specs.Message.{messages_of}
+use Rattle.wire.specs.Common.{messages_of}
 use Rattle.writer_core.specs.Logs.{log_of_set}
 use Rattle.writer_core.specs.Groups.{groups_in}
-use Rattle.volume_model.specs.Message.Message.{Install}
 use Rattle.recovery.proofs.messages.later_installs.Given as goal
 
 abbrev pub invariant-loop-group : goal.invariant-loop-group

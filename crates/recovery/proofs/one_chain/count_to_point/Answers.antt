@@ -1,5 +1,5 @@
 use Rattle.std.proofs.Common.{◌∙◌, ap, sym, arith}
-use Rattle.volume_model.specs.Redo.{Redo}
+use Rattle.volume_model.specs.Common.{Redo}
 use Rattle.recovery.specs.Chains.{up_to_point}
 use Rattle.recovery.proofs.OneChain.{last-taken, point-here, point-before}
 use Rattle.recovery.proofs.one_chain.count_to_point.Goals as goal

@@ -1,7 +1,6 @@
 use Rattle.std.proofs.Common.{◌≡◌, ◌≤◌, List, length, map, take}
-use Rattle.volume_model.specs.Lists.{added}
-use Rattle.volume_model.specs.Redo.{Redo}
-use Rattle.redo_record.specs.SharedRecord.{shared_redo}
+use Rattle.volume_model.specs.Common.{added, Redo}
+use Rattle.redo_record.specs.Common.{shared_redo}
 use Rattle.recovery.specs.Chains.{up_to_point}
 use Rattle.recovery.proofs.one_chain.count_to_point.Given as goal
 

@@ -1,6 +1,6 @@
 use Rattle.std.proofs.Common.{◌∙◌, refl, ap, sym, subst}
-use Rattle.volume_model.specs.Redo.{Redo}
-use Rattle.redo_record.specs.Run.{run_records}
+use Rattle.volume_model.specs.Common.{Redo}
+use Rattle.redo_record.specs.Common.{run_records}
 use Rattle.recovery.specs.Chains.{GoesOn}
 use Rattle.recovery.proofs.OneChain.{packets-go_on}
 use Rattle.recovery.proofs.one_chain.end_of_chain.Goals as goal

@@ -1,9 +1,7 @@
 use Rattle.std.proofs.Common.{◌∙◌, List, [], take, ap}
-use Rattle.volume_model.specs.Lists.{added}
-use Rattle.volume_model.specs.Redo.{Redo}
+use Rattle.volume_model.specs.Common.{added, Redo}
 use Rattle.redo_record.specs.declared.run.Run.{Run}
-use Rattle.redo_record.specs.Joined.{joined}
-use Rattle.redo_record.specs.Run.{run_records, runs_in}
+use Rattle.redo_record.specs.Common.{joined, run_records, runs_in}
 use Rattle.recovery.specs.Chains.{is_chain_to}
 use Rattle.recovery.proofs.OneChain.{runs-more}
 use Rattle.recovery.proofs.Sharing.{added-append}

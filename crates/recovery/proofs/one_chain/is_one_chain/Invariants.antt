@@ -1,7 +1,6 @@
 use Rattle.std.proofs.Common.{[], take}
-use Rattle.volume_model.specs.Lists.{added}
-use Rattle.redo_record.specs.Joined.{joined}
-use Rattle.redo_record.specs.Run.{runs_in}
+use Rattle.volume_model.specs.Common.{added}
+use Rattle.redo_record.specs.Common.{joined, runs_in}
 use Rattle.recovery.specs.Chains.{IsChainTo}
 use Rattle.recovery.proofs.one_chain.is_one_chain.Given as goal
 

@@ -1,7 +1,7 @@
 use Rattle.std.proofs.Common.{◌∙◌, ◌-◌, ℕ, List, sym, ap, arith}
-use Rattle.volume_model.specs.Redo.{last_lsn}
+use Rattle.volume_model.specs.Common.{last_lsn}
 use Rattle.redo_record.specs.declared.shared_record.SharedRecord.{SharedRecord}
-use Rattle.redo_record.specs.RecordSet.{records_of}
+use Rattle.redo_record.specs.Common.{records_of}
 use Rattle.recovery.proofs.OneChain.{before-counted, last-taken, point-within, point-found, point-earlier}
 use Rattle.recovery.proofs.one_chain.last_point.Goals as goal
 

@@ -1,7 +1,6 @@
 use Rattle.std.proofs.Common.{◌≡◌, ◌≤◌, [], length, take}
-use Rattle.volume_model.specs.Lists.{added}
-use Rattle.redo_record.specs.Joined.{joined}
-use Rattle.redo_record.specs.Run.{runs_in}
+use Rattle.volume_model.specs.Common.{added}
+use Rattle.redo_record.specs.Common.{joined, runs_in}
 use Rattle.writer_core.specs.Logs.{log_of_set}
 use Rattle.recovery.specs.Chains.{up_to_point}
 use Rattle.recovery.proofs.one_chain.last_point.Given as goal

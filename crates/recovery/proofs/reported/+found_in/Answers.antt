@@ -1,9 +1,8 @@
-use Rattle.std.proofs.Common.{◌≡◌, List, length, take, drop, ◌-◌, ap, sym, ◌∙◌}
-use Rattle.std.specs.Prelude.{Ok, Err, IfOk}
-use Rattle.volume_model.specs.Lineage.{found_in, with_found}
-use Rattle.volume_model.specs.Node.{contents_of}
+use Rattle.std.proofs.Common.{◌≡◌, List, length, take, drop, ◌-◌, ap, sym, ◌∙◌, Ok, Err, IfOk}
+use Rattle.volume_model.specs.Common.{with_found, contents_of}
+use Rattle.volume_model.specs.Lineage.{found_in}
 use Rattle.lineage.specs.Lineage.{lineage_of}
-use Rattle.redo_record.specs.RecordSet.{records_of}
+use Rattle.redo_record.specs.Common.{records_of}
 use Rattle.hydration.specs.declared.copied.Copied.{Copied}
 use Rattle.hydration.specs.Copies.{copies_in}
 use Rattle.writer_core.specs.declared.group_state.GroupState.{GroupState}

@@ -1,6 +1,5 @@
 use Rattle.std.proofs.Common.{List, length, take, drop, ◌-◌, ap, sym, ◌∙◌}
-use Rattle.volume_model.specs.Lineage.{newest_with}
-use Rattle.volume_model.specs.Node.{contents_of}
+use Rattle.volume_model.specs.Common.{newest_with, contents_of}
 use Rattle.lineage.specs.Lineage.{lineage_of}
 use Rattle.hydration.specs.declared.copied.Copied.{Copied}
 use Rattle.hydration.specs.Copies.{copies_in}

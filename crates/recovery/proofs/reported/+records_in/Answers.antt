@@ -1,9 +1,8 @@
 use Rattle.std.proofs.Common.{◌≡◌, ◌+◌, ◌-◌, ◌^◌, List, length, take, drop, ap, ◌∙◌}
 use Rattle.std.specs.Arc.{arc_value}
 use Rattle.wire.specs.declared.contents.Contents.{Contents}
-use Rattle.volume_model.specs.Few.{records_in}
-use Rattle.volume_model.specs.Node.{contents_of}
-use Rattle.redo_record.specs.RecordSet.{records_of}
+use Rattle.volume_model.specs.Common.{records_in, contents_of}
+use Rattle.redo_record.specs.Common.{records_of}
 use Rattle.hydration.specs.declared.copied.Copied.{Copied}
 use Rattle.hydration.specs.Copies.{copies_in}
 use Rattle.recovery.proofs.Bounds.{copies-first, counted-own}

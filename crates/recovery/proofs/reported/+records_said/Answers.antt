@@ -1,7 +1,5 @@
 use Rattle.std.proofs.Common.{◌≡◌, ◌+◌, ◌-◌, ◌^◌, List, length, min, take, drop, ap, ◌∙◌}
-use Rattle.volume_model.specs.Few.{records_in}
-use Rattle.volume_model.specs.Lineage.{Contents}
-use Rattle.volume_model.specs.Node.{contents_of}
+use Rattle.volume_model.specs.Common.{records_in, Contents, contents_of}
 use Rattle.hydration.specs.declared.copied.Copied.{Copied}
 use Rattle.hydration.specs.Copies.{copies_in}
 use Rattle.writer_core.specs.declared.group_state.GroupState.{GroupState}

@@ -1,5 +1,5 @@
 use Rattle.std.proofs.Common.{◌≡◌, ap, ◌∙◌}
-use Rattle.volume_model.specs.Lineage.{newest, newest_with}
+use Rattle.volume_model.specs.Common.{newest, newest_with}
 use Rattle.lineage.specs.Lineage.{lineage_of}
 use Rattle.hydration.proofs.CopiesMore.{copied}
 use Rattle.writer_core.specs.GroupStates.{groups_of}

@@ -1,7 +1,7 @@
 use mir.Val.{bool_byte}
 use Rattle.std.proofs.Common.{Bool, true, false, subst, ◌≡◌, ◌∙◌, length, refl, sym, ap, arith, if◌then◌else◌}
 use Rattle.std.specs.Int.{w16, w32, w64, to_be_bytes}
-use Rattle.volume_model.specs.Redo.{Redo}
+use Rattle.volume_model.specs.Common.{Redo}
 use Rattle.redo_record.specs.Payload.{HasRoom}
 use Rattle.redo_record.proofs.KeptRanges.{redo_of-ranges}
 use Rattle.redo_record.specs.Record.{redo_of}

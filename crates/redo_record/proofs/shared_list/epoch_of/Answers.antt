@@ -1,7 +1,7 @@
 use Rattle.std.proofs.Common.{◌≡◌, ◌∙◌, ℕ, List, map, get_or, ap, sym, inl, inr, arith}
 use Rattle.std.proofs.lemmas.Bool.{cases_lt}
 use Rattle.std.proofs.lemmas.List.{get_or-map, length-map}
-use Rattle.volume_model.specs.Redo.{Redo}
+use Rattle.volume_model.specs.Common.{Redo}
 use Rattle.redo_record.specs.SharedRecord.{shared_redo}
 use Rattle.redo_record.specs.declared.shared_record.SharedRecord.{SharedRecord}
 use Rattle.redo_record.proofs.Linked.{known_epoch-some}

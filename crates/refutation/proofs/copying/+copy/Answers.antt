@@ -1,7 +1,6 @@
-use Rattle.std.proofs.Common.{◌++◌, ◌≡◌, ◌+◌, ◌*◌, ◌<◌, ◌≤◌, ◌∙◌, ap, sym, subst, map, arith, Ok}
+use Rattle.std.proofs.Common.{◌++◌, ◌≡◌, ◌+◌, ◌*◌, ◌<◌, ◌≤◌, ◌∙◌, ap, sym, subst, map, arith, Ok, falls}
 use Rattle.std.proofs.Math.Nat.{le_of_lt, le_refl}
-use borrow.Author.Count.{falls}
-use Rattle.volume_model.specs.Answer.{Gives}
+use Rattle.volume_model.specs.Common.{Gives}
 use Rattle.quorum_expr.proofs.Handed.{wants, handed}
 use Rattle.quorum_expr.proofs.Rebuilt.{pushed, finish}
 use Rattle.refutation.specs.Rule.{open_all, pick, pair_up, split, branches_of, branch_depth, depth_of}

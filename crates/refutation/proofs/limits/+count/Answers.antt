@@ -1,6 +1,5 @@
-use Rattle.std.proofs.Common.{◌+◌, ◌-◌, ◌∙◌, refl, ap, map, drop}
+use Rattle.std.proofs.Common.{◌+◌, ◌-◌, ◌∙◌, refl, ap, map, drop, falls}
 use Rattle.std.proofs.Math.Nat.{le_of_lt, le_refl}
-use borrow.Author.Count.{falls}
 use Rattle.refutation.specs.Rule.{branches_of, branch_depth}
 use Rattle.refutation.specs.Refutation.{rule_of}
 use Rattle.refutation.specs.Limits.{branch_nodes}

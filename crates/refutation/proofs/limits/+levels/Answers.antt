@@ -1,6 +1,5 @@
-use Rattle.std.proofs.Common.{◌-◌, nat_le, map, refl, ap, sym, ◌∙◌}
+use Rattle.std.proofs.Common.{◌-◌, nat_le, map, refl, ap, sym, ◌∙◌, falls}
 use Rattle.std.proofs.Math.Nat.{le_of_lt}
-use borrow.Author.Count.{falls}
 use Rattle.refutation.specs.Rule.{branches_of, depth_of, branch_depth}
 use Rattle.refutation.specs.Refutation.{rule_of}
 use Rattle.refutation.proofs.Rules.{rule_of-Pick, rule_of-Match, branch_below, pick_below, match_below, open_below}

@@ -1,6 +1,5 @@
-use Rattle.std.proofs.Common.{ap, ◌∙◌, sym, map, refl}
+use Rattle.std.proofs.Common.{ap, ◌∙◌, sym, map, refl, falls}
 use Rattle.std.proofs.Math.Nat.{le_of_lt}
-use borrow.Author.Count.{falls}
 use Rattle.refutation.specs.Rule.{branches_of}
 use Rattle.refutation.specs.Refutation.{rule_of}
 use Rattle.refutation.specs.Limits.{each_keeps_lists}

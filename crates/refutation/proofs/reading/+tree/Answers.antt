@@ -1,5 +1,5 @@
 use Rattle.std.proofs.Common.{◌-◌, ◌∙◌, sym, subst, arith}
-use Rattle.volume_model.specs.Answer.{Gives}
+use Rattle.volume_model.specs.Common.{Gives}
 use Rattle.refutation.specs.Forms.{form_data}
 use Rattle.refutation.specs.Refutation.{rule_of}
 use Rattle.refutation.proofs.Levels.{no_level, too_long, one_level}

@@ -1,6 +1,5 @@
-use Rattle.std.proofs.Common.{◌≡◌, ◌∙◌, ap, sym, subst, map, IfOk}
+use Rattle.std.proofs.Common.{◌≡◌, ◌∙◌, ap, sym, subst, map, IfOk, falls}
 use Rattle.std.proofs.Math.Nat.{le_of_lt}
-use borrow.Author.Count.{falls}
 use Rattle.serde_json.specs.View.{view, items_of}
 use Rattle.quorum_expr.proofs.Rebuilt.{pushed, finish}
 use Rattle.refutation.specs.Rule.{branches_of, branch_depth}

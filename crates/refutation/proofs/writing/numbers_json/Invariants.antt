@@ -1,5 +1,4 @@
-use Rattle.std.proofs.Common.{◌≡◌, ◌≤◌, ◌++◌, map, drop, take}
-use Rattle.std.specs.Prelude.{All}
+use Rattle.std.proofs.Common.{◌≡◌, ◌≤◌, ◌++◌, map, drop, take, All}
 use Rattle.serde_json.specs.View.{view}
 use Rattle.refutation.specs.Writing.{number_data}
 use Rattle.refutation.proofs.writing.numbers_json.Given as goal

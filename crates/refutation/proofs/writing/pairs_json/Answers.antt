@@ -1,6 +1,5 @@
-use Rattle.std.proofs.Common.{◌∙◌, ap, sym, length, take, ◌≤◌, arith}
+use Rattle.std.proofs.Common.{◌∙◌, ap, sym, length, take, ◌≤◌, arith, take_all}
 use Rattle.std.proofs.lemmas.Grind.{common_steps}
-use Rattle.std.proofs.lemmas.List.{take_all}
 use Rattle.std.proofs.lemmas.List.Elements.{All-more, All-same}
 use Rattle.serde_json.specs.View.{items_of}
 use Rattle.quorum_expr.proofs.Rebuilt.{finish}

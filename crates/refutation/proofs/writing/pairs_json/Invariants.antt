@@ -1,5 +1,4 @@
-use Rattle.std.proofs.Common.{◌≡◌, ◌++◌, map, drop, take}
-use Rattle.std.specs.Prelude.{All}
+use Rattle.std.proofs.Common.{◌≡◌, ◌++◌, map, drop, take, All}
 use Rattle.serde_json.specs.View.{view}
 use Rattle.refutation.specs.Ranges.{IsPairInRange}
 use Rattle.refutation.specs.Writing.{pair_data}

@@ -1,5 +1,5 @@
 use Rattle.std.proofs.Common.{sym, subst, ◌∙◌}
-use Rattle.redo_record.specs.SharedRecord.{shared_redo}
+use Rattle.redo_record.specs.Common.{shared_redo}
 use Rattle.segment_core.specs.BlockRecords.{IsLastOf}
 use Rattle.segment_core.proofs.AppliedPages.{after-last, after-none}
 use Rattle.segment_core.proofs.block_records.is_after.Goals as goal

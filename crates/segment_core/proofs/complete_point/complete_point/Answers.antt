@@ -1,10 +1,6 @@
 use Rattle.std.proofs.Common.{◌≡◌, ◌++◌, [], ◌∷◌, List, length, refl, sym, ap, ◌∙◌, subst, inl, arith}
-use Rattle.volume_model.specs.Lists.{IsIn}
-use Rattle.volume_model.specs.Redo.{Redo}
-use Rattle.redo_record.specs.Order.{ComesAfter}
-use Rattle.redo_record.specs.RecordSet.{records_of}
-use Rattle.redo_record.specs.Records.{left_of}
-use Rattle.redo_record.specs.SharedRecord.{shared_redo}
+use Rattle.volume_model.specs.Common.{IsIn, Redo}
+use Rattle.redo_record.specs.Common.{ComesAfter, records_of, left_of, shared_redo}
 use Rattle.segment_core.proofs.Counting.{IsCounted, counted-none, counted-linked, counted-apart, counted-all}
 use Rattle.segment_core.proofs.Rises.{shared_redo-falls, runs-fall}
 use Rattle.segment_core.proofs.complete_point.complete_point.Goals as goal

@@ -1,6 +1,5 @@
 use Rattle.std.proofs.Common.{length}
-use Rattle.redo_record.specs.RecordSet.{records_of}
-use Rattle.redo_record.specs.Records.{left_of}
+use Rattle.redo_record.specs.Common.{records_of, left_of}
 use Rattle.segment_core.proofs.Counting.{IsCounted}
 use Rattle.segment_core.proofs.complete_point.complete_point.Given as goal
 

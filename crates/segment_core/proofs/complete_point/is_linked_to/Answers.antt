@@ -1,8 +1,7 @@
 use Rattle.std.proofs.Common.{◌≡◌, Option, Some, None, sym, ◌∙◌, subst, inl, inr}
-use Rattle.volume_model.specs.Redo.{Redo, record_at}
+use Rattle.volume_model.specs.Common.{Redo, record_at}
 use Rattle.volume_model.proofs.Chains.{record_at-some, record_at-there}
-use Rattle.redo_record.specs.RecordSet.{records_of}
-use Rattle.redo_record.specs.SharedRecord.{shared_redo}
+use Rattle.redo_record.specs.Common.{records_of, shared_redo}
 use Rattle.segment_core.proofs.complete_point.is_linked_to.Goals as goal
 
 none-some : (found : Option Redo) (s : Redo) → None ≡ found → found ≡ Some s → ⊥

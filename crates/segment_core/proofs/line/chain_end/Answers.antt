@@ -1,10 +1,8 @@
 use Rattle.std.proofs.Common.{◌≡◌, ◌<◌, ◌+◌, ℕ, List, Some, None, length, drop, refl, sym, subst, ap, ◌∙◌, arith}
 use Rattle.std.proofs.lemmas.Option.{slice_get_within}
 use Rattle.std.specs.List.{slice_get}
-use Rattle.volume_model.specs.Redo.{Redo}
-use Rattle.redo_record.specs.RecordSet.{records_of, runs_of}
-use Rattle.redo_record.specs.RunPlaces.{index_of}
-use Rattle.redo_record.specs.SharedRecord.{shared_redo}
+use Rattle.volume_model.specs.Common.{Redo}
+use Rattle.redo_record.specs.Common.{records_of, runs_of, index_of, shared_redo}
 use Rattle.segment_core.specs.Chains as chains
 use Rattle.segment_core.specs.Chains.{IsFoundAt}
 use Rattle.segment_core.proofs.Lines.{chain-on, chain-ends, drop-here, drop-past}

@@ -1,6 +1,5 @@
 use Rattle.std.proofs.Common.{◌-◌, drop, length}
-use Rattle.redo_record.specs.RecordSet.{records_of, runs_of}
-use Rattle.redo_record.specs.RunPlaces.{index_of}
+use Rattle.redo_record.specs.Common.{records_of, runs_of, index_of}
 use Rattle.segment_core.specs.Chains as chains
 use Rattle.segment_core.proofs.Lines.{IsOnTheWay}
 use Rattle.segment_core.proofs.line.chain_end.Given as goal

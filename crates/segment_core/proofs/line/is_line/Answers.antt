@@ -1,7 +1,6 @@
 use Rattle.std.proofs.Common.{List, length, ap, sym, ◌∙◌, arith}
-use Rattle.volume_model.specs.Redo.{Redo}
-use Rattle.redo_record.specs.Records.{left_of}
-use Rattle.redo_record.specs.SharedRecord.{shared_redo}
+use Rattle.volume_model.specs.Common.{Redo}
+use Rattle.redo_record.specs.Common.{left_of, shared_redo}
 use Rattle.segment_core.specs.Chains as chains
 use Rattle.segment_core.proofs.Lines.{line-next, line-broken}
 use Rattle.segment_core.proofs.line.is_line.Goals as goal

@@ -1,6 +1,5 @@
 use Rattle.std.proofs.Common.{◌≡◌, length}
-use Rattle.redo_record.specs.RecordSet.{records_of}
-use Rattle.redo_record.specs.Records.{left_of}
+use Rattle.redo_record.specs.Common.{records_of, left_of}
 use Rattle.segment_core.specs.Chains as chains
 use Rattle.segment_core.proofs.line.is_line.Given as goal
 

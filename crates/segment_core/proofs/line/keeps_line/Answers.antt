@@ -1,9 +1,6 @@
-use Rattle.std.proofs.Common.{◌≤◌, ℕ, List, subst, arith}
-use Rattle.std.proofs.lemmas.Bool.{leb-true}
-use Rattle.volume_model.specs.Redo.{Redo}
-use Rattle.redo_record.specs.RecordSet.{records_of, runs_of}
-use Rattle.redo_record.specs.RunPlaces.{index_of}
-use Rattle.redo_record.specs.SharedRecord.{shared_redo}
+use Rattle.std.proofs.Common.{◌≤◌, ℕ, List, subst, arith, leb-true}
+use Rattle.volume_model.specs.Common.{Redo}
+use Rattle.redo_record.specs.Common.{records_of, runs_of, index_of, shared_redo}
 use Rattle.segment_core.specs.Chains as chains
 use Rattle.segment_core.specs.Chains.{IsFoundAt}
 use Rattle.segment_core.proofs.Lines.{line-kept, line-kept_last}

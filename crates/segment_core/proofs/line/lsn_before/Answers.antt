@@ -1,7 +1,5 @@
 use Rattle.std.proofs.Common.{sym, ◌∙◌}
-use Rattle.redo_record.specs.RecordSet.{records_of, runs_of}
-use Rattle.redo_record.specs.RunPlaces.{index_of}
-use Rattle.redo_record.specs.SharedRecord.{shared_redo}
+use Rattle.redo_record.specs.Common.{records_of, runs_of, index_of, shared_redo}
 use Rattle.redo_record.proofs.Flat.{within-all}
 use Rattle.segment_core.proofs.Lines.{before-some, before-none}
 use Rattle.segment_core.proofs.line.lsn_before.Goals as goal

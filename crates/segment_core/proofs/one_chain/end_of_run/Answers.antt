@@ -1,8 +1,7 @@
 use Rattle.std.proofs.Common.{◌≡◌, ◌<◌, ◌-◌, ◌∙◌, ◌++◌, ℕ, List, [], ◌∷◌, length, map, take, get_or, sym, ap, subst, arith}
 use Rattle.std.proofs.lemmas.List.{get_or-map, length-map}
-use Rattle.volume_model.specs.Redo.{Redo}
-use Rattle.redo_record.specs.SharedList.{IsGroupChain}
-use Rattle.redo_record.specs.SharedRecord.{shared_redo}
+use Rattle.volume_model.specs.Common.{Redo}
+use Rattle.redo_record.specs.Common.{IsGroupChain, shared_redo}
 use Rattle.redo_record.specs.declared.shared_record.SharedRecord.{SharedRecord}
 use Rattle.redo_record.proofs.Sets.{taken-more, taken-all}
 use Rattle.segment_core.specs.OneChain.{IsOneChain}

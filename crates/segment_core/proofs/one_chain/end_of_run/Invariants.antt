@@ -1,5 +1,5 @@
 use Rattle.std.proofs.Common.{take, map}
-use Rattle.redo_record.specs.SharedRecord.{shared_redo}
+use Rattle.redo_record.specs.Common.{shared_redo}
 use Rattle.segment_core.specs.OneChain.{IsOneChain}
 use Rattle.segment_core.proofs.one_chain.end_of_run.Given as goal
 

@@ -1,5 +1,4 @@
-use Rattle.std.proofs.Common.{◌≡◌, ℕ, drop}
-use Rattle.std.specs.Prelude.{◌||◌}
+use Rattle.std.proofs.Common.{◌≡◌, ℕ, drop, ◌||◌}
 use Rattle.std.specs.FinSet.{contains}
 use Rattle.volume_c.specs.Advances.{among}
 use Rattle.volume_c.proofs.advance_calls.set_of.Given as goal

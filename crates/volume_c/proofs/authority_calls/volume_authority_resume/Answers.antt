@@ -1,9 +1,8 @@
 use Rattle.std.proofs.Common.{Result, Some, ap, ◌∙◌}
 use Rattle.std.specs.Arc.{arc_value}
-use Rattle.volume_model.specs.Plan.{Plan}
-use Rattle.volume_model.specs.World.{Authority}
+use Rattle.volume_model.specs.Common.{Plan, Authority}
 use Rattle.volume_model.specs.declared.fault.Fault.{Fault}
-use Rattle.plan.specs.CheckedModel.{checked_model}
+use Rattle.plan.specs.Common.{checked_model}
 use Rattle.epochs.specs.Snapshot.{authority_in as snapshot_authority, resumed}
 use Rattle.volume_c.specs.View.{View, seen}
 use Rattle.volume_c.specs.Calls.{of_plan, with_value}

@@ -1,6 +1,6 @@
 use Rattle.std.proofs.Common.{Bool, Some, Ok, sym, ap, ◌∙◌}
 use Rattle.volume_model.specs.Client as client
-use Rattle.volume_model.specs.ClientPoints.{acknowledged}
+use Rattle.volume_model.specs.Common.{acknowledged}
 use Rattle.writer_core.specs.Writers.{client_of}
 use Rattle.volume_c.specs.View.{view_of}
 use Rattle.volume_c.specs.Clients.{acknowledged_value, if_open}

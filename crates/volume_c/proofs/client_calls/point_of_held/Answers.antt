@@ -1,8 +1,7 @@
 use Rattle.std.proofs.Common.{ℕ, Bool, length, Some, Ok, nat_le, ap, ◌∙◌}
 use Rattle.volume_model.specs.declared.fault.Fault.TheVariants.{NoGroup}
-use Rattle.volume_model.specs.Refusal.{refuse_if}
+use Rattle.volume_model.specs.Common.{refuse_if, group_point_of}
 use Rattle.volume_model.specs.Client as client
-use Rattle.volume_model.specs.Client.{group_point_of}
 use Rattle.writer_core.specs.Writers.{client_of}
 use Rattle.volume_c.specs.View.{view_of}
 use Rattle.volume_c.specs.Clients.{if_open, point_value}

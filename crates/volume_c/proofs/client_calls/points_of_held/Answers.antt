@@ -1,8 +1,6 @@
 use Rattle.std.proofs.Common.{ℕ, Some, Ok, ◌≡◌, sym, ap, ◌∙◌}
 use Rattle.volume_model.specs.Client as client
-use Rattle.volume_model.specs.ClientPoints.{complete_point, durable_point}
-use Rattle.volume_model.specs.Lineage.{last_start}
-use Rattle.volume_model.specs.Redo.{last_lsn}
+use Rattle.volume_model.specs.Common.{complete_point, durable_point, last_start, last_lsn}
 use Rattle.writer_core.specs.Writers.{client_of}
 use Rattle.volume_c.specs.View.{view_of}
 use Rattle.volume_c.specs.Calls.{Value}

@@ -1,10 +1,10 @@
 use Rattle.std.proofs.Common.{Result, Some, ap, ◌∙◌}
 use Rattle.std.specs.Arc.{arc_value}
-use Rattle.volume_model.specs.Plan.{Plan}
+use Rattle.volume_model.specs.Common.{Plan}
 use Rattle.volume_model.specs.Message as model
 use Rattle.volume_model.specs.declared.fault.Fault.{Fault}
-use Rattle.plan.specs.CheckedModel.{checked_model}
-use Rattle.wire.specs.Message.{message_of}
+use Rattle.plan.specs.Common.{checked_model}
+use Rattle.wire.specs.Common.{message_of}
 use Rattle.volume_c.specs.View.{View, seen}
 use Rattle.volume_c.specs.Calls.{of_plan, with_value}
 use Rattle.volume_c.specs.Clients.{birth_in, birth_step}

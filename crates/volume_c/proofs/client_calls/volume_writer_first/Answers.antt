@@ -1,8 +1,8 @@
 use Rattle.std.proofs.Common.{Some, [], ap, ◌∙◌}
 use Rattle.std.specs.Arc.{arc_value}
-use Rattle.volume_model.specs.Plan.{Plan}
+use Rattle.volume_model.specs.Common.{Plan}
 use Rattle.volume_model.specs.Client as client
-use Rattle.plan.specs.CheckedModel.{checked_model}
+use Rattle.plan.specs.Common.{checked_model}
 use Rattle.volume_c.specs.View.{seen}
 use Rattle.volume_c.specs.Clients.{first_step}
 use Rattle.volume_c.proofs.Made.{client-held, first-made, made, unmade}

@@ -1,5 +1,5 @@
 use Rattle.std.proofs.Common.{map}
-use Rattle.volume_model.specs.ClientWriter.{issued}
+use Rattle.volume_model.specs.Common.{issued}
 use Rattle.volume_c.specs.View.{seen}
 use Rattle.volume_c.specs.Calls.{client_does}
 use Rattle.volume_c.specs.Changes.{given_change}

@@ -1,6 +1,5 @@
 use Rattle.std.proofs.Common.{◌++◌, sym, ap, ◌∙◌}
-use Rattle.wire.specs.Listed.{listed}
-use Rattle.wire.specs.Message.{messages_of}
+use Rattle.wire.specs.Common.{listed, messages_of}
 use Rattle.volume_c.specs.Joined.{joined}
 use Rattle.volume_c.proofs.OwnTurns.{goes-covered, stays-apart}
 use Rattle.volume_c.proofs.frames.drop_covered.Goals as goal

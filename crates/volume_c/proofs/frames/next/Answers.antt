@@ -1,5 +1,5 @@
 use Rattle.std.proofs.Common.{arith}
-use Rattle.wire.specs.Message.{message_of}
+use Rattle.wire.specs.Common.{message_of}
 use Rattle.volume_c.proofs.OwnTurns.{is-next}
 use Rattle.volume_c.proofs.frames.next.Goals as goal
 

@@ -1,6 +1,6 @@
 use Rattle.segment_core.specs.declared.segment.Segment.{Segment}
 use Rattle.segment_core.specs.Segment.{segment_plan, segment_group, segment_member}
-use Rattle.volume_model.specs.Node.{NodeStep}
+use Rattle.volume_model.specs.Common.{NodeStep}
 use Rattle.volume_c.specs.Turns.{turn_of}
 use Rattle.volume_c.proofs.Turns.{took-then}
 use Rattle.volume_c.proofs.OwnTurns.{own-took, same-trans}

@@ -1,4 +1,4 @@
-use Rattle.wire.specs.Message.{message_of}
+use Rattle.wire.specs.Common.{message_of}
 use Rattle.segment_core.specs.Segment.{segment_plan, segment_group, segment_member}
 use Rattle.volume_c.specs.Turns.{turn_of}
 use Rattle.volume_c.proofs.Turns.{took-one}

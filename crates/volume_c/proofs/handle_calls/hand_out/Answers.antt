@@ -1,6 +1,6 @@
 use Rattle.std.proofs.Common.{List, ◌∷◌, refl, sym, ap, ◌∙◌}
 use Rattle.wire.specs.declared.message.Message.{Message}
-use Rattle.wire.specs.Message.{message_of, messages_of}
+use Rattle.wire.specs.Common.{message_of, messages_of}
 use Rattle.volume_c.proofs.handle_calls.hand_out.Goals as goal
 
 pub returns : goal.returns

@@ -1,5 +1,5 @@
 use Rattle.std.proofs.Common.{rules, ◌≡◌, Ok, ap, ◌∙◌}
-use Rattle.volume_model.specs.World.{Authority}
+use Rattle.volume_model.specs.Common.{Authority}
 use Rattle.epochs.specs.Snapshot.{authority_in as snapshot_authority}
 use Rattle.volume_c.specs.Saved.{authority_in, authority_spelled}
 use Rattle.volume_c.proofs.Back.{authority-back}

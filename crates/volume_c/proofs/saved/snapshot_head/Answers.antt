@@ -1,6 +1,6 @@
 use Rattle.std.proofs.Common.{rules, ◌≡◌, ◌∷◌, ◌++◌, [], List, ℕ, length, ap, ◌∙◌, subst}
 use Rattle.std.specs.Int.{w32, w64, to_be_bytes}
-use Rattle.wire.specs.Contents.{contents_of}
+use Rattle.wire.specs.Common.{contents_of}
 use Rattle.wire.specs.declared.contents.Contents.{Contents}
 use Rattle.volume_model.specs.Node.{Node}
 use Rattle.segment_core.specs.Snapshot.{node_in}

@@ -1,9 +1,9 @@
 use Rattle.std.proofs.Common.{Result, Some, ap, ◌∙◌}
 use Rattle.std.specs.Arc.{arc_value}
-use Rattle.volume_model.specs.Plan.{Plan}
+use Rattle.volume_model.specs.Common.{Plan}
 use Rattle.volume_model.specs.Node.{Node}
 use Rattle.volume_model.specs.declared.fault.Fault.{Fault}
-use Rattle.plan.specs.CheckedModel.{checked_model}
+use Rattle.plan.specs.Common.{checked_model}
 use Rattle.volume_c.specs.View.{seen}
 use Rattle.volume_c.specs.Segments.{born_step, node_made}
 use Rattle.volume_c.proofs.Made.{made, segment-held, unmade}

@@ -1,8 +1,6 @@
 use Rattle.std.proofs.Common.{◌≡◌, ◌∙◌, ap, sym, length, arith}
 use Rattle.std.proofs.lemmas.List.{length-map}
-use Rattle.plan.specs.Plan.{plan_data}
-use Rattle.plan.specs.PlanClaims.{claims_in}
-use Rattle.plan.specs.NamedClaims.{placed, all_placed}
+use Rattle.plan.specs.Common.{plan_data, claims_in, placed, all_placed}
 use Rattle.plan.proofs.Reread.{ok_is}
 use Rattle.volume_tests.proofs.certificates.written.Goals as goal
 

@@ -1,6 +1,5 @@
 use Rattle.std.proofs.Common.{◌≡◌, length, All}
-use Rattle.redo_record.specs.Records.{left_of}
-use Rattle.redo_record.specs.SharedRecord.{shared_redo}
+use Rattle.redo_record.specs.Common.{left_of, shared_redo}
 use Rattle.volume_tests.proofs.picked.of_block.Given as goal
 
 abbrev pub invariant-loop-packet : goal.invariant-loop-packet

@@ -1,6 +1,5 @@
 use Rattle.std.proofs.Common.{◌-◌, length}
-use Rattle.redo_record.specs.RunPlaces.{index_of, IsPlaceIn}
-use Rattle.redo_record.specs.RecordSet.{runs_of, records_of}
+use Rattle.redo_record.specs.Common.{index_of, IsPlaceIn, runs_of, records_of}
 use Rattle.volume_tests.proofs.sorted.count_of.Given as goal
 
 abbrev pub invariant-loop-packet : goal.invariant-loop-packet

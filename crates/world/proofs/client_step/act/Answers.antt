@@ -1,17 +1,12 @@
-use Rattle.std.proofs.Common.{◌≡◌, ℕ, ◌+◌, ◌≤◌, ◌++◌, Bool, List, [], Option, Err, length, refl, sym, ap, ◌∙◌, subst, arith, vec_len}
-use Rattle.std.specs.Prelude.{vec_capacity}
+use Rattle.std.proofs.Common.{◌≡◌, ℕ, ◌+◌, ◌≤◌, ◌++◌, Bool, List, [], Option, Err, length, refl, sym, ap, ◌∙◌, subst, arith, vec_len, vec_capacity}
 use Rattle.std.proofs.lemmas.List.{length-map}
 use Rattle.std.proofs.lemmas.Result.{err_from_is_err_and}
 use Rattle.volume_model.specs.declared.fault.Fault.{Fault}
-use Rattle.volume_model.specs.Answer.{refusal_of, AnswersAfterGrowth}
-use Rattle.volume_model.specs.Few.{Few}
-use Rattle.volume_model.specs.Lists.{added}
-use Rattle.volume_model.specs.Plan.{Plan}
+use Rattle.volume_model.specs.Common.{refusal_of, AnswersAfterGrowth, Few, added, Plan, ClientStep}
 use Rattle.volume_model.specs.Message as model
-use Rattle.volume_model.specs.Client.{Client, ClientStep}
+use Rattle.volume_model.specs.Client.{Client}
 use Rattle.wire.specs.declared.message.Message.{Message}
-use Rattle.wire.specs.Listed.{listed}
-use Rattle.wire.specs.Message.{message_of, messages_of}
+use Rattle.wire.specs.Common.{listed, message_of, messages_of}
 use Rattle.recovery.specs.Recoveries.{admitted}
 use Rattle.writer_core.specs.Writers.{answered}
 use Rattle.world.specs.Actions.{client_acted, client_after_growth, client_does, message_found, named_in}

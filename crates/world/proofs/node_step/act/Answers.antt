@@ -1,8 +1,8 @@
 use Rattle.std.proofs.Common.{List, [], refl}
-use Rattle.volume_model.specs.Lists.{added}
+use Rattle.volume_model.specs.Common.{added}
 use Rattle.volume_model.specs.Node.{Node}
 use Rattle.wire.specs.declared.message.Message.{Message}
-use Rattle.wire.specs.Message.{messages_of}
+use Rattle.wire.specs.Common.{messages_of}
 use Rattle.segment_core.specs.declared.segment.Segment.{Segment}
 use Rattle.segment_core.specs.Actions.{action_after_growth}
 use Rattle.segment_core.specs.Prepared.{step_of}

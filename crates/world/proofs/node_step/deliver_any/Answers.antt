@@ -1,10 +1,8 @@
 use Rattle.std.proofs.Common.{◌≡◌, ap, ◌∙◌, List, [], Some, subst}
-use Rattle.volume_model.specs.Answer.{never_after_growth}
-use Rattle.volume_model.specs.Lists.{added, numbered}
+use Rattle.volume_model.specs.Common.{never_after_growth, added, numbered, deliver}
 use Rattle.volume_model.specs.Node.{Node}
-use Rattle.volume_model.specs.World.{deliver}
 use Rattle.wire.specs.declared.message.Message.{Message}
-use Rattle.wire.specs.Message.{message_of, messages_of}
+use Rattle.wire.specs.Common.{message_of, messages_of}
 use Rattle.segment_core.specs.declared.segment.Segment.{Segment}
 use Rattle.segment_core.specs.Prepared.{step_of}
 use Rattle.segment_core.specs.Segment.{node_of, segment_plan, segment_group, segment_member}

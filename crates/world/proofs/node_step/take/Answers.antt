@@ -1,8 +1,8 @@
-use Rattle.std.proofs.Common.{◌++◌, List, length, refl, sym, ap, ap₂, ◌∙◌}
-use Rattle.std.specs.Prelude.{Ok}
-use Rattle.volume_model.specs.Node.{Node, NodeStep}
+use Rattle.std.proofs.Common.{◌++◌, List, length, refl, sym, ap, ap₂, ◌∙◌, Ok}
+use Rattle.volume_model.specs.Common.{NodeStep}
+use Rattle.volume_model.specs.Node.{Node}
 use Rattle.wire.specs.declared.message.Message.{Message}
-use Rattle.wire.specs.Listed.{listed}
+use Rattle.wire.specs.Common.{listed}
 use Rattle.segment_core.specs.declared.prepared.Prepared.{Prepared}
 use Rattle.segment_core.specs.Prepared.{step_of}
 use Rattle.segment_core.specs.Segment.{node_of}

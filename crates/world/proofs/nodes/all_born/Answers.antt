@@ -1,7 +1,7 @@
 use Rattle.std.proofs.Common.{List, ◌≡◌, ℕ, ◌/◌, ◌%◌, ◌++◌, ◌∷◌, [], Option, length, length-append, sym, subst, arith}
 use Rattle.std.specs.Arc.{arc_value}
-use Rattle.volume_model.specs.Plan.{Plan}
-use Rattle.plan.specs.CheckedModel.{checked_model}
+use Rattle.volume_model.specs.Common.{Plan}
+use Rattle.plan.specs.Common.{checked_model}
 use Rattle.segment_core.specs.declared.segment.Segment.{Segment}
 use Rattle.world.specs.Homes.{IsPlace}
 use Rattle.world.proofs.OneNode.{IsNewborn, each-push, newborn}

@@ -1,7 +1,6 @@
-use Rattle.std.proofs.Common.{◌≡◌, ℕ, ◌/◌, ◌%◌, length, Option, Some}
-use Rattle.std.specs.Prelude.{slice_get}
+use Rattle.std.proofs.Common.{◌≡◌, ℕ, ◌/◌, ◌%◌, length, Option, Some, slice_get}
 use Rattle.std.specs.Arc.{arc_value}
-use Rattle.plan.specs.CheckedModel.{checked_model}
+use Rattle.plan.specs.Common.{checked_model}
 use Rattle.segment_core.specs.declared.segment.Segment.{Segment}
 use Rattle.world.specs.Homes.{IsPlace}
 use Rattle.world.proofs.OneNode.{IsNewborn}

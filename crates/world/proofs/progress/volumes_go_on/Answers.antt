@@ -1,6 +1,5 @@
-use Rattle.volume_model.specs.Plan.{Plan}
-use Rattle.volume_model.specs.Claims.{KeepsClaim}
-use Rattle.plan.specs.CheckedModel.{checked_model}
+use Rattle.volume_model.specs.Common.{Plan, KeepsClaim}
+use Rattle.plan.specs.Common.{checked_model}
 use Rattle.plan.proofs.WriteSets.{sat_all}
 use Rattle.world.proofs.progress.volumes_go_on.Goals as goal
 

@@ -2,9 +2,9 @@ use Rattle.std.proofs.Common.{◌≡◌, ◌≢◌, ℕ, ◌+◌, ◌++◌, ◌�
 use Rattle.std.specs.Arc.{arc_value}
 use Rattle.volume_model.specs.declared.fault.Fault.{Fault}
 use Rattle.volume_model.specs.declared.fault.Fault.TheVariants.{NoMemory}
-use Rattle.volume_model.specs.Plan.{Plan}
+use Rattle.volume_model.specs.Common.{Plan}
 use Rattle.volume_model.specs.World as model
-use Rattle.plan.specs.CheckedModel.{checked_model}
+use Rattle.plan.specs.Common.{checked_model}
 use Rattle.world.specs.declared.event.Event.{Event}
 use Rattle.world.specs.Actors.{event_after_growth, world_of, Steps}
 use Rattle.world.specs.Events.{event_of, events_of}

@@ -1,7 +1,7 @@
 use Rattle.std.proofs.Common.{◌≡◌, ◌++◌, drop}
 use Rattle.std.specs.Arc.{arc_value}
 use Rattle.volume_model.specs.World as model
-use Rattle.plan.specs.CheckedModel.{checked_model}
+use Rattle.plan.specs.Common.{checked_model}
 use Rattle.world.specs.Actors.{plan_of, world_of, AreActors}
 use Rattle.world.specs.Events.{events_of}
 use Rattle.world.proofs.running.outcome_of.Given as goal

@@ -3,9 +3,9 @@ use Rattle.std.specs.Arc.{arc_value}
 use Rattle.std.specs.Vec.Iter.{into_iter_items}
 use Rattle.volume_model.specs.declared.fault.Fault.{Fault}
 use Rattle.volume_model.specs.declared.fault.Fault.TheVariants.{NoMemory}
-use Rattle.volume_model.specs.Plan.{Plan}
+use Rattle.volume_model.specs.Common.{Plan}
 use Rattle.volume_model.specs.World as model
-use Rattle.plan.specs.CheckedModel.{checked_model}
+use Rattle.plan.specs.Common.{checked_model}
 use Rattle.world.specs.declared.event.Order.{Order}
 use Rattle.world.specs.Actors.{event_after_growth, plan_of, world_of, Steps}
 use Rattle.world.specs.Events.{total_made, ordered, events_from}

@@ -2,7 +2,7 @@ use Rattle.std.proofs.Common.{◌≡◌, ◌++◌, [], length}
 use Rattle.std.specs.Arc.{arc_value}
 use Rattle.std.specs.Vec.Iter.{into_iter_items}
 use Rattle.volume_model.specs.World as model
-use Rattle.plan.specs.CheckedModel.{checked_model}
+use Rattle.plan.specs.Common.{checked_model}
 use Rattle.world.specs.Actors.{plan_of, world_of, messages_in, AreActors}
 use Rattle.world.specs.Events.{events_from, firsts_of, total_made}
 use Rattle.world.proofs.running.outcome_of_orders.Given as goal

@@ -1,5 +1,5 @@
-use Rattle.volume_model.specs.Plan.{Plan, IsCertified}
-use Rattle.plan.specs.CheckedModel.{checked_model}
+use Rattle.volume_model.specs.Common.{Plan, IsCertified}
+use Rattle.plan.specs.Common.{checked_model}
 use Rattle.world.proofs.Runs.{lasting, finds_lasting}
 use Rattle.world.proofs.running.promised.Goals as goal
 

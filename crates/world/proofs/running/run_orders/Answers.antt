@@ -1,7 +1,7 @@
 use Rattle.std.proofs.Common.{subst}
 use Rattle.std.specs.Arc.{arc_value}
 use Rattle.plan.specs.declared.checked.CheckedPlan.{CheckedPlan}
-use Rattle.plan.specs.CheckedModel.{checked_model}
+use Rattle.plan.specs.Common.{checked_model}
 use Rattle.world.specs.Events.{ordered_events}
 use Rattle.world.specs.Outcomes.{PromisesRuns}
 use Rattle.world.proofs.Returned.{returned_of}

@@ -1,5 +1,4 @@
-use Rattle.std.proofs.Common.{◌≡◌, ◌≤◌, ◌-◌, ℕ, length, vec_capacity}
-use Rattle.std.specs.Prelude.{slice_get}
+use Rattle.std.proofs.Common.{◌≡◌, ◌≤◌, ◌-◌, ℕ, length, vec_capacity, slice_get}
 use Rattle.writer_core.specs.declared.block_lsns.TheConstants.{TREES}
 use Rattle.writer_core.specs.Kept.{lsn_under}
 use Rattle.writer_core.proofs.block_lsns.empty_trees.Given as goal

@@ -1,5 +1,4 @@
-use Rattle.std.proofs.Common.{◌≡◌, ℕ, ap, sym, ◌∙◌, subst}
-use Rattle.std.specs.Prelude.{max, slice_set}
+use Rattle.std.proofs.Common.{◌≡◌, ℕ, ap, sym, ◌∙◌, subst, max, slice_set}
 use Rattle.std.proofs.lemmas.List.{get_or_default, map-set}
 use Rattle.writer_core.specs.declared.count.Count.{Count}
 use Rattle.writer_core.specs.Counts.{count_of, counts_of, IsPlaceOf}

@@ -1,7 +1,6 @@
 use Rattle.std.proofs.Common.{◌≡◌, ℕ, ◌+◌, ◌<◌, ◌^◌, false, drop, max, if◌then◌else◌, arith, ap, sym, subst, ◌∙◌, rules, Fits, w64}
-use Rattle.quorum_expr.specs.Expr.{formula_of}
-use Rattle.volume_model.specs.Formula.{sat}
-use Rattle.volume_model.specs.ClientPoints.{best, reaching}
+use Rattle.quorum_expr.specs.Common.{formula_of}
+use Rattle.volume_model.specs.Common.{sat, best, reaching}
 use Rattle.writer_core.specs.Counts.{counts_of}
 use Rattle.writer_core.proofs.Counting.{none-above, best-goes-on, judged-greatest, judged-none, judged-low}
 use Rattle.writer_core.proofs.counts.best_from.Goals as goal

@@ -1,8 +1,6 @@
-use Rattle.std.proofs.Common.{◌≡◌, ℕ, ◌<◌, ◌^◌, false, drop}
-use Rattle.std.specs.Prelude.{max}
-use Rattle.quorum_expr.specs.Expr.{formula_of}
-use Rattle.volume_model.specs.Formula.{sat}
-use Rattle.volume_model.specs.ClientPoints.{best, reaching}
+use Rattle.std.proofs.Common.{◌≡◌, ℕ, ◌<◌, ◌^◌, false, drop, max}
+use Rattle.quorum_expr.specs.Common.{formula_of}
+use Rattle.volume_model.specs.Common.{sat, best, reaching}
 use Rattle.writer_core.specs.Counts.{counts_of}
 use Rattle.writer_core.proofs.counts.best_from.Given as goal
 

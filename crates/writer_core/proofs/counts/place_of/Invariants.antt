@@ -1,5 +1,5 @@
 use Rattle.std.proofs.Common.{◌≡◌, ℕ, ◌++◌, take, drop}
-use Rattle.volume_model.specs.ClientPoints.{with_count}
+use Rattle.volume_model.specs.Common.{with_count}
 use Rattle.writer_core.specs.Counts.{counts_of}
 use Rattle.writer_core.proofs.counts.place_of.Given as goal
 

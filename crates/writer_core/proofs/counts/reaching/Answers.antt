@@ -1,8 +1,7 @@
-use Rattle.std.proofs.Common.{◌≡◌, ℕ, ◌+◌, ◌<◌, ◌≤◌, drop, nat_le, true, false, arith, ap, sym, subst, ◌∙◌}
-use Rattle.std.specs.Prelude.{◌||◌}
+use Rattle.std.proofs.Common.{◌≡◌, ℕ, ◌+◌, ◌<◌, ◌≤◌, drop, nat_le, true, false, arith, ap, sym, subst, ◌∙◌, ◌||◌}
 use Rattle.std.specs.Ordering.{nat_cmp}
 use Rattle.std.specs.FinSet.{contains, contains-empty}
-use Rattle.volume_model.specs.ClientPoints.{reaching}
+use Rattle.volume_model.specs.Common.{reaching}
 use Rattle.std.proofs.lemmas.Bool.Decides.{nat_tests}
 use Rattle.writer_core.specs.Counts.{counts_of}
 use Rattle.writer_core.proofs.Counting.{reaching-joins, reaching-stays}

@@ -1,7 +1,6 @@
-use Rattle.std.proofs.Common.{◌≡◌, ℕ, drop}
-use Rattle.std.specs.Prelude.{◌||◌}
+use Rattle.std.proofs.Common.{◌≡◌, ℕ, drop, ◌||◌}
 use Rattle.std.specs.FinSet.{contains}
-use Rattle.volume_model.specs.ClientPoints.{reaching}
+use Rattle.volume_model.specs.Common.{reaching}
 use Rattle.writer_core.specs.Counts.{counts_of}
 use Rattle.writer_core.proofs.counts.reaching.Given as goal
 

@@ -1,15 +1,10 @@
 use Rattle.std.proofs.Common.{◌≡◌, ℕ, true, List, length, refl, ap, ap₂, ◌∙◌, arith}
-use Rattle.volume_model.specs.Lists.{each_below}
+use Rattle.volume_model.specs.Common.{each_below, piece_of, pieces_of, to_install, Contents, Lineage, Redo, of_group}
 use Rattle.volume_model.specs.Message as model
-use Rattle.volume_model.specs.Pieces.{piece_of, pieces_of}
-use Rattle.volume_model.specs.ClientRecovery.{to_install}
-use Rattle.volume_model.specs.Lineage.{Contents, Lineage}
-use Rattle.volume_model.specs.Redo.{Redo, of_group}
 use Rattle.lineage.specs.Lineage.{lineage_of}
-use Rattle.redo_record.specs.RecordSet.{records_of}
+use Rattle.redo_record.specs.Common.{records_of}
 use Rattle.redo_record.specs.declared.record_set.RecordSet.{RecordSet}
-use Rattle.wire.specs.Contents.{contents_of}
-use Rattle.wire.specs.Message.{label_of}
+use Rattle.wire.specs.Common.{contents_of, label_of}
 use Rattle.writer_core.specs.Logs.{log_of_set}
 use Rattle.writer_core.proofs.Speaking.{message-more}
 use Rattle.writer_core.proofs.installs.group_installs.Goals as goal

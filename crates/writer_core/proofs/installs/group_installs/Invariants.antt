@@ -1,10 +1,7 @@
 use Rattle.std.proofs.Common.{◌≡◌, true}
-use Rattle.volume_model.specs.Lists.{each_below}
-use Rattle.volume_model.specs.Message.Message.{Install}
-use Rattle.volume_model.specs.Pieces.{piece_of}
-use Rattle.volume_model.specs.ClientRecovery.{to_install}
+use Rattle.volume_model.specs.Common.{each_below, Install, piece_of, to_install}
 use Rattle.lineage.specs.Lineage.{lineage_of}
-use Rattle.wire.specs.Message.{messages_of, label_of}
+use Rattle.wire.specs.Common.{messages_of, label_of}
 use Rattle.writer_core.specs.Logs.{log_of_set}
 use Rattle.writer_core.proofs.installs.group_installs.Given as goal
 

@@ -1,11 +1,7 @@
-use Rattle.std.proofs.Common.{◌≡◌, ◌∙◌, ℕ, Bool, List, [], ◌∷◌, if◌then◌else◌, sym, ap}
-use Rattle.std.proofs.lemmas.Bool.{eq-eqb, ne_eqb}
-use Rattle.volume_model.specs.Redo.{Redo, of_group, with_record}
+use Rattle.std.proofs.Common.{◌≡◌, ◌∙◌, ℕ, Bool, List, [], ◌∷◌, if◌then◌else◌, sym, ap, eq-eqb, ne_eqb}
+use Rattle.volume_model.specs.Common.{Redo, of_group, with_record, added}
 use Rattle.redo_record.specs.declared.record_set.RecordSet.{RecordSet}
-use Rattle.redo_record.specs.SharedRecord.{shared_redo}
-use Rattle.redo_record.specs.Records.{left_of}
-use Rattle.redo_record.specs.RecordSet.{records_of}
-use Rattle.volume_model.specs.Lists.{added}
+use Rattle.redo_record.specs.Common.{shared_redo, left_of, records_of}
 use Rattle.redo_record.proofs.Held.{united-copied}
 use Rattle.writer_core.specs.Logs.{log_of_set}
 use Rattle.writer_core.proofs.Joined.{of_group-all}

@@ -1,8 +1,6 @@
 use Rattle.std.proofs.Common.{◌≡◌, List, length}
-use Rattle.volume_model.specs.Lists.{added}
-use Rattle.volume_model.specs.Redo.{Redo, of_group}
-use Rattle.redo_record.specs.Records.{left_of}
-use Rattle.redo_record.specs.RecordSet.{records_of}
+use Rattle.volume_model.specs.Common.{added, Redo, of_group}
+use Rattle.redo_record.specs.Common.{left_of, records_of}
 use Rattle.writer_core.specs.Logs.{log_of_set}
 use Rattle.writer_core.proofs.installs.of_group.Given as goal
 

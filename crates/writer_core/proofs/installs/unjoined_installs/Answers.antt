@@ -1,14 +1,6 @@
-use Rattle.std.proofs.Common.{ℕ, Bool, true, false, ◌&&◌, not, ◌≡◌, List, [], map, refl, sym, ap, ◌∙◌}
-use Rattle.std.proofs.lemmas.Bool.{lt-ltb, le-ltb}
+use Rattle.std.proofs.Common.{ℕ, Bool, true, false, ◌&&◌, not, ◌≡◌, List, [], map, refl, sym, ap, ◌∙◌, lt-ltb, le-ltb}
 use Rattle.volume_model.specs.Message as model
-use Rattle.volume_model.specs.Message.{place_in}
-use Rattle.volume_model.specs.Client.{group_of, label_of}
-use Rattle.volume_model.specs.ClientMessages.{later_unjoined}
-use Rattle.volume_model.specs.Pieces.{in_pieces}
-use Rattle.volume_model.specs.ClientRecovery.{to_install}
-use Rattle.volume_model.specs.Lineage.{Contents}
-use Rattle.volume_model.specs.Lists.{added}
-use Rattle.volume_model.specs.Redo.{Redo}
+use Rattle.volume_model.specs.Common.{place_in, group_of, label_of, later_unjoined, in_pieces, to_install, Contents, added, Redo}
 use Rattle.lineage.specs.Lineage.{lineage_of}
 use Rattle.wire.specs.declared.label.Place.{Place}
 use Rattle.wire.specs.Message as wire

@@ -1,11 +1,8 @@
 use Rattle.std.proofs.Common.{arith, ◌≡◌, ℕ, ap, ◌∙◌, ◌++◌, ◌∷◌, [], nat_eq, ◌+◌, length}
-use Rattle.volume_model.specs.Redo.{Redo}
+use Rattle.volume_model.specs.Common.{Redo, place_of, label_of, record_of}
 use Rattle.volume_model.specs.Message as model
-use Rattle.volume_model.specs.Client.{place_of, label_of}
-use Rattle.volume_model.specs.ClientWriter.{record_of}
-use Rattle.wire.specs.Listed.{listed}
-use Rattle.wire.specs.Message.{message_of}
-use Rattle.redo_record.specs.SharedRecord.{shared_redo}
+use Rattle.wire.specs.Common.{listed, message_of}
+use Rattle.redo_record.specs.Common.{shared_redo}
 use Rattle.writer_core.specs.Logs.{log_of}
 use Rattle.writer_core.specs.Log.{packets_in}
 use Rattle.writer_core.specs.Changes.{change_of}

@@ -1,10 +1,6 @@
 use Rattle.std.proofs.Common.{◌≡◌, ◌+◌, ◌-◌, ◌^◌, ◌≤◌, ◌++◌, true, drop, take, length, max}
-use Rattle.volume_model.specs.Lists.{every}
-use Rattle.volume_model.specs.Redo.{last_lsn}
-use Rattle.volume_model.specs.Client.{place_of}
-use Rattle.volume_model.specs.ClientWriter.{is_change, issued_log, issued_writes}
-use Rattle.wire.specs.Listed.{listed}
-use Rattle.wire.specs.Message.{messages_of}
+use Rattle.volume_model.specs.Common.{every, last_lsn, place_of, is_change, issued_log, issued_writes}
+use Rattle.wire.specs.Common.{listed, messages_of}
 use Rattle.writer_core.specs.Log.{found_of, log_in, packets_in, room_in}
 use Rattle.writer_core.specs.LastLsns.{AreLastsOf}
 use Rattle.writer_core.specs.Groups.{groups_in}

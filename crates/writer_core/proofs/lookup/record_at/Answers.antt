@@ -3,7 +3,7 @@ use Rattle.std.specs.Borrow.{Bor}
 use Rattle.std.specs.Option.{option_copied}
 use Rattle.std.proofs.lemmas.List.Sorted.{IsPartitionPoint-from_clause, IsPartitionedBy-ltb}
 use Rattle.redo_record.specs.declared.shared_record.SharedRecord.{SharedRecord}
-use Rattle.redo_record.specs.SharedRecord.{shared_redo}
+use Rattle.redo_record.specs.Common.{shared_redo}
 use Rattle.writer_core.proofs.Finding.{lsn-rises, record-found, record-missing}
 use Rattle.writer_core.proofs.lookup.record_at.Goals as goal
 

@@ -1,9 +1,7 @@
 use Rattle.std.proofs.Common.{◌≡◌, ℕ, ◌+◌, ◌-◌, ◌∙◌, ◌++◌, List, length, drop, map, ap, sym, rules, arith}
 use Rattle.std.proofs.lemmas.List.{drop_all, drop-append-le, drop-drop, length-drop, length-map}
-use Rattle.volume_model.specs.Redo.{Redo}
-use Rattle.redo_record.specs.Joined.{joined}
-use Rattle.redo_record.specs.Run.{runs_in}
-use Rattle.redo_record.specs.SharedRecord.{shared_redo}
+use Rattle.volume_model.specs.Common.{Redo}
+use Rattle.redo_record.specs.Common.{joined, runs_in, shared_redo}
 use Rattle.redo_record.specs.declared.run.Run.{Run}
 use Rattle.redo_record.specs.declared.shared_record.SharedRecord.{SharedRecord}
 use Rattle.redo_record.proofs.RunLists.{joined-drop}

@@ -1,6 +1,5 @@
 use Rattle.std.proofs.Common.{◌≡◌, ◌-◌, ◌<◌, ◌≤◌, drop}
-use Rattle.redo_record.specs.Joined.{joined}
-use Rattle.redo_record.specs.Run.{runs_in}
+use Rattle.redo_record.specs.Common.{joined, runs_in}
 use Rattle.writer_core.proofs.lookup.run_before.Given as goal
 
 abbrev pub invariant-loop-run : goal.invariant-loop-run

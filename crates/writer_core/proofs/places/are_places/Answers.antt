@@ -1,7 +1,7 @@
 use Rattle.std.proofs.Common.{map, sym, ◌∙◌}
-use Rattle.plan.specs.CheckedModel.{checked_model}
-use Rattle.volume_model.specs.Plan.{Plan}
-use Rattle.wire.specs.Message.{place_of}
+use Rattle.plan.specs.Common.{checked_model}
+use Rattle.volume_model.specs.Common.{Plan}
+use Rattle.wire.specs.Common.{place_of}
 use Rattle.writer_core.proofs.Below.{below-more, is_place, is_place-at, places-fail}
 use Rattle.writer_core.proofs.places.are_places.Goals as goal
 

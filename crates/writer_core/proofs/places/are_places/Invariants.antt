@@ -1,9 +1,7 @@
 use Rattle.std.proofs.Common.{◌≡◌, map, true}
-use Rattle.volume_model.specs.Lists.{every_below}
-use Rattle.volume_model.specs.Plan.{is_configuration}
-use Rattle.volume_model.specs.Message.{place_in}
-use Rattle.plan.specs.CheckedModel.{checked_model}
-use Rattle.wire.specs.Message.{place_of}
+use Rattle.volume_model.specs.Common.{every_below, is_configuration, place_in}
+use Rattle.plan.specs.Common.{checked_model}
+use Rattle.wire.specs.Common.{place_of}
 use Rattle.writer_core.proofs.places.are_places.Given as goal
 
 abbrev pub invariant-loop-group : goal.invariant-loop-group

@@ -1,6 +1,6 @@
 use Rattle.std.proofs.Common.{◌≡◌, ℕ, ◌+◌, ◌-◌, ◌∷◌, [], ◌++◌, List, length, take, replicate, arith, sym, ap, subst, ◌∙◌}
 use Rattle.std.proofs.lemmas.List.{length_push}
-use Rattle.volume_model.specs.Client.{no_group}
+use Rattle.volume_model.specs.Common.{no_group}
 use Rattle.writer_core.specs.declared.group_state.GroupState.{GroupState}
 use Rattle.writer_core.specs.GroupStates.{groups_of}
 use Rattle.writer_core.proofs.OneMore.{front_on}

@@ -1,5 +1,5 @@
 use Rattle.std.proofs.Common.{◌≡◌, ◌-◌, ◌≤◌, ◌++◌, length, take, replicate, max}
-use Rattle.volume_model.specs.Client.{no_group}
+use Rattle.volume_model.specs.Common.{no_group}
 use Rattle.writer_core.specs.GroupStates.{groups_of}
 use Rattle.writer_core.proofs.places.extend.Given as goal
 

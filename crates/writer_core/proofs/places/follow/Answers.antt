@@ -1,4 +1,4 @@
-use Rattle.volume_model.specs.ClientMessages.{later_group}
+use Rattle.volume_model.specs.Common.{later_group}
 use Rattle.writer_core.proofs.Placing.{moved-all}
 use Rattle.writer_core.proofs.places.follow.Goals as goal
 

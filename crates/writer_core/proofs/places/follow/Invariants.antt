@@ -1,6 +1,6 @@
 use Rattle.std.proofs.Common.{◌≡◌, ◌++◌, map, take, drop}
-use Rattle.volume_model.specs.ClientMessages.{with_places, later_group}
-use Rattle.wire.specs.Message.{place_of}
+use Rattle.volume_model.specs.Common.{with_places, later_group}
+use Rattle.wire.specs.Common.{place_of}
 use Rattle.writer_core.specs.GroupStates.{groups_of}
 use Rattle.writer_core.proofs.places.follow.Given as goal
 

@@ -1,8 +1,7 @@
 use Rattle.std.proofs.Common.{◌≡◌, ◌<◌, length, arith, ap, sym, subst, ◌∙◌}
 use Rattle.std.proofs.lemmas.List.{map-set}
-use Rattle.plan.specs.CheckedModel.{checked_model}
-use Rattle.volume_model.specs.Client.{ClientGroup, place_of}
-use Rattle.volume_model.specs.ClientPoints.{raised_group}
+use Rattle.plan.specs.Common.{checked_model}
+use Rattle.volume_model.specs.Common.{ClientGroup, place_of, raised_group}
 use Rattle.writer_core.specs.GroupStates.{group_at, groups_of, ArePlaced}
 use Rattle.writer_core.proofs.Placing.{group-is, placed-set, raised-more}
 use Rattle.writer_core.proofs.places.raise.Goals as goal

@@ -1,6 +1,6 @@
 use Rattle.std.proofs.Common.{◌≡◌, ◌++◌, take, drop}
-use Rattle.plan.specs.CheckedModel.{checked_model}
-use Rattle.volume_model.specs.ClientPoints.{raised, raised_from}
+use Rattle.plan.specs.Common.{checked_model}
+use Rattle.volume_model.specs.Common.{raised, raised_from}
 use Rattle.writer_core.specs.GroupStates.{groups_of, ArePlaced}
 use Rattle.writer_core.proofs.places.raise.Given as goal
 

@@ -1,4 +1,4 @@
-use Rattle.volume_model.specs.ClientMessages.{reread_group}
+use Rattle.volume_model.specs.Common.{reread_group}
 use Rattle.writer_core.proofs.Placing.{moved-all}
 use Rattle.writer_core.proofs.places.reread.Goals as goal
 

@@ -1,5 +1,5 @@
 use Rattle.std.proofs.Common.{◌≡◌, drop}
-use Rattle.volume_model.specs.ClientWriter.{have_joined}
+use Rattle.volume_model.specs.Common.{have_joined}
 use Rattle.writer_core.specs.Changes.{changes_of}
 use Rattle.writer_core.specs.Groups.{groups_in}
 use Rattle.writer_core.proofs.transaction.have_joined.Given as goal

@@ -1,6 +1,5 @@
 use Rattle.std.proofs.Common.{◌≡◌, drop}
-use Rattle.volume_model.specs.Lists.{every}
-use Rattle.volume_model.specs.ClientWriter.{is_change}
+use Rattle.volume_model.specs.Common.{every, is_change}
 use Rattle.writer_core.specs.Changes.{changes_of}
 use Rattle.writer_core.proofs.transaction.is_transaction.Given as goal
 

@@ -1,14 +1,11 @@
-use Rattle.std.proofs.Common.{◌≡◌, true, List, map, ap, sym, ◌∙◌}
-use Rattle.std.specs.Prelude.{Ok}
-use Rattle.volume_model.specs.Formula.{sat}
-use Rattle.volume_model.specs.Pieces.{brought, copied_by}
-use Rattle.volume_model.specs.Lineage.{found_in, newest}
-use Rattle.volume_model.specs.PieceLaws.{united_copy}
+use Rattle.std.proofs.Common.{◌≡◌, true, List, map, ap, sym, ◌∙◌, Ok}
+use Rattle.volume_model.specs.Common.{sat, brought, copied_by, newest, united_copy}
+use Rattle.volume_model.specs.Lineage.{found_in}
 use Rattle.hydration.specs.declared.kept_copy.KeptCopy.{KeptCopy}
 use Rattle.hydration.specs.KeptCopies.{all_kept_copies}
 use Rattle.lineage.specs.Lineage.{lineage_of}
-use Rattle.redo_record.specs.RecordSet.{records_of}
-use Rattle.quorum_expr.specs.Expr.{formula_of}
+use Rattle.redo_record.specs.Common.{records_of}
+use Rattle.quorum_expr.specs.Common.{formula_of}
 use Rattle.hydration.specs.Hydration.{copies_of}
 use Rattle.hydration.proofs.Bringing.{finished-complete}
 use Rattle.hydration.proofs.hydration.Hydration.finish.Goals as goal

@@ -1,5 +1,4 @@
-use Rattle.std.proofs.Common.{◌<◌, subst, sym, ap, ◌∙◌}
-use Rattle.std.specs.Prelude.{option_map}
+use Rattle.std.proofs.Common.{◌<◌, subst, sym, ap, ◌∙◌, option_map}
 use Rattle.hydration.specs.Pieces.{seen_pieces}
 use Rattle.hydration.specs.Hydration.{copies_of}
 use Rattle.hydration.proofs.Gathering.{none-pieces, place-at, place-inside}

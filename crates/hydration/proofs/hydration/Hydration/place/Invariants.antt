@@ -1,5 +1,4 @@
-use Rattle.std.proofs.Common.{◌≡◌, ◌+◌, drop}
-use Rattle.std.specs.Prelude.{option_map}
+use Rattle.std.proofs.Common.{◌≡◌, ◌+◌, drop, option_map}
 use Rattle.hydration.specs.KeptCopies.{all_kept_copies}
 use Rattle.hydration.specs.Hydration.{place_of}
 use Rattle.hydration.proofs.hydration.Hydration.place.Given as goal

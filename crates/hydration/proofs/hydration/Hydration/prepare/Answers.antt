@@ -1,6 +1,6 @@
 use Rattle.std.proofs.Common.{◌≡◌, ◌++◌, ◌∷◌, [], false, Ok, ap, sym, ◌∙◌}
-use Rattle.volume_model.specs.Pieces.{Copy, is_bad_piece}
-use Rattle.wire.specs.Contents.{contents_of, piece_in}
+use Rattle.volume_model.specs.Common.{Copy, is_bad_piece}
+use Rattle.wire.specs.Common.{contents_of, piece_in}
 use Rattle.hydration.specs.Hydration.{copies_of, is_bad}
 use Rattle.hydration.proofs.Fair.{kept-good}
 use Rattle.hydration.proofs.Gathering.{none-with}

@@ -1,6 +1,6 @@
 use Rattle.std.proofs.Common.{◌<◌, ap, refl, sym, subst, ◌∙◌}
-use Rattle.volume_model.specs.Pieces.{is_bad_piece}
-use Rattle.wire.specs.Contents.{contents_of, piece_in}
+use Rattle.volume_model.specs.Common.{is_bad_piece}
+use Rattle.wire.specs.Common.{contents_of, piece_in}
 use Rattle.hydration.proofs.Gathering.{pieces-same, place-at, place-inside}
 use Rattle.hydration.proofs.Readying.{changed-place, ready-place}
 use Rattle.hydration.proofs.hydration.Hydration.prepare_at.Goals as goal

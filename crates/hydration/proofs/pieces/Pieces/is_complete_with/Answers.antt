@@ -1,5 +1,5 @@
 use Rattle.std.proofs.Common.{ap, subst, sym, ◌∙◌}
-use Rattle.volume_model.specs.Pieces.{is_complete}
+use Rattle.volume_model.specs.Common.{is_complete}
 use Rattle.hydration.specs.Pieces.{seen_pieces}
 use Rattle.hydration.specs.Changes.{CanAdd, CanChange, changed}
 use Rattle.hydration.specs.declared.change.Change.{Change}

@@ -1,7 +1,6 @@
-use Rattle.std.proofs.Common.{◌≡◌, ◌++◌, ◌∷◌, [], ap, subst, sym, ◌∙◌}
-use Rattle.std.specs.Prelude.{IfOk}
-use Rattle.volume_model.specs.Pieces.{united, contents_in}
-use Rattle.redo_record.specs.RecordSet.{records_of}
+use Rattle.std.proofs.Common.{◌≡◌, ◌++◌, ◌∷◌, [], ap, subst, sym, ◌∙◌, IfOk}
+use Rattle.volume_model.specs.Common.{united, contents_in}
+use Rattle.redo_record.specs.Common.{records_of}
 use Rattle.redo_record.specs.declared.record_set.RecordSet.{RecordSet}
 use Rattle.hydration.specs.Kept.{sets_kept}
 use Rattle.hydration.specs.Pieces.{seen_pieces}

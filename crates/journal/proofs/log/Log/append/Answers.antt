@@ -1,7 +1,6 @@
 use Rattle.std.proofs.Common.{◌≡◌, ◌+◌, ◌≤◌, List, length, length-append, vec_len, map, All, [], ◌∷◌, ◌++◌, Bool, true, false, MatchBool, refl, sym, ap, ◌∙◌, subst, arith, rules, get_or}
 use mathlib.Core.List.{IsPrefix}
-use Rattle.volume_model.specs.Actor.{same_actor}
-use Rattle.volume_model.specs.Journal.{Goes, world_at}
+use Rattle.volume_model.specs.Common.{same_actor, Goes, world_at, World, groups_joined}
 use Rattle.volume_model.proofs.Judges.{refused_longer}
 use Rattle.journal.specs.declared.entry.Entry.{Entry}
 use Rattle.journal.specs.declared.pass.PassStep.{PassStep}
@@ -9,11 +8,10 @@ use Rattle.journal.specs.Actors.{seen_who}
 use Rattle.journal.specs.Entries.{entry_of, entries_of, note_of}
 use Rattle.journal.specs.Fronts.{front_log, log_of}
 use Rattle.journal.specs.LastEntries.{last_known, or_zero}
-use Rattle.wire.specs.Listed.{listed}
+use Rattle.wire.specs.Common.{listed}
 use Rattle.journal.specs.PassSteps.{made, Stands}
 use Rattle.journal.specs.Tokens.{shown}
 use Rattle.world.specs.Events.{event_of}
-use Rattle.volume_model.specs.World.{World, groups_joined}
 use Rattle.journal.specs.Joined.{joined_after}
 use Rattle.journal.proofs.Joining.{joined_step}
 use Rattle.journal.proofs.Maps.{map-length}

@@ -1,5 +1,5 @@
 use Rattle.std.proofs.Common.{◌-◌, ◌<◌, ◌≤◌, vec_len}
-use Rattle.volume_model.specs.Journal.{before}
+use Rattle.volume_model.specs.Common.{before}
 use Rattle.journal.specs.Passes.{journal_of}
 use Rattle.journal.proofs.log.Log.between.Given as goal
 

@@ -1,5 +1,5 @@
 use Rattle.std.proofs.Common.{List, length, All, map, ap, ◌∙◌, subst}
-use Rattle.volume_model.specs.Judging.{IsRefused}
+use Rattle.volume_model.specs.Common.{IsRefused}
 use Rattle.journal.specs.declared.entry.Entry.{Entry}
 use Rattle.journal.specs.declared.pass.PassStep.{PassStep}
 use Rattle.journal.specs.Entries.{entries_of, note_of}

@@ -1,6 +1,6 @@
 use Rattle.std.proofs.Common.{◌≡◌, ◌+◌, suc, [], ◌∷◌, ◌++◌, take, sym, ap, ◌∙◌, arith}
 use Rattle.volume_model.specs.Journal as model
-use Rattle.volume_model.specs.Journal.{events}
+use Rattle.volume_model.specs.Common.{events}
 use Rattle.volume_model.proofs.Worlds.{take_more}
 use Rattle.world.specs.Events.{event_of, events_of}
 use Rattle.journal.specs.Entries.{entry_of, entries_of}

@@ -1,5 +1,5 @@
 use Rattle.std.proofs.Common.{◌≡◌, take}
-use Rattle.volume_model.specs.Journal.{events}
+use Rattle.volume_model.specs.Common.{events}
 use Rattle.world.specs.Events.{events_of}
 use Rattle.journal.specs.Passes.{journal_of}
 use Rattle.journal.proofs.log.Log.events.Given as goal

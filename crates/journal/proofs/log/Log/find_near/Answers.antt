@@ -1,6 +1,5 @@
-use Rattle.std.proofs.Common.{◌≡◌, ◌-◌, ◌<◌, List, length, vec_len, Some, sym, ap, ◌∙◌, arith, inl, inr, rules}
-use Rattle.std.specs.Prelude.{slice_get}
-use Rattle.volume_model.specs.Journal.{world_at}
+use Rattle.std.proofs.Common.{◌-◌, List, sym, ap, ◌∙◌, arith, inl, inr, slice_get}
+use Rattle.volume_model.specs.Common.{world_at}
 use Rattle.volume_model.proofs.ListFacts.{numbered_none}
 use Rattle.journal.specs.declared.entry.Entry.{Entry}
 use Rattle.journal.specs.Entries.{entries_of}

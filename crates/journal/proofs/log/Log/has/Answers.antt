@@ -1,4 +1,4 @@
-use Rattle.std.proofs.Common.{◌≡◌, List, sym, ◌∙◌, subst}
+use Rattle.std.proofs.Common.{List, sym, subst}
 use mathlib.Core.List.{IsPrefix}
 use Rattle.volume_model.proofs.Fronts.{prefix_get}
 use Rattle.journal.specs.declared.entry.Entry.{Entry}

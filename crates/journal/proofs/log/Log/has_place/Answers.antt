@@ -1,8 +1,6 @@
-use Rattle.std.proofs.Common.{◌≡◌, ℕ, [], Option, Some, None, MatchBool, refl, sym, ap, ◌∙◌, subst}
-use Rattle.std.specs.Prelude.{IsSome}
+use Rattle.std.proofs.Common.{◌≡◌, ℕ, [], Option, Some, None, MatchBool, refl, sym, ap, ◌∙◌, subst, IsSome}
 use Rattle.std.specs.Option.{is_some}
-use Rattle.volume_model.specs.Actor.{Agree}
-use Rattle.volume_model.specs.World.{opening}
+use Rattle.volume_model.specs.Common.{Agree, opening}
 use Rattle.volume_model.proofs.Fronts.{prefix_self}
 use Rattle.volume_model.proofs.Worlds.{known}
 use Rattle.journal.specs.Actors.{seen_who}

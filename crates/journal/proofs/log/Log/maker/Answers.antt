@@ -1,6 +1,6 @@
 use Rattle.std.proofs.Common.{◌≡◌, ◌<◌, ◌≤◌, List, length, vec_len, sym, ap, ◌∙◌, arith, rules, subst}
 use Rattle.volume_model.specs.Journal as model
-use Rattle.volume_model.specs.Journal.{world_at}
+use Rattle.volume_model.specs.Common.{world_at}
 use Rattle.journal.specs.declared.entry.Entry.{Entry}
 use Rattle.volume_model.proofs.Worlds.{take_rest}
 use Rattle.journal.specs.Entries.{entries_of}

@@ -1,5 +1,5 @@
 use Rattle.std.proofs.Common.{◌≡◌, List, length, All, sym, ◌∙◌, subst, rules}
-use Rattle.volume_model.specs.Judging.{IsRefused}
+use Rattle.volume_model.specs.Common.{IsRefused}
 use Rattle.world.specs.Events.{event_of}
 use Rattle.journal.specs.declared.entry.Entry.{Entry}
 use Rattle.journal.specs.declared.pass.PassStep.{PassStep}

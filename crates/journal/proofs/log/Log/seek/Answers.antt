@@ -1,6 +1,5 @@
 use Rattle.std.proofs.Common.{◌≡◌, List, Option, None, Some, IfNone, All, map, get_or, sym, ap, ◌∙◌, subst}
-use Rattle.volume_model.specs.Lists.{numbered}
-use Rattle.volume_model.specs.Journal.{world_at}
+use Rattle.volume_model.specs.Common.{numbered, world_at}
 use Rattle.journal.specs.declared.entry.Entry.{Entry}
 use Rattle.journal.specs.declared.pass.PassStep.{PassStep}
 use Rattle.journal.specs.Entries.{entry_of, entries_of}

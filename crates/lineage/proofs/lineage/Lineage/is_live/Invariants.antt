@@ -1,5 +1,5 @@
 use Rattle.std.proofs.Common.{◌≡◌, length}
-use Rattle.volume_model.specs.Lineage.{is_live}
+use Rattle.volume_model.specs.Common.{is_live}
 use Rattle.lineage.specs.Entries.{entries_from, entries_left}
 use Rattle.lineage.specs.Lineage.{lineage_of}
 use Rattle.lineage.proofs.lineage.Lineage.is_live.Given as goal

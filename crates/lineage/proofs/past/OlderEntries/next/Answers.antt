@@ -1,5 +1,4 @@
-use Rattle.std.proofs.Common.{◌∙◌, length, sym}
-use Rattle.std.proofs.lemmas.Bool.{eqb-true}
+use Rattle.std.proofs.Common.{◌∙◌, length, sym, eqb-true}
 use Rattle.lineage.proofs.Chunks.{entries-last}
 use Rattle.lineage.proofs.past.OlderEntries.next.Goals as goal
 

@@ -1,5 +1,6 @@
 use Rattle.std.proofs.Common.{List, length, sym, ap, ◌∙◌}
-use Rattle.volume_model.specs.Journal.{Entry, world_at}
+use Rattle.volume_model.specs.Common.{world_at}
+use Rattle.volume_model.specs.Journal.{Entry}
 use Rattle.epochs.specs.Authority.{authority_of, authority_plan}
 use Rattle.world.specs.Actions.{authority_acted}
 use Rattle.world.specs.Events.{event_of}

@@ -1,6 +1,6 @@
 use Rattle.std.proofs.Common.{List, refl, ap, ◌∙◌}
-use Rattle.volume_model.specs.Journal.{Entry, world_at}
-use Rattle.volume_model.specs.Lists.{numbered}
+use Rattle.volume_model.specs.Common.{world_at, numbered}
+use Rattle.volume_model.specs.Journal.{Entry}
 use Rattle.journal.specs.Entries.{entries_of}
 use Rattle.journal.specs.Tokens.{shown}
 use Rattle.node_fleet.proofs.client.ClientActor.act.Goals as goal

@@ -1,13 +1,12 @@
 use Rattle.std.proofs.Common.{◌≡◌, List, length, sym, ap, ◌∙◌, subst, rules}
-use Rattle.volume_model.specs.Actor.{Actor}
-use Rattle.volume_model.specs.Journal.{Entry, world_at}
+use Rattle.volume_model.specs.Common.{Actor, world_at}
+use Rattle.volume_model.specs.Journal.{Entry}
 use Rattle.world.specs.Clients.{client_plan, client_volume, seen_client}
 use Rattle.world.specs.Events.{event_of}
 use Rattle.journal.specs.Passes.{journal_of, marked, seen_at}
 use Rattle.world.specs.Actions.{action_event, client_acted, message_found}
 use Rattle.node_fleet.specs.Actions.{IsFound}
-use Rattle.node_fleet.proofs.Acting.{client_here, event_is, refuses_alike, attempt_durable, attempt_makes}
-use Rattle.node_fleet.proofs.Acting.{attempt_state}
+use Rattle.node_fleet.proofs.Acting.{client_here, event_is, refuses_alike, attempt_durable, attempt_makes, attempt_state}
 use Rattle.node_fleet.proofs.Exactly.{attempt_exact}
 use Rattle.node_fleet.proofs.client.ClientActor.step.Goals as goal
 

@@ -1,5 +1,5 @@
 use Rattle.std.proofs.Common.{◌≡◌, IfErr, subst}
-use Rattle.volume_model.specs.World.{Event}
+use Rattle.volume_model.specs.Common.{Event}
 use Rattle.volume_model.specs.declared.fault.Fault.TheVariants.{NoMessage}
 use Rattle.node_fleet.specs.Calls.{NamesElse}
 use Rattle.node_fleet.specs.Passes.{steps_of}

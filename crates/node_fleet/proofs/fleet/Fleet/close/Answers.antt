@@ -1,9 +1,9 @@
 use Rattle.std.proofs.Common.{◌≡◌, List, length, vec_len, sym, ap, ◌∙◌, subst, arith, rules}
 use Rattle.std.proofs.lemmas.List.{length-map}
 use Rattle.board.specs.Board.{IsBoard}
-use Rattle.volume_model.specs.Plan.{Plan}
-use Rattle.volume_model.specs.Journal.{Entry, events}
-use Rattle.plan.specs.CheckedModel.{checked_model}
+use Rattle.volume_model.specs.Common.{Plan, events}
+use Rattle.volume_model.specs.Journal.{Entry}
+use Rattle.plan.specs.Common.{checked_model}
 use Rattle.world.specs.Outcomes.{KeepsPromises}
 use Rattle.journal.specs.PassSteps.{NamesEarlier}
 use Rattle.node_fleet.specs.Journals.{entries_in}

@@ -1,7 +1,6 @@
 use Rattle.std.proofs.Common.{◌≡◌, length, sym, ap, ◌∙◌}
-use Rattle.plan.specs.CheckedModel.{checked_model}
-use Rattle.volume_model.specs.Actor.{Actor}
-use Rattle.volume_model.specs.Journal.{world_at}
+use Rattle.plan.specs.Common.{checked_model}
+use Rattle.volume_model.specs.Common.{Actor, world_at}
 use Rattle.world.specs.Clients.{client_plan, client_volume, seen_client}
 use Rattle.world.specs.Events.{event_of}
 use Rattle.journal.specs.Passes.{journal_of}

@@ -1,4 +1,4 @@
-use Rattle.std.proofs.Common.{◌≡◌, ◌+◌, ◌++◌, ◌∷◌, [], All, List, Option, Some, None, option_map, length, vec_len, sym, ap, ◌∙◌, subst, arith}
+use Rattle.std.proofs.Common.{◌≡◌, ◌+◌, ◌++◌, ◌∷◌, [], All, List, Option, Some, None, option_map, length, vec_len, sym, ap, ◌∙◌, subst, arith, slice_get}
 use Rattle.std.proofs.lemmas.List.Elements.{All-pop, All-push}
 use Rattle.std.proofs.lemmas.Option.{MatchOption-at_none}
 use Rattle.node_fleet.specs.declared.mailbox.Mailbox.{Mailbox}
@@ -6,7 +6,6 @@ use Rattle.node_fleet.specs.declared.mailbox.MailSeat.{MailSeat}
 use Rattle.node_fleet.specs.declared.mailboxes.MailSeats.{MailSeats}
 use Rattle.node_fleet.specs.Seats.{id_of, MailboxId}
 use Rattle.node_fleet.specs.Mails.{ids_in, seat_steps, FitEach, HasNoSteps}
-use Rattle.std.specs.Prelude.{slice_get}
 use Rattle.node_fleet.proofs.Mails.{fit_push, given_one, ids_push, none_more}
 use Rattle.node_fleet.proofs.mailboxes.Mailboxes.add.Goals as goal
 

@@ -1,11 +1,9 @@
-use Rattle.std.proofs.Common.{◌≡◌, ◌*◌, ◌∷◌, ℕ, [], All, List, Option, length, sym, ap, ◌∙◌, subst, arith, rules}
-use Rattle.std.proofs.lemmas.List.{length-append}
+use Rattle.std.proofs.Common.{◌≡◌, ◌*◌, ◌∷◌, ℕ, [], All, List, Option, length, sym, ap, ◌∙◌, subst, arith, rules, length-append}
 use Rattle.std.proofs.lemmas.List.Elements.{All-push}
 use Rattle.node_fleet.specs.declared.mailbox.Mailbox.{Mailbox}
 use Rattle.node_fleet.specs.Mails.{IsNew}
-use Rattle.plan.specs.CheckedModel.{checked_model}
-use Rattle.plan.specs.Plan.{plan_data}
-use Rattle.volume_model.specs.Plan.{Plan}
+use Rattle.plan.specs.Common.{checked_model, plan_data}
+use Rattle.volume_model.specs.Common.{Plan}
 use Rattle.world.proofs.Low.{is_low}
 use Rattle.node_fleet.proofs.Homes.{AreHomes, IsHome, has_nodes, homes_push}
 use Rattle.node_fleet.proofs.mailboxes.Mailboxes.new.Goals as goal

@@ -1,6 +1,5 @@
-use Rattle.std.proofs.Common.{◌≡◌, ℕ, All, Option, Some, vec_len}
-use Rattle.std.specs.Prelude.{slice_get}
-use Rattle.plan.specs.CheckedModel.{checked_model}
+use Rattle.std.proofs.Common.{◌≡◌, ℕ, All, Option, Some, vec_len, slice_get}
+use Rattle.plan.specs.Common.{checked_model}
 use Rattle.node_fleet.specs.declared.mailbox.Mailbox.{Mailbox}
 use Rattle.node_fleet.specs.Mails.{AreNew, AreSeatsOf, HasNoSteps}
 use Rattle.node_fleet.proofs.Homes.{IsHome}

@@ -1,5 +1,4 @@
-use Rattle.std.proofs.Common.{◌≡◌, List, ℕ, Option, Some, sym, ap, ◌∙◌, subst}
-use Rattle.std.specs.Prelude.{slice_get}
+use Rattle.std.proofs.Common.{◌≡◌, List, ℕ, Option, Some, sym, ap, ◌∙◌, subst, slice_get}
 use Rattle.std.proofs.lemmas.Option.{slice_get_within}
 use Rattle.node_fleet.specs.declared.mailbox.Mailbox.{Mailbox}
 use Rattle.node_fleet.specs.declared.mailbox.MailSeat.{MailSeat}

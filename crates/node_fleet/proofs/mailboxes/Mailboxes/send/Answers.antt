@@ -1,5 +1,4 @@
-use Rattle.std.proofs.Common.{◌≡◌, ℕ, List, Option, Some, None, arith}
-use Rattle.std.specs.Prelude.{slice_get}
+use Rattle.std.proofs.Common.{◌≡◌, ℕ, List, Option, Some, None, arith, slice_get}
 use Rattle.node_fleet.specs.Mail.{AddsPosted}
 use Rattle.node_fleet.specs.declared.mailbox.MailStep.{MailStep}
 use Rattle.node_fleet.specs.declared.mailbox.MailSeat.{MailSeat}

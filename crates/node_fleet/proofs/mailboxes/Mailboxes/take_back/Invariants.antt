@@ -1,5 +1,4 @@
-use Rattle.std.proofs.Common.{◌≡◌, ◌<◌, ◌≤◌, ◌∷◌, ℕ, Option, Some, vec_len}
-use Rattle.std.specs.Prelude.{slice_get}
+use Rattle.std.proofs.Common.{◌≡◌, ◌<◌, ◌≤◌, ◌∷◌, ℕ, Option, Some, vec_len, slice_get}
 use Rattle.node_fleet.specs.declared.mailbox.Mailbox.{Mailbox}
 use Rattle.node_fleet.specs.declared.mailbox.MailSeat.{MailSeat}
 use Rattle.node_fleet.specs.Mails.{back_at, seat_steps, AreBack, Has}

@@ -1,13 +1,8 @@
 use Rattle.std.proofs.Common.{List, length, Err, sym, ap, ◌∙◌, subst}
 use Rattle.volume_model.specs.declared.fault.Fault.TheVariants.{JournalFull, NoActor}
-use Rattle.volume_model.specs.Actor.{actor_of}
-use Rattle.volume_model.specs.Judging.{Exact}
-use Rattle.volume_model.specs.Journal.{Entry, world_at}
-use Rattle.volume_model.specs.Node.{NodeStep}
-use Rattle.volume_model.specs.StepResults.{makes, refusal}
-use Rattle.volume_model.specs.World.{Event, World, after, step}
-use Rattle.wire.specs.Listed.{listed}
-use Rattle.wire.specs.Message.{messages_of}
+use Rattle.volume_model.specs.Common.{actor_of, Exact, world_at, NodeStep, makes, refusal, Event, World, after, step}
+use Rattle.volume_model.specs.Journal.{Entry}
+use Rattle.wire.specs.Common.{listed, messages_of}
 use Rattle.segment_core.specs.Prepared.{step_of}
 use Rattle.segment_core.specs.Segment.{node_of}
 use Rattle.journal.specs.Passes.{journal_of, marked, seen_at}

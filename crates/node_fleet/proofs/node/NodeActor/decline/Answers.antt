@@ -1,10 +1,8 @@
 use Rattle.std.proofs.Common.{List, length, Err, refl, sym, ap, ◌∙◌, subst}
-use Rattle.volume_model.specs.Judging.{Exact}
-use Rattle.volume_model.specs.Journal.{Entry, world_at}
-use Rattle.volume_model.specs.Lists.{numbered}
-use Rattle.volume_model.specs.World.Event.{Deliver}
+use Rattle.volume_model.specs.Common.{Exact, world_at, numbered, Deliver}
+use Rattle.volume_model.specs.Journal.{Entry}
 use Rattle.segment_core.specs.Segment.{node_of}
-use Rattle.wire.specs.Listed.{listed}
+use Rattle.wire.specs.Common.{listed}
 use Rattle.journal.specs.Passes.{journal_of, message_ref_message, message_ref_number, marked, seen_at}
 use Rattle.node_fleet.specs.declared.halt.Halt.{Halt}
 use Rattle.node_fleet.specs.RecordsAttempt.{IsExact}

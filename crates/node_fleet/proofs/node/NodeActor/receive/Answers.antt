@@ -1,12 +1,8 @@
 use Rattle.std.proofs.Common.{List, length, Err, sym, ap, ◌∙◌, subst}
 use Rattle.volume_model.specs.declared.fault.Fault.TheVariants.{NoActor}
-use Rattle.volume_model.specs.Journal.{Entry, world_at}
-use Rattle.volume_model.specs.Judging.{Exact}
-use Rattle.volume_model.specs.Lists.{numbered}
-use Rattle.volume_model.specs.World.{World}
-use Rattle.volume_model.specs.World.Event.{Deliver}
-use Rattle.wire.specs.Listed.{listed}
-use Rattle.wire.specs.Message.{messages_of}
+use Rattle.volume_model.specs.Common.{world_at, Exact, numbered, World, Deliver}
+use Rattle.volume_model.specs.Journal.{Entry}
+use Rattle.wire.specs.Common.{listed, messages_of}
 use Rattle.segment_core.specs.Prepared.{step_of}
 use Rattle.segment_core.specs.Segment.{node_of}
 use Rattle.journal.specs.Passes.{journal_of, message_ref_message, message_ref_number, marked, seen_at}

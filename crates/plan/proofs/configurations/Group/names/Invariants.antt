@@ -1,6 +1,6 @@
 use Rattle.std.proofs.Common.{◌≡◌, false, ◌&&◌, nat_lt}
 use Rattle.std.specs.FinSet.{contains}
-use Rattle.volume_model.specs.Lists.{some_below}
+use Rattle.volume_model.specs.Common.{some_below}
 use Rattle.plan.specs.PlanData.{configuration_at}
 use Rattle.plan.specs.Plan.{group_data}
 use Rattle.plan.proofs.configurations.Group.names.Given as goal

@@ -1,5 +1,4 @@
-use Rattle.std.proofs.Common.{◌≡◌, Err, IfErr, IfOk, List, subst, ℕ, arith}
-use Rattle.std.specs.Prelude.{◌≢◌}
+use Rattle.std.proofs.Common.{◌≡◌, Err, IfErr, IfOk, List, subst, ℕ, arith, ◌≢◌}
 use Rattle.volume_model.specs.declared.fault.Fault.TheVariants.{NoMemory}
 use Rattle.plan.specs.declared.fault.PlanFault.TheVariants.{Text}
 use Rattle.plan.specs.PlanText.{plan_of}

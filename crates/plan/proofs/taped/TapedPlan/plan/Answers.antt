@@ -1,5 +1,5 @@
 use Rattle.std.proofs.Common.{◌≡◌, ◌∙◌, ap, sym, subst}
-use Rattle.quorum_expr.specs.Tapes.{data_of}
+use Rattle.quorum_expr.specs.Common.{data_of}
 use Rattle.plan.specs.Plan.{plan_data}
 use Rattle.plan.specs.PlanText.{Reads, plan_in, plan_of}
 use Rattle.plan.proofs.TapeTexts.{no-plan, plan-is}

@@ -1,5 +1,5 @@
 use Rattle.std.proofs.Common.{◌∙◌, length, sym, subst}
-use Rattle.quorum_expr.specs.Tapes.{data_of}
+use Rattle.quorum_expr.specs.Common.{data_of}
 use Rattle.plan.specs.Kept.{KeepsValues}
 use Rattle.plan.specs.Written.{rewritten}
 use Rattle.plan.specs.Taped.{HasClaims, Spells}

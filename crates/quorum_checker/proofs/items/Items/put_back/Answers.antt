@@ -1,5 +1,4 @@
-use Rattle.std.proofs.Common.{map, ap, ◌∙◌, sym}
-use Rattle.std.specs.Prelude.{insert}
+use Rattle.std.proofs.Common.{map, ap, ◌∙◌, sym, insert}
 use Rattle.quorum_checker.specs.Items.{state_of, shown}
 use Rattle.quorum_checker.specs.Refutes.{items_of}
 use Rattle.quorum_checker.proofs.Shown.{set_left, set_right, map-insert}

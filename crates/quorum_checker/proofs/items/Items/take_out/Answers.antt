@@ -1,5 +1,4 @@
-use Rattle.std.proofs.Common.{map, ap, ◌∙◌, sym}
-use Rattle.std.specs.Prelude.{remove}
+use Rattle.std.proofs.Common.{map, ap, ◌∙◌, sym, remove}
 use Rattle.quorum_checker.specs.Items.{state_of, shown}
 use Rattle.quorum_checker.specs.Refutes.{items_of}
 use Rattle.quorum_checker.proofs.Shown.{set_left, set_right, map-remove}

@@ -1,5 +1,4 @@
-use Rattle.std.proofs.Common.{◌++◌, take, ap, ◌∙◌, sym, arith, rules}
-use Rattle.std.specs.Prelude.{codes}
+use Rattle.std.proofs.Common.{◌++◌, take, ap, ◌∙◌, sym, arith, rules, codes}
 use Rattle.std.specs.Fmt.{decimal}
 use Rattle.std.proofs.Output.{has_written_append, has_written_of_eq}
 use Rattle.quorum_checker.specs.PathText.{path_text}

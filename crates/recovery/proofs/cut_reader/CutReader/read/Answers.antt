@@ -1,6 +1,6 @@
 use Rattle.std.proofs.Common.{◌≡◌, ◌∙◌, true, false, refl, sym}
-use Rattle.volume_model.specs.Redo.{Redo}
-use Rattle.redo_record.specs.Record.{redo_of}
+use Rattle.volume_model.specs.Common.{Redo}
+use Rattle.redo_record.specs.Common.{redo_of}
 use Rattle.recovery.specs.declared.cut_reader.CutReader.{CutReader}
 use Rattle.recovery.specs.Chains.{leads}
 use Rattle.recovery.proofs.Cuts.{leads-zero, leads-grounded, leads-none, cut-of_grounded, cut-of_same}

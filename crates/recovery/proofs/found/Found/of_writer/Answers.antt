@@ -1,7 +1,5 @@
 use Rattle.std.proofs.Common.{◌≡◌, List, [], ap, ◌∙◌}
-use Rattle.volume_model.specs.Lists.{added}
-use Rattle.volume_model.specs.Lineage.{last_cut}
-use Rattle.volume_model.specs.Redo.{Redo}
+use Rattle.volume_model.specs.Common.{added, last_cut, Redo}
 use Rattle.writer_core.specs.Logs.{log_of_set, is_growing}
 use Rattle.writer_core.specs.Writers.{client_of}
 use Rattle.writer_core.proofs.Joined.{begun-grows}

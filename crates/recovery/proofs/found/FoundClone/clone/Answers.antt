@@ -1,6 +1,5 @@
 use Rattle.std.proofs.Common.{List, [], ap, refl, ◌∙◌}
-use Rattle.volume_model.specs.Lists.{added}
-use Rattle.volume_model.specs.Redo.{Redo}
+use Rattle.volume_model.specs.Common.{added, Redo}
 use Rattle.writer_core.specs.Logs.{is_growing}
 use Rattle.recovery.proofs.found.FoundClone.clone.Goals as goal
 

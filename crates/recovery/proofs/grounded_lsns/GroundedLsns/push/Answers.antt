@@ -1,5 +1,4 @@
-use Rattle.std.proofs.Common.{ℕ, List, ap, ◌∙◌}
-use Rattle.std.specs.Prelude.{is_ok}
+use Rattle.std.proofs.Common.{ℕ, List, ap, ◌∙◌, is_ok}
 use Rattle.recovery.proofs.Sought.{has, has-push, grows-kept}
 use Rattle.recovery.proofs.grounded_lsns.GroundedLsns.push.Goals as goal
 

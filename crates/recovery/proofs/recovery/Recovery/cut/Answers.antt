@@ -1,6 +1,5 @@
 use Rattle.std.proofs.Common.{refl}
-use Rattle.volume_model.specs.Client.{ClientAnswer}
-use Rattle.volume_model.specs.ClientRecovery.{cut_client}
+use Rattle.volume_model.specs.Common.{ClientAnswer, cut_client}
 use Rattle.recovery.specs.Finds.{is_spent}
 use Rattle.recovery.specs.Recoveries.{client_of, found_step, recovery_groups, recovery_plan, recovery_volume}
 use Rattle.writer_core.specs.Writers.{acted}

@@ -1,7 +1,5 @@
-use Rattle.std.proofs.Common.{◌≡◌, List, Option, Some, None, is_some, false, refl, sym, ◌∙◌}
-use Rattle.std.proofs.lemmas.Bool.{true≢false}
-use Rattle.volume_model.specs.Plan.{Plan}
-use Rattle.volume_model.specs.Client.{ClientGroup}
+use Rattle.std.proofs.Common.{◌≡◌, List, Option, Some, None, is_some, false, refl, sym, ◌∙◌, true≢false}
+use Rattle.volume_model.specs.Common.{Plan, ClientGroup}
 use Rattle.writer_core.specs.Groups.{groups_in, group_states_plan}
 use Rattle.recovery.specs.declared.found.Found.{Found}
 use Rattle.recovery.proofs.Leaves.{cut-found}

@@ -1,15 +1,12 @@
 use Rattle.std.proofs.Common.{◌≡◌, List, map, true, Err, sym, ap, subst, ◌∙◌}
 use Rattle.std.specs.Arc.{arc_value}
-use Rattle.volume_model.specs.Answer.{never_after_growth, refusal_of}
+use Rattle.volume_model.specs.Common.{never_after_growth, refusal_of, Plan, ClientAnswer, newly_at, are_places}
 use Rattle.volume_model.specs.declared.fault.Fault.{Fault}
-use Rattle.volume_model.specs.Plan.{Plan}
-use Rattle.volume_model.specs.Client.{ClientAnswer, newly_at}
-use Rattle.volume_model.specs.ClientMessages.{are_places}
 use Rattle.plan.specs.declared.checked.CheckedPlan.{CheckedPlan}
-use Rattle.plan.specs.CheckedModel.{checked_model}
+use Rattle.plan.specs.Common.{checked_model}
 use Rattle.wire.specs.declared.label.Place.{Place}
 use Rattle.wire.specs.declared.message.Message.{Message}
-use Rattle.wire.specs.Message.{place_of, message_of, messages_of}
+use Rattle.wire.specs.Common.{place_of, message_of, messages_of}
 use Rattle.writer_core.specs.Groups.{groups_in}
 use Rattle.writer_core.proofs.Answering.{judged, refused}
 use Rattle.recovery.specs.Recoveries.{begun, birth_of}

@@ -1,5 +1,5 @@
 use Rattle.std.proofs.Common.{refl}
-use Rattle.volume_model.specs.ClientRecovery.{opened}
+use Rattle.volume_model.specs.Common.{opened}
 use Rattle.writer_core.proofs.Answering.{judged}
 use Rattle.recovery.specs.Recoveries.{client_of, recovery_plan}
 use Rattle.recovery.proofs.recovery.Recovery.open.Goals as goal

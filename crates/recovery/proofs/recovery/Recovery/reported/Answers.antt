@@ -1,5 +1,5 @@
 use Rattle.std.proofs.Common.{◌-◌, ◌^◌, min, ap, ◌∙◌}
-use Rattle.volume_model.specs.Few.{records_in}
+use Rattle.volume_model.specs.Common.{records_in}
 use Rattle.recovery.specs.Reported.{reports_in}
 use Rattle.recovery.proofs.Bounds.{found-most}
 use Rattle.recovery.proofs.recovery.Recovery.reported.Goals as goal

@@ -1,13 +1,10 @@
 use Rattle.std.proofs.Common.{◌≡◌, ◌<◌, true, Result, Err, sym, ap, ◌∙◌, subst}
 use Rattle.std.proofs.lemmas.Result.{err_from_is_err_and}
-use Rattle.volume_model.specs.Answer.{Answers, never_after_growth}
-use Rattle.volume_model.specs.Client.{Client, ClientAnswer}
-use Rattle.volume_model.specs.ClientMessages.{taken}
+use Rattle.volume_model.specs.Common.{Answers, never_after_growth, ClientAnswer, taken, last_epoch, From}
+use Rattle.volume_model.specs.Client.{Client}
 use Rattle.volume_model.specs.declared.fault.Fault.{Fault}
-use Rattle.volume_model.specs.Lineage.{last_epoch}
-use Rattle.volume_model.specs.Node.{From}
 use Rattle.wire.specs.declared.message.Message.{Message}
-use Rattle.wire.specs.Message.{message_of}
+use Rattle.wire.specs.Common.{message_of}
 use Rattle.writer_core.specs.Writers.{silent}
 use Rattle.writer_core.proofs.Answering.{judged, refused}
 use Rattle.recovery.specs.Recoveries.{client_of, recovery_plan, recovery_volume}

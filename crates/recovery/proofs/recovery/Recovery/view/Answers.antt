@@ -1,6 +1,6 @@
 use Rattle.std.proofs.Common.{◌≡◌, map, true, ap, ◌∙◌}
-use Rattle.volume_model.specs.ClientMessages.{later_group, reread_group, with_places}
-use Rattle.wire.specs.Message.{place_of, messages_of}
+use Rattle.volume_model.specs.Common.{later_group, reread_group, with_places}
+use Rattle.wire.specs.Common.{place_of, messages_of}
 use Rattle.writer_core.specs.Groups.{groups_in, group_states_plan}
 use Rattle.recovery.specs.Cuts.{are_older}
 use Rattle.recovery.proofs.Older.{older-later, older-reread}

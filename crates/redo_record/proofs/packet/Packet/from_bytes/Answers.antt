@@ -1,5 +1,4 @@
-use Rattle.std.proofs.Common.{◌≡◌, ◌∙◌, ◌++◌, ◌≤◌, Ok, ℕ, length, is_ok, sym, ap, arith}
-use Rattle.std.proofs.lemmas.List.{length-drop}
+use Rattle.std.proofs.Common.{◌≡◌, ◌∙◌, ◌++◌, ◌≤◌, Ok, ℕ, length, is_ok, sym, ap, arith, length-drop}
 use Rattle.redo_record.specs.Head.{head_in, redo_in}
 use Rattle.redo_record.specs.Packet.{packet_redo}
 use Rattle.redo_record.specs.Spelling.{spelled, decoded}

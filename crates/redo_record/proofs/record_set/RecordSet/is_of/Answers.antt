@@ -1,7 +1,6 @@
 use Rattle.std.proofs.Common.{◌≡◌, ◌∙◌, ◌==◌, ◌&&◌, ◌+◌, Bool, List, drop, sym, ap}
 use Rattle.std.proofs.lemmas.List.{drop_all}
-use Rattle.volume_model.specs.Lists.{every}
-use Rattle.volume_model.specs.Redo.{Redo}
+use Rattle.volume_model.specs.Common.{every, Redo}
 use Rattle.redo_record.specs.Joined.{joined}
 use Rattle.redo_record.specs.RecordSet.{records_of}
 use Rattle.redo_record.specs.Run.{run_records, runs_in}

@@ -1,5 +1,5 @@
 use Rattle.std.proofs.Common.{◌≡◌, ◌==◌, drop}
-use Rattle.volume_model.specs.Lists.{every}
+use Rattle.volume_model.specs.Common.{every}
 use Rattle.redo_record.specs.Joined.{joined}
 use Rattle.redo_record.specs.RecordSet.{records_of}
 use Rattle.redo_record.specs.Run.{runs_in}

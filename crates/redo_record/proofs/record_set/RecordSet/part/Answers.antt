@@ -1,6 +1,6 @@
 use Rattle.std.proofs.Common.{◌≡◌, ◌<◌, ◌≤◌, ◌+◌, ◌-◌, ◌++◌, ◌∙◌, ℕ, zero, suc, min, List, [], length, take, drop, ap, sym, subst, refl, arith}
 use Rattle.std.proofs.lemmas.List.{append-nil, length-take, length-drop, drop_all}
-use Rattle.volume_model.specs.Redo.{Redo}
+use Rattle.volume_model.specs.Common.{Redo}
 use Rattle.redo_record.specs.Groups.{IsKnownGroup}
 use Rattle.redo_record.specs.Joined.{joined}
 use Rattle.redo_record.specs.Order.{IsInOrder}

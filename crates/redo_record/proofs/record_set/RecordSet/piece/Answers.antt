@@ -1,6 +1,6 @@
 use Rattle.std.proofs.Common.{◌≡◌, ◌-◌, ◌*◌, min, List, length, ◌∙◌, arith}
 use Rattle.std.proofs.lemmas.Result.{IfOk-weaker}
-use Rattle.volume_model.specs.Redo.{Redo}
+use Rattle.volume_model.specs.Common.{Redo}
 use Rattle.redo_record.specs.RecordSet.{records_of}
 use Rattle.redo_record.proofs.Parts.{part-piece}
 use Rattle.redo_record.proofs.record_set.RecordSet.piece.Goals as goal

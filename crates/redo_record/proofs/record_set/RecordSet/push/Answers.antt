@@ -1,5 +1,5 @@
 use Rattle.std.proofs.Common.{List, sym, ap, subst, ◌∙◌}
-use Rattle.volume_model.specs.Redo.{Redo, with_record}
+use Rattle.volume_model.specs.Common.{Redo, with_record}
 use Rattle.redo_record.specs.Places.{IsPlaceFor}
 use Rattle.redo_record.specs.RecordSet.{records_of}
 use Rattle.redo_record.specs.SharedRecord.{shared_redo}

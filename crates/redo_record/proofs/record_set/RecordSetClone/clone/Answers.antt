@@ -1,6 +1,5 @@
-use Rattle.std.proofs.Common.{List, ◌∙◌, arith}
-use Rattle.std.proofs.lemmas.List.{take_all}
-use Rattle.volume_model.specs.Redo.{Redo}
+use Rattle.std.proofs.Common.{List, ◌∙◌, arith, take_all}
+use Rattle.volume_model.specs.Common.{Redo}
 use Rattle.redo_record.specs.RecordSet.{records_of}
 use Rattle.redo_record.proofs.record_set.RecordSetClone.clone.Goals as goal
 

@@ -1,7 +1,6 @@
 use Rattle.std.proofs.Common.{◌≡◌, List, refl, sym, subst}
-use Rattle.volume_model.specs.Redo.{Redo, with_record}
-use Rattle.redo_record.specs.Order.{IsInOrder}
-use Rattle.redo_record.specs.SharedRecord.{shared_redo}
+use Rattle.volume_model.specs.Common.{Redo, with_record}
+use Rattle.redo_record.specs.Common.{IsInOrder, shared_redo}
 use Rattle.redo_record.proofs.Places.{in_order-with_record}
 use Rattle.std.specs.Box.{with_value}
 use Rattle.segment_core.specs.BlockList.{redos_in}

@@ -1,6 +1,5 @@
-use Rattle.std.proofs.Common.{◌≤◌, arith}
-use Rattle.std.proofs.lemmas.Bool.{leb-true}
-use Rattle.redo_record.specs.SharedRecord.{shared_redo}
+use Rattle.std.proofs.Common.{◌≤◌, arith, leb-true}
+use Rattle.redo_record.specs.Common.{shared_redo}
 use Rattle.segment_core.specs.BlockList.{redos_in}
 use Rattle.segment_core.proofs.AppliedPages.{last-greatest}
 use Rattle.segment_core.proofs.block_list.BlockList.ends_by.Goals as goal

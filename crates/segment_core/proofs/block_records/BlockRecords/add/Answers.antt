@@ -1,7 +1,7 @@
 use Rattle.std.proofs.Common.{◌∙◌, ◌∷◌, [], map, sym, ap, subst}
 use Rattle.std.proofs.lemmas.List.{map-append}
-use Rattle.volume_model.specs.Redo.{Redo, with_record}
-use Rattle.redo_record.specs.SharedRecord.{shared_redo}
+use Rattle.volume_model.specs.Common.{Redo, with_record}
+use Rattle.redo_record.specs.Common.{shared_redo}
 use Rattle.redo_record.proofs.Places.{with_record-after}
 use Rattle.segment_core.specs.BlockRecords.{records_in, HasRoomAtEnd, IsReadyAt, IsReadyAfter}
 use Rattle.segment_core.specs.declared.block_records.BlockRecords.{BlockRecords}

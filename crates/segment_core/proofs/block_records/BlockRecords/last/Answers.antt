@@ -1,5 +1,5 @@
 use Rattle.std.proofs.Common.{◌∙◌, map, sym, ap, subst}
-use Rattle.redo_record.specs.SharedRecord.{shared_redo}
+use Rattle.redo_record.specs.Common.{shared_redo}
 use Rattle.segment_core.specs.BlockRecords.{records_in, IsLastOf}
 use Rattle.segment_core.proofs.LastRecords.{last-shown}
 use Rattle.segment_core.proofs.block_records.BlockRecords.last.Goals as goal

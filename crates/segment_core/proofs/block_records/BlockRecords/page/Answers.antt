@@ -1,5 +1,5 @@
 use Rattle.std.proofs.Common.{◌∙◌, map, sym, ap}
-use Rattle.redo_record.specs.SharedRecord.{shared_redo}
+use Rattle.redo_record.specs.Common.{shared_redo}
 use Rattle.pages.proofs.Runs.{packets-of_block}
 use Rattle.segment_core.specs.BlockRecords.{records_in}
 use Rattle.segment_core.proofs.block_records.BlockRecords.page.Goals as goal

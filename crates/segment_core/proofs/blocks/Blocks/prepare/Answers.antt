@@ -1,7 +1,6 @@
-use Rattle.std.proofs.Common.{◌≡◌, ℕ, sym, ap, subst, ◌∙◌}
-use Rattle.std.specs.Prelude.{slice_get, set}
-use Rattle.volume_model.specs.Redo.{Redo}
-use Rattle.redo_record.specs.SharedRecord.{shared_redo}
+use Rattle.std.proofs.Common.{◌≡◌, ℕ, sym, ap, subst, ◌∙◌, slice_get, set}
+use Rattle.volume_model.specs.Common.{Redo}
+use Rattle.redo_record.specs.Common.{shared_redo}
 use Rattle.segment_core.specs.declared.blocks.Blocks.{Blocks}
 use Rattle.segment_core.specs.Blocks.{place_of, IsListReady}
 use Rattle.segment_core.proofs.ListPlaces.{kept, ready}

@@ -1,6 +1,6 @@
 use Rattle.std.proofs.Common.{◌≡◌, true, List, sym, ◌∙◌}
-use Rattle.volume_model.specs.Redo.{Redo, scl}
-use Rattle.redo_record.specs.RecordSet.{records_of}
+use Rattle.volume_model.specs.Common.{Redo, scl}
+use Rattle.redo_record.specs.Common.{records_of}
 use Rattle.segment_core.specs.Chains as chains
 use Rattle.segment_core.proofs.OneChains.{one_chain}
 use Rattle.segment_core.proofs.Rises.{runs-fall}

@@ -1,10 +1,6 @@
-use Rattle.std.proofs.Common.{◌≡◌, ◌<◌, true, List, ℕ, drop, sym, ap, ◌∙◌, arith}
-use Rattle.std.proofs.lemmas.Bool.{true≢false}
-use Rattle.volume_model.specs.Redo.{Redo, scl, with_record}
-use Rattle.volume_model.specs.Grounded.{GroupLinksFall}
-use Rattle.redo_record.specs.RecordSet.{records_of, runs_of}
-use Rattle.redo_record.specs.RunPlaces.{index_of}
-use Rattle.redo_record.specs.SharedRecord.{shared_redo}
+use Rattle.std.proofs.Common.{◌≡◌, ◌<◌, true, List, ℕ, drop, sym, ap, ◌∙◌, arith, true≢false}
+use Rattle.volume_model.specs.Common.{Redo, scl, with_record, GroupLinksFall}
+use Rattle.redo_record.specs.Common.{records_of, runs_of, index_of, shared_redo}
 use Rattle.segment_core.specs.Chains as chains
 use Rattle.segment_core.proofs.Chained.{scl-above}
 use Rattle.segment_core.proofs.Lines.{scl-line}

@@ -1,15 +1,13 @@
-use Rattle.std.proofs.Common.{◌≡◌, ◌∙◌, ap, subst, Result, Ok, Err}
+use Rattle.std.proofs.Common.{◌≡◌, ◌∙◌, ap, subst, Result, Ok, Err, Option, Some, option_map, Global}
 use Rattle.std.proofs.Math.Logic.{∥∥₁_elim}
 use Rattle.std.proofs.Props.{props}
-use Rattle.std.specs.Prelude.{Option, Some, option_map}
 use Rattle.std.specs.Arc.{arc_value}
-use Rattle.std.specs.Global.{Global}
 use Rattle.std.specs.declared.sync.Arc.{Arc}
 use Rattle.std.specs.Result.{IfOk, MatchResult}
 use Rattle.std.specs.declared.alloc.AllocError.{AllocError}
 use Rattle.volume_model.specs.Lineage as model
 use Rattle.wire.specs.declared.contents.Contents.{Contents}
-use Rattle.wire.specs.Contents.{contents_of}
+use Rattle.wire.specs.Common.{contents_of}
 use Rattle.segment_core.specs.SegmentState.{state_contents}
 use Rattle.segment_core.specs.Reported.{IsReported}
 use Rattle.segment_core.proofs.segment_state.SegmentState.contents.Goals as goal

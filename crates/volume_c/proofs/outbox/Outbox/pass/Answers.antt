@@ -1,6 +1,5 @@
-use Rattle.std.proofs.Common.{◌≤◌, ◌+◌, length, sym, ◌∙◌, arith}
-use Rattle.std.proofs.lemmas.List.{drop-drop}
-use Rattle.wire.specs.Listed.{listed}
+use Rattle.std.proofs.Common.{◌≤◌, ◌+◌, length, sym, ◌∙◌, arith, drop-drop}
+use Rattle.wire.specs.Common.{listed}
 use Rattle.volume_c.proofs.Left.{left-last}
 use Rattle.volume_c.proofs.outbox.Outbox.pass.Goals as goal
 

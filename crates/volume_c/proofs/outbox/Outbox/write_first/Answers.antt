@@ -1,6 +1,5 @@
 use Rattle.std.proofs.Common.{Bool, true, subst}
-use Rattle.wire.specs.Listed.{listed}
-use Rattle.wire.specs.Message.{message_of}
+use Rattle.wire.specs.Common.{listed, message_of}
 use Rattle.message_bytes.specs.Filling.{Fills, Filled}
 use Rattle.message_bytes.specs.Spelling.{message_spelled}
 use Rattle.volume_c.proofs.Left.{left-first, front-filled}

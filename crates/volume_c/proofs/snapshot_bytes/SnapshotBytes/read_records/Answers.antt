@@ -1,9 +1,9 @@
 use Rattle.std.proofs.Common.{◌≡◌, ◌≤◌, ◌∙◌, ◌+◌, ◌++◌, ℕ, List, [], length, take, drop, sym, ap, rules}
 use Rattle.std.proofs.lemmas.List.{drop_all}
 use Rattle.std.specs.Arc.{arc_value}
-use Rattle.volume_model.specs.Redo.{Redo}
+use Rattle.volume_model.specs.Common.{Redo}
 use Rattle.wire.specs.declared.contents.Contents.{Contents}
-use Rattle.wire.specs.Contents.{contents_of}
+use Rattle.wire.specs.Common.{contents_of}
 use Rattle.message_bytes.specs.Spelling.{records_spelled}
 use Rattle.volume_c.proofs.Pieces.{records-moved}
 use Rattle.volume_c.proofs.snapshot_bytes.SnapshotBytes.read_records.Goals as goal

@@ -1,7 +1,7 @@
 -- The fleet's site is what the arguments of the call are.
 use Rattle.std.specs.Arc.{arc_value}
 use Rattle.board.specs.Seats.{board_table}
-use Rattle.plan.specs.CheckedModel.{checked_model}
+use Rattle.plan.specs.Common.{checked_model}
 use Rattle.journal.specs.Fronts.{book_of}
 use Rattle.journal.specs.Tokens.{ids_of}
 use Rattle.node_fleet.specs.Bases.{mail_in, passes_of}

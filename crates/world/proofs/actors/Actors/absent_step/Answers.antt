@@ -1,20 +1,15 @@
-use Rattle.std.proofs.Common.{◌≡◌, ◌++◌, ℕ, Bool, true, [], List, Option, None, Result, Ok, Err}
-use Rattle.std.proofs.Common.{refl, sym, ap, ap₂, ◌∙◌, subst, rules}
+use Rattle.std.proofs.Common.{◌≡◌, ◌++◌, ℕ, Bool, true, [], List, Option, None, Result, Ok, Err, refl, sym, ap, ap₂, ◌∙◌, subst, rules}
 use Rattle.std.proofs.lemmas.Result.{err_from_is_err_and}
 use Rattle.std.specs.Arc.{arc_value}
 use Rattle.std.specs.Global.{Box}
-use Rattle.plan.specs.CheckedModel.{checked_model}
-use Rattle.volume_model.specs.Lists.{added, put}
-use Rattle.volume_model.specs.Answer.{may_run_out_of_memory, refusal_of, AnswersAfterGrowth}
+use Rattle.plan.specs.Common.{checked_model}
+use Rattle.volume_model.specs.Common.{added, put, may_run_out_of_memory, refusal_of, AnswersAfterGrowth, ClientAnswer, ClientStep, unborn, of_client}
 use Rattle.volume_model.specs.declared.fault.Fault.{Fault}
 use Rattle.volume_model.specs.declared.fault.Fault.TheVariants.{NoMemory}
 use Rattle.volume_model.specs.Message as model_message
 use Rattle.volume_model.specs.Client as model
-use Rattle.volume_model.specs.Client.{ClientAnswer, ClientStep, unborn}
-use Rattle.volume_model.specs.World.{of_client}
 use Rattle.wire.specs.declared.message.Message.{Message}
-use Rattle.wire.specs.Listed.{listed}
-use Rattle.wire.specs.Message.{messages_of}
+use Rattle.wire.specs.Common.{listed, messages_of}
 use Rattle.epochs.specs.Authority.{authority_of}
 use Rattle.writer_core.specs.Writers.{answered}
 use Rattle.recovery.specs.Recoveries.{admitted}
@@ -23,8 +18,7 @@ use Rattle.world.specs.declared.actors.Actors.{Actors}
 use Rattle.world.specs.declared.client.Client.{Client}
 use Rattle.world.specs.Slots.{node_at}
 use Rattle.world.specs.Homes.{nodes_of}
-use Rattle.world.specs.Clients.{client_plan, client_volume, seen_client}
-use Rattle.world.specs.Clients.{client_in, client_or_unborn, clients_of, IsClientOf, IsPut}
+use Rattle.world.specs.Clients.{client_plan, client_volume, seen_client, client_in, client_or_unborn, clients_of, IsClientOf, IsPut}
 use Rattle.world.specs.Actions.{client_acted, client_after_growth, client_does, message_found, named_in}
 use Rattle.world.specs.Actors.{moved_of, plan_of, messages_in, world_of, Steps}
 use Rattle.world.specs.Moves.{ClientMoves}

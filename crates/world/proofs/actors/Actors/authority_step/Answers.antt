@@ -1,5 +1,5 @@
 use Rattle.std.proofs.Common.{sym, ◌∙◌, subst}
-use Rattle.volume_model.specs.Plan.{Plan}
+use Rattle.volume_model.specs.Common.{Plan}
 use Rattle.epochs.specs.Authority.{authority_of}
 use Rattle.world.specs.Slots.{node_at}
 use Rattle.world.specs.Homes.{nodes_of, AreHomes}

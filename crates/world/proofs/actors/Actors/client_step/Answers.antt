@@ -3,12 +3,10 @@ use Rattle.std.specs.Box.{with_value}
 use Rattle.std.specs.Global.{Box}
 use Rattle.world.specs.declared.client.Client.{Client}
 use Rattle.epochs.specs.Authority.{authority_of}
-use Rattle.volume_model.specs.Lists.{added}
+use Rattle.volume_model.specs.Common.{added, ClientAnswer, unborn, World, of_client}
 use Rattle.volume_model.specs.declared.fault.Fault.{Fault}
 use Rattle.volume_model.specs.Client as model
-use Rattle.volume_model.specs.Client.{ClientAnswer, unborn}
-use Rattle.volume_model.specs.World.{World, of_client}
-use Rattle.wire.specs.Message.{messages_of}
+use Rattle.wire.specs.Common.{messages_of}
 use Rattle.world.specs.Slots.{node_at}
 use Rattle.world.specs.Homes.{nodes_of}
 use Rattle.world.specs.Clients.{client_plan, client_volume, seen_client, client_or_unborn, client_in, clients_of, AreClients, IsClientOf}

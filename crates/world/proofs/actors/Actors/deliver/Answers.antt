@@ -1,9 +1,6 @@
-use Rattle.std.proofs.Common.{◌<◌, length, arith, rules}
-use Rattle.std.proofs.lemmas.Bool.{lt-ltb}
+use Rattle.std.proofs.Common.{◌<◌, length, arith, rules, lt-ltb}
 use Rattle.epochs.specs.Authority.{authority_of}
-use Rattle.volume_model.specs.Answer.{never_after_growth}
-use Rattle.volume_model.specs.Lists.{numbered}
-use Rattle.volume_model.specs.World.{deliver, groups_joined}
+use Rattle.volume_model.specs.Common.{never_after_growth, numbered, deliver, groups_joined}
 use Rattle.world.specs.Actors.{messages_in}
 use Rattle.world.proofs.NodeSlot.{homes_after, nobody_steps, steps_after}
 use Rattle.world.proofs.actors.Actors.deliver.Goals as goal

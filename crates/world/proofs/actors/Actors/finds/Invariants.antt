@@ -1,7 +1,5 @@
 use Rattle.std.proofs.Common.{◌≡◌, ◌&&◌, map, nat_lt}
-use Rattle.volume_model.specs.Lists.{each_below}
-use Rattle.volume_model.specs.Client.{has_cut}
-use Rattle.volume_model.specs.Outcome.{found_client}
+use Rattle.volume_model.specs.Common.{each_below, has_cut, found_client}
 use Rattle.world.specs.Outcomes.{find_of}
 use Rattle.world.specs.Clients.{clients_of}
 use Rattle.world.proofs.actors.Actors.finds.Given as goal

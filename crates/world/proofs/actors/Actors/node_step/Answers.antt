@@ -1,8 +1,7 @@
-use Rattle.std.proofs.Common.{◌<◌, length, arith, rules}
-use Rattle.std.proofs.lemmas.Bool.{lt-ltb}
+use Rattle.std.proofs.Common.{◌<◌, length, arith, rules, lt-ltb}
 use Rattle.epochs.specs.Authority.{authority_of}
 use Rattle.segment_core.specs.Actions.{acted, action_after_growth}
-use Rattle.volume_model.specs.World.{groups_joined}
+use Rattle.volume_model.specs.Common.{groups_joined}
 use Rattle.world.proofs.NodeSlot.{homes_after, nobody_steps, steps_after}
 use Rattle.world.proofs.actors.Actors.node_step.Goals as goal
 

@@ -1,16 +1,11 @@
 use Rattle.std.proofs.Common.{◌≡◌, ℕ, [], refl, sym, ap, ap₂, ◌∙◌, subst, rules}
 use Rattle.std.specs.Arc.{arc_value}
 use Rattle.std.specs.Global.{Box}
-use Rattle.volume_model.specs.Lists.{added, put}
-use Rattle.volume_model.specs.Plan.{Plan}
-use Rattle.volume_model.specs.Node.{born_node}
+use Rattle.volume_model.specs.Common.{added, put, Plan, born_node, first_writer, unborn, opening}
 use Rattle.volume_model.specs.Client as model
-use Rattle.volume_model.specs.Client.{first_writer, unborn}
-use Rattle.plan.specs.Plan.{plan_data}
-use Rattle.volume_model.specs.World.{opening}
-use Rattle.wire.specs.Message.{messages_of}
+use Rattle.plan.specs.Common.{plan_data, checked_model}
+use Rattle.wire.specs.Common.{messages_of}
 use Rattle.epochs.specs.Authority.{authority_of, authority_plan}
-use Rattle.plan.specs.CheckedModel.{checked_model}
 use Rattle.world.specs.declared.client.Client.{Client}
 use Rattle.world.specs.Slots.{node_at}
 use Rattle.world.specs.Homes.{nodes_of, AreHomes}

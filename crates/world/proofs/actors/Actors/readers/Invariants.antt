@@ -1,5 +1,5 @@
 use Rattle.std.proofs.Common.{◌≡◌}
-use Rattle.volume_model.specs.Lists.{each_below}
+use Rattle.volume_model.specs.Common.{each_below}
 use Rattle.world.specs.Clients.{clients_of}
 use Rattle.world.specs.Outcomes.{is_reading}
 use Rattle.world.proofs.actors.Actors.readers.Given as goal

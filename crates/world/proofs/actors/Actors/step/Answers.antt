@@ -1,5 +1,5 @@
 use Rattle.std.proofs.Common.{◌≡◌, refl, ◌∙◌, ap, sym}
-use Rattle.volume_model.specs.World.Event.{Deliver}
+use Rattle.volume_model.specs.Common.{Deliver}
 use Rattle.world.specs.Actions.{action_event, authority_event, client_event, node_event}
 use Rattle.world.specs.Actors.{plan_of, world_of}
 use Rattle.world.specs.Events.{event_of}

@@ -1,7 +1,5 @@
 use Rattle.std.proofs.Common.{◌≡◌, map}
-use Rattle.volume_model.specs.Lists.{each_below}
-use Rattle.volume_model.specs.Client.{is_open}
-use Rattle.volume_model.specs.Outcome.{opened_client}
+use Rattle.volume_model.specs.Common.{each_below, is_open, opened_client}
 use Rattle.world.specs.Outcomes.{opened_of}
 use Rattle.world.specs.Clients.{clients_of}
 use Rattle.world.proofs.actors.Actors.writers.Given as goal

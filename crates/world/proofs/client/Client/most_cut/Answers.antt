@@ -1,8 +1,7 @@
 use Rattle.std.proofs.Common.{ℕ, ◌+◌, ◌/◌, sym, subst, arith}
 use Rattle.std.specs.Arc.{arc_value}
-use Rattle.plan.specs.CheckedModel.{checked_model}
-use Rattle.volume_model.specs.Few.{Few}
-use Rattle.volume_model.specs.ClientRecovery.{cut_client}
+use Rattle.plan.specs.Common.{checked_model}
+use Rattle.volume_model.specs.Common.{Few, cut_client}
 use Rattle.recovery.specs.Recoveries as recoveries
 use Rattle.world.specs.declared.client.ClientState.{ClientState}
 use Rattle.world.specs.Clients.{plan_or, volume_or, seen_state}

@@ -1,11 +1,8 @@
 use Rattle.std.proofs.Common.{◌≡◌, ◌≤◌, ℕ, ◌+◌, ◌/◌, length, sym, subst, ap, ◌∙◌, arith}
 use Rattle.std.specs.Arc.{arc_value}
-use Rattle.plan.specs.CheckedModel.{checked_model}
+use Rattle.plan.specs.Common.{checked_model}
 use Rattle.plan.specs.declared.checked.CheckedPlan.{CheckedPlan}
-use Rattle.volume_model.specs.Few.{Few}
-use Rattle.volume_model.specs.Message.{Message}
-use Rattle.volume_model.specs.Client.{unborn}
-use Rattle.volume_model.specs.ClientMessages.{taken}
+use Rattle.volume_model.specs.Common.{Few, Message, unborn, taken}
 use Rattle.writer_core.specs.Writers as writers
 use Rattle.recovery.specs.Recoveries as recoveries
 use Rattle.recovery.proofs.Bounds.{log-length}

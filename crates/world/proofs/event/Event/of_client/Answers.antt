@@ -1,5 +1,5 @@
 use Rattle.std.proofs.Common.{sym, ap, ◌∙◌}
-use Rattle.volume_model.specs.World.Event.{Issue}
+use Rattle.volume_model.specs.Common.{Issue}
 use Rattle.writer_core.proofs.Copied.{copied}
 use Rattle.world.specs.Actions.{client_event}
 use Rattle.world.proofs.event.Event.of_client.Goals as goal

@@ -1,5 +1,5 @@
 use Rattle.std.proofs.Common.{sym, ap, ◌∙◌}
-use Rattle.volume_model.specs.World.Event.{Issue}
+use Rattle.volume_model.specs.Common.{Issue}
 use Rattle.writer_core.proofs.Copied.{copied}
 use Rattle.world.specs.Events.{event_of}
 use Rattle.world.proofs.event.EventClone.clone.Goals as goal

@@ -1,6 +1,6 @@
 use Rattle.std.proofs.Common.{◌^◌, ◌<◌, ◌≤◌, ◌∙◌, drop, length, ap, sym, arith}
-use Rattle.volume_model.specs.Client.{group_point_of}
-use Rattle.redo_record.specs.Record.{redo_of}
+use Rattle.volume_model.specs.Common.{group_point_of}
+use Rattle.redo_record.specs.Common.{redo_of}
 use Rattle.writer_core.specs.Groups.{groups_in}
 use Rattle.writer_core.specs.Log.{log_left, packets_in}
 use Rattle.writer_core.proofs.Bounds.{packets-few}

@@ -1,5 +1,5 @@
 use Rattle.std.proofs.Common.{◌≡◌, drop, length}
-use Rattle.volume_model.specs.Client.{group_point_of}
+use Rattle.volume_model.specs.Common.{group_point_of}
 use Rattle.writer_core.specs.Groups.{groups_in}
 use Rattle.writer_core.specs.DurabilityTracker.{CoversPrefix}
 use Rattle.writer_core.specs.Log.{log_left, packets_in}

@@ -1,10 +1,9 @@
-use Rattle.std.proofs.Common.{◌≡◌, List, map, take, sym, ap, ◌∙◌, subst}
-use Rattle.std.proofs.lemmas.List.{take_all}
+use Rattle.std.proofs.Common.{◌≡◌, List, map, take, sym, ap, ◌∙◌, subst, take_all}
 use Rattle.std.specs.Arc.{arc_value}
-use Rattle.plan.specs.CheckedModel.{checked_model}
-use Rattle.volume_model.specs.Client.{newly_at}
+use Rattle.plan.specs.Common.{checked_model}
+use Rattle.volume_model.specs.Common.{newly_at}
 use Rattle.wire.specs.declared.label.Place.{Place}
-use Rattle.wire.specs.Message.{place_of}
+use Rattle.wire.specs.Common.{place_of}
 use Rattle.writer_core.specs.GroupStates.{groups_of, ArePlaced}
 use Rattle.writer_core.proofs.Placing.{found-placed}
 use Rattle.writer_core.proofs.group_states.GroupStates.at_places.Goals as goal

@@ -1,6 +1,6 @@
 use Rattle.std.proofs.Common.{◌≡◌, length, map, take}
-use Rattle.volume_model.specs.Client.{newly_at}
-use Rattle.wire.specs.Message.{place_of}
+use Rattle.volume_model.specs.Common.{newly_at}
+use Rattle.wire.specs.Common.{place_of}
 use Rattle.writer_core.specs.GroupStates.{groups_of}
 use Rattle.writer_core.proofs.group_states.GroupStates.at_places.Given as goal
 

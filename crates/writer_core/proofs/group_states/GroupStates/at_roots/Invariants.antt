@@ -1,5 +1,5 @@
 use Rattle.std.proofs.Common.{◌≡◌, length, replicate}
-use Rattle.volume_model.specs.Client.{born_group}
+use Rattle.volume_model.specs.Common.{born_group}
 use Rattle.writer_core.specs.GroupStates.{groups_of}
 use Rattle.writer_core.proofs.group_states.GroupStates.at_roots.Given as goal
 

@@ -1,7 +1,7 @@
 use Rattle.std.proofs.Common.{map, sym, subst}
-use Rattle.volume_model.specs.ClientMessages.{later_group}
+use Rattle.volume_model.specs.Common.{later_group}
 use Rattle.volume_model.proofs.Groups.{later_group-none}
-use Rattle.wire.specs.Message.{place_of}
+use Rattle.wire.specs.Common.{place_of}
 use Rattle.writer_core.specs.GroupStates.{ArePlaced}
 use Rattle.writer_core.specs.Groups.{groups_in, group_states_plan}
 use Rattle.writer_core.proofs.Placing.{later-moves, moved-items, moved-within, with_places-placed}

@@ -1,9 +1,6 @@
 use Rattle.std.proofs.Common.{ℕ, Bool, ap}
-use Rattle.volume_model.specs.Formula.{sat}
-use Rattle.volume_model.specs.Plan.{Plan}
-use Rattle.volume_model.specs.Client.{ClientGroup, place_configuration}
-use Rattle.volume_model.specs.ClientPoints.{counted_by}
-use Rattle.plan.specs.CheckedModel.{checked_model}
+use Rattle.volume_model.specs.Common.{sat, Plan, ClientGroup, place_configuration, counted_by}
+use Rattle.plan.specs.Common.{checked_model}
 use Rattle.writer_core.specs.Groups.{group_states_plan}
 use Rattle.writer_core.proofs.Placing.{group-fails}
 use Rattle.writer_core.proofs.group_states.GroupStates.has_installed.Goals as goal

@@ -1,8 +1,5 @@
 use Rattle.std.proofs.Common.{◌≡◌, true}
-use Rattle.volume_model.specs.Lists.{every_below}
-use Rattle.volume_model.specs.Formula.{sat}
-use Rattle.volume_model.specs.Client.{place_configuration, place_of, counts_of}
-use Rattle.volume_model.specs.ClientPoints.{counted_by}
+use Rattle.volume_model.specs.Common.{every_below, sat, place_configuration, place_of, counts_of, counted_by}
 use Rattle.writer_core.specs.Groups.{groups_in, group_states_plan}
 use Rattle.writer_core.proofs.group_states.GroupStates.has_installed.Given as goal
 

@@ -1,5 +1,5 @@
 use Rattle.std.proofs.Common.{ap}
-use Rattle.volume_model.specs.Message.{Label}
+use Rattle.volume_model.specs.Common.{Label}
 use Rattle.writer_core.proofs.group_states.GroupStates.label.Goals as goal
 
 pub returns : goal.returns

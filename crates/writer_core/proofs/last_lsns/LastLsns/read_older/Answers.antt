@@ -1,10 +1,8 @@
 use Rattle.std.proofs.Common.{◌≡◌, ◌∙◌, ℕ, ◌+◌, ◌-◌, ◌<◌, ◌∷◌, List, length, map, take, get_or, ap, sym, subst, arith}
 use Rattle.std.proofs.lemmas.List.{take_all, take_more}
-use Rattle.volume_model.specs.Lists.{added}
-use Rattle.volume_model.specs.Redo.{Redo}
-use Rattle.redo_record.specs.Record.{redo_of}
+use Rattle.volume_model.specs.Common.{added, Redo}
+use Rattle.redo_record.specs.Common.{redo_of, shared_redo}
 use Rattle.redo_record.specs.declared.shared_record.SharedRecord.{SharedRecord}
-use Rattle.redo_record.specs.SharedRecord.{shared_redo}
 use Rattle.writer_core.specs.LastLsns.{AreLasts}
 use Rattle.writer_core.specs.Log.{packets_in}
 use Rattle.writer_core.specs.Logs.{log_of}

@@ -1,6 +1,6 @@
 use Rattle.std.proofs.Common.{◌<◌, ◌≤◌, length, map, take}
-use Rattle.volume_model.specs.Lists.{added}
-use Rattle.redo_record.specs.SharedRecord.{shared_redo}
+use Rattle.volume_model.specs.Common.{added}
+use Rattle.redo_record.specs.Common.{shared_redo}
 use Rattle.writer_core.specs.LastLsns.{AreLasts}
 use Rattle.writer_core.specs.Log.{packets_in}
 use Rattle.writer_core.specs.Logs.{log_of}

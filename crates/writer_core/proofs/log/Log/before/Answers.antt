@@ -1,9 +1,8 @@
 use Rattle.std.proofs.Common.{◌≡◌, ◌∙◌, ◌-◌, ◌≤◌, ◌++◌, ℕ, List, [], length, length-append, map, drop, refl, ap, sym, subst, arith}
 use Rattle.std.proofs.lemmas.List.{append-nil, drop_all, drop-append-le, length-map, map-append}
-use Rattle.volume_model.specs.Redo.{Redo}
+use Rattle.volume_model.specs.Common.{Redo}
 use Rattle.redo_record.specs.declared.shared_record.SharedRecord.{SharedRecord}
-use Rattle.redo_record.specs.RecordSet.{packets_of, records_of}
-use Rattle.redo_record.specs.SharedRecord.{shared_redo}
+use Rattle.redo_record.specs.Common.{packets_of, records_of, shared_redo}
 use Rattle.writer_core.specs.Ending.{EndsWith}
 use Rattle.writer_core.specs.Log.{packets_in}
 use Rattle.writer_core.proofs.Ending.{ends-in-run, ends-before}

@@ -1,5 +1,5 @@
 use Rattle.std.proofs.Common.{sym, ap, ◌∙◌}
-use Rattle.volume_model.specs.Redo.{Redo}
+use Rattle.volume_model.specs.Common.{Redo}
 use Rattle.writer_core.specs.Log.{log_in}
 use Rattle.writer_core.proofs.Finding.{is_point_at, is_consistency_point-record_at}
 use Rattle.writer_core.proofs.log.Log.is_point.Goals as goal

@@ -1,8 +1,7 @@
 use Rattle.std.proofs.Common.{◌∙◌, ◌-◌, ◌≤◌, ◌++◌, List, length, ap, subst, arith}
-use Rattle.volume_model.specs.Redo.{last_lsn}
+use Rattle.volume_model.specs.Common.{last_lsn}
 use Rattle.redo_record.specs.declared.shared_record.SharedRecord.{SharedRecord}
-use Rattle.redo_record.specs.RecordSet.{packets_of}
-use Rattle.redo_record.specs.SharedRecord.{shared_redo}
+use Rattle.redo_record.specs.Common.{packets_of, shared_redo}
 use Rattle.writer_core.specs.Logs.{log_of}
 use Rattle.writer_core.proofs.Joined.{last-behind, last-of_set, last-of_none}
 use Rattle.writer_core.proofs.log.Log.last_lsn.Goals as goal

@@ -1,5 +1,5 @@
 use Rattle.std.proofs.Common.{length-append, arith}
-use Rattle.redo_record.specs.RecordSet.{packets_of}
+use Rattle.redo_record.specs.Common.{packets_of}
 use Rattle.writer_core.specs.Log.{packets_in}
 use Rattle.writer_core.proofs.Bounds.{packets-few}
 use Rattle.writer_core.proofs.log.Log.len.Goals as goal

@@ -1,5 +1,5 @@
 use Rattle.std.proofs.Common.{◌∙◌, ◌≤◌, length, sym, arith}
-use Rattle.redo_record.specs.RecordSet.{packets_of}
+use Rattle.redo_record.specs.Common.{packets_of}
 use Rattle.writer_core.proofs.Joined.{left-none}
 use Rattle.writer_core.proofs.log.Log.packet.Goals as goal
 

@@ -1,8 +1,7 @@
 use Rattle.std.proofs.Common.{◌≡◌, ◌∙◌, true, List, Some, None, sym, ap, subst}
-use Rattle.volume_model.specs.Redo.{record_at}
+use Rattle.volume_model.specs.Common.{record_at}
 use Rattle.redo_record.specs.declared.shared_record.SharedRecord.{SharedRecord}
-use Rattle.redo_record.specs.SharedRecord.{shared_redo}
-use Rattle.redo_record.specs.RecordSet.{packets_of, records_of}
+use Rattle.redo_record.specs.Common.{shared_redo, packets_of, records_of}
 use Rattle.writer_core.specs.Logs.{log_of, is_growing}
 use Rattle.writer_core.proofs.Joined.{issued-grows, at-found, at-issued, growing-same, log_of-set, found-grows}
 use Rattle.writer_core.proofs.log.Log.record_at.Goals as goal

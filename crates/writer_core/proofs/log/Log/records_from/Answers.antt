@@ -1,6 +1,6 @@
 use Rattle.std.proofs.Common.{◌≡◌, ◌∙◌, ℕ, ◌-◌, ◌++◌, min, List, take, drop, length, ap, arith}
 use Rattle.redo_record.specs.declared.shared_record.SharedRecord.{SharedRecord}
-use Rattle.redo_record.specs.RecordSet.{packets_of}
+use Rattle.redo_record.specs.Common.{packets_of}
 use Rattle.redo_record.proofs.RunLists.{take-rest}
 use Rattle.writer_core.proofs.Joined.{drop-behind}
 use Rattle.writer_core.proofs.log.Log.records_from.Goals as goal

@@ -1,6 +1,6 @@
 use Rattle.std.proofs.Common.{◌≡◌, ◌∙◌, ◌-◌, ◌++◌, true, List, take, sym, ap, subst}
 use Rattle.redo_record.specs.declared.shared_record.SharedRecord.{SharedRecord}
-use Rattle.redo_record.specs.RecordSet.{packets_of}
+use Rattle.redo_record.specs.Common.{packets_of}
 use Rattle.writer_core.specs.Logs.{log_of, is_growing}
 use Rattle.writer_core.specs.Log.{packets_in}
 use Rattle.writer_core.proofs.Joined.{taken-behind, taken-grows}

@@ -1,4 +1,4 @@
-use Rattle.volume_model.specs.Client.{group_point_of}
+use Rattle.volume_model.specs.Common.{group_point_of}
 use Rattle.writer_core.specs.Groups.{groups_in}
 use Rattle.std.proofs.Common.{◌∙◌, [], Ok, length, sym, ap}
 use Rattle.lineage.specs.Lineage.{lineage_of}

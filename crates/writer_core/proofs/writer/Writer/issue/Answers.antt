@@ -2,9 +2,8 @@ use Rattle.std.proofs.Common.{◌≡◌, ℕ, length, take, List, Result, Err, s
 use Rattle.std.proofs.lemmas.Result.{err_from_is_err_and}
 use Rattle.redo_record.specs.declared.shared_record.SharedRecord.{SharedRecord}
 use Rattle.wire.specs.declared.messages.Messages.{Messages}
-use Rattle.volume_model.specs.Answer.{Answers, never_after_growth}
-use Rattle.volume_model.specs.Client.{Client, ClientAnswer, group_point_of}
-use Rattle.volume_model.specs.ClientWriter.{issued}
+use Rattle.volume_model.specs.Common.{Answers, never_after_growth, ClientAnswer, group_point_of, issued}
+use Rattle.volume_model.specs.Client.{Client}
 use Rattle.volume_model.specs.declared.fault.Fault.{Fault}
 use Rattle.writer_core.specs.Changes.{changes_of}
 use Rattle.writer_core.specs.DurabilityTracker.{CoversLog}

@@ -1,4 +1,4 @@
-use Rattle.volume_model.specs.Client.{group_point_of}
+use Rattle.volume_model.specs.Common.{group_point_of}
 use Rattle.writer_core.specs.Groups.{groups_in, group_states_plan}
 use Rattle.std.proofs.Common.{refl, ap}
 use Rattle.lineage.specs.Lineage.{lineage_of}

@@ -1,7 +1,6 @@
 use Rattle.std.proofs.Common.{◌≡◌, ℕ, ◌≤◌, true, List, sym, ap, ◌∙◌, subst, arith}
-use Rattle.volume_model.specs.Client.{ClientGroup, group_of, group_point_of}
-use Rattle.volume_model.specs.ClientPoints.{raised}
-use Rattle.wire.specs.Message.{label_of}
+use Rattle.volume_model.specs.Common.{ClientGroup, group_of, group_point_of, raised}
+use Rattle.wire.specs.Common.{label_of}
 use Rattle.writer_core.specs.GroupStates.{counted_in}
 use Rattle.writer_core.specs.Raised.{AreRaised, HaveJoined, raised_in}
 use Rattle.writer_core.specs.Groups.{groups_in, group_states_plan}

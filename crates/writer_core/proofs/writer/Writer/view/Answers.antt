@@ -1,10 +1,7 @@
 use Rattle.std.proofs.Common.{◌≡◌, ℕ, ◌≤◌, List, map, sym, ap, ◌∙◌, subst}
-use Rattle.volume_model.specs.Plan.{Plan}
-use Rattle.volume_model.specs.Client.{ClientGroup, group_point_of}
-use Rattle.volume_model.specs.ClientPoints.{raised}
-use Rattle.volume_model.specs.ClientMessages.{with_places, later_group}
+use Rattle.volume_model.specs.Common.{Plan, ClientGroup, group_point_of, raised, with_places, later_group}
 use Rattle.wire.specs.declared.label.Place.{Place}
-use Rattle.wire.specs.Message.{place_of, messages_of}
+use Rattle.wire.specs.Common.{place_of, messages_of}
 use Rattle.writer_core.specs.Groups.{groups_in, group_states_plan}
 use Rattle.writer_core.specs.Log.{packets_in}
 use Rattle.writer_core.specs.DurabilityTracker.{CoversLog}
