@@ -23,5 +23,5 @@ pub use node::Node;
 pub use on_tape::{TapeItems, TapeNode};
 pub use reading::{read_expr, read_expr_at, value_at, whole};
 pub use rebuilding::{copy_in, dual_in};
-pub use root::tape_root;
+pub use root::{is_readable, readable_root, tape_root};
 pub use validity::valid;

@@ -1,6 +1,6 @@
 //! The root of a tape as a node.
 
-ghost use Rattle.std.specs.Prelude.{◌≡◌, ◌<◌, ◌≤◌, ◌+◌, ◌^◌, IfSome, map};
+ghost use Rattle.std.specs.Prelude.{◌≡◌, ◌<◌, ◌≤◌, ◌+◌, ◌^◌, IfSome, Some, map, true};
 ghost use Rattle.json.specs.Tape.{node_token};
 ghost use Rattle.quorum_expr.specs.Placed.{passes, PassesTo};
 ghost use Rattle.quorum_expr.specs.Tapes.{IsRootOf};
@@ -28,7 +28,7 @@ fn after(node: &Node<'_>, left: u128) -> Option<u128>
 }
 
 /// Returns whether each number is in range and nothing nests deeper than 127.
-fn is_readable(nodes: &[Node<'_>]) -> bool
+fn are_readable(nodes: &[Node<'_>]) -> bool
     ensures { result ≡ passes 127 (map node_token nodes.now) }
 {
     let mut left = LEVELS;
@@ -41,14 +41,29 @@ fn is_readable(nodes: &[Node<'_>]) -> bool
     true
 }
 
+/// Returns whether `serde_json` reads a tape's text: each number is in range and nothing nests deeper than 127.
+pub fn is_readable(tape: &Tape<'_>) -> bool
+    ensures { result ≡ passes 127 tape.now }
+{
+    are_readable(tape.nodes())
+}
+
+/// Returns the root of a tape whose text `serde_json` reads.
+pub fn readable_root<'t, 'a>(tape: &'t Tape<'a>) -> TapeNode<'t, 'a>
+    requires { passes 127 tape.now ≡ true }
+    ensures { IsRootOf tape.now (Some result) }
+{
+    TapeNode {
+        element: tape.root(),
+    }
+}
+
 /// Returns the root of a tape, if `serde_json` reads its text.
 pub fn tape_root<'t, 'a>(tape: &'t Tape<'a>) -> Option<TapeNode<'t, 'a>>
     ensures { IsRootOf tape.now result }
 {
-    if !is_readable(tape.nodes()) {
+    if !is_readable(tape) {
         return None;
     }
-    Some(TapeNode {
-        element: tape.root(),
-    })
+    Some(readable_root(tape))
 }

@@ -1,7 +1,7 @@
 use Rattle.std.proofs.Common.{sym, ◌∙◌, arith}
 use Rattle.json.specs.declared.tape.Node.TheVariants.{Object}
 use Rattle.quorum_expr.proofs.Passing.{next_node, no_node}
-use Rattle.quorum_expr.proofs.root.is_readable.Goals as goal
+use Rattle.quorum_expr.proofs.root.are_readable.Goals as goal
 
 pub returns : goal.returns
 returns c = sym (no_node c.loop-node.left c.loop-node.node-index c.args.nodes.now c.loop-node-test.false) ∙ c.loop-node.invariant.same

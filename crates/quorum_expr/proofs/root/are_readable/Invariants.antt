@@ -1,7 +1,7 @@
 use Rattle.std.proofs.Common.{◌≡◌, ◌+◌, ◌≤◌, drop, map}
 use Rattle.json.specs.Tape.{node_token}
 use Rattle.quorum_expr.specs.Placed.{passes}
-use Rattle.quorum_expr.proofs.root.is_readable.Given as goal
+use Rattle.quorum_expr.proofs.root.are_readable.Given as goal
 
 -- the nodes so far pass
 abbrev pub invariant-loop-node : goal.invariant-loop-node
