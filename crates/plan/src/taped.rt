@@ -18,7 +18,7 @@ use crate::reading::read_plan_at;
 use crate::sizes::room_for;
 use crate::written::put_plan;
 use json::{Error, Scratch, Tape, Writer};
-use quorum_expr::tape_root;
+use quorum_expr::{is_readable, readable_root};
 use refutation::Certificate;
 use std::alloc::{AllocError, Global};
 use std::marker::Model;
@@ -45,7 +45,7 @@ impl<'a> Model for TapedPlan<'a> {
     ghost invariant = { λ t. IsTapeOf t.text.now t.tape };
 }
 
-/// Returns the tape of a text.
+/// Returns the tape of a text that `serde_json` reads.
 fn tape_of<'a>(
     alloc: Global,
     text: &'a str,
@@ -57,7 +57,12 @@ fn tape_of<'a>(
     ensures fault { IfErr result (λ fault. fault ≢ Text NoMemory → plan_of text.entry.now ≡ Err fault) }
 {
     match Tape::parse(text, scratch, Vec::new(alloc)) {
-        Ok(tape) => Ok(TapedPlan { text, tape }),
+        Ok(tape) => {
+            if !is_readable(&tape) {
+                return Err(PlanFault::Text(Fault::Malformed));
+            }
+            Ok(TapedPlan { text, tape })
+        }
         Err(Error::OutOfMemory) => Err(PlanFault::Text(Fault::NoMemory)),
         Err(Error::Invalid) => Err(PlanFault::Text(Fault::Malformed)),
         Err(Error::TooLong | Error::DuplicateKey) => Err(PlanFault::Text(Fault::NoMemory)),
@@ -68,7 +73,8 @@ impl<'a> TapedPlan<'a> {
     /// Parses a text.
     ///
     /// # Errors
-    /// `OverLimit` for a text of more than 16,777,216 bytes, and `Malformed` for one that isn't JSON.
+    /// `OverLimit` for a text of more than 16,777,216 bytes, and `Malformed` for one that isn't JSON, nests deeper than
+    /// 127, or has a number out of range.
     pub fn parse(
         alloc: Global,
         text: &'a [u8],
@@ -96,10 +102,8 @@ impl<'a> TapedPlan<'a> {
     pub fn plan(&self, alloc: Global) -> Result<Plan, PlanFault>
         ensures { Reads plan_data result (plan_of self.now) }
     {
-        match tape_root(&self.tape) {
-            Some(root) => read_plan_at(alloc, &root),
-            None => Err(PlanFault::Text(Fault::Malformed)),
-        }
+        let root = readable_root(&self.tape);
+        read_plan_at(alloc, &root)
     }
 
     /// Returns the text as compact JSON with these certificates for the plan's claims, in the claims' order; a claim
@@ -119,9 +123,7 @@ impl<'a> TapedPlan<'a> {
         // Expressions are kept as they are written in the text.
         ensures kept { IfOk result (λ bytes. KeepsValues self.now bytes.items) }
     {
-        let Some(root) = tape_root(&self.tape) else {
-            return Err(AllocError);
-        };
+        let root = readable_root(&self.tape);
         let room = room_for(certificates).saturating_add(self.text.len());
         let mut writer = Writer::new(Vec::with_capacity(alloc, room)?);
         match put_plan(&mut writer, &root, certificates) {
