@@ -8,3 +8,12 @@ pub trait Gate {
     /// Is called when the claim's answer is known.
     fn finished(&self, claim: usize);
 }
+
+/// A gate that does nothing.
+pub struct NoGate;
+
+impl Gate for NoGate {
+    fn started(&self, _claim: usize) {}
+
+    fn finished(&self, _claim: usize) {}
+}

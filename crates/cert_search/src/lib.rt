@@ -22,7 +22,7 @@ mod working;
 
 pub use dealing::deal;
 pub use fitting::keep_shortest;
-pub use gate::Gate;
+pub use gate::{Gate, NoGate};
 pub use hand::Hand;
 pub use one::{search_in, search_one};
 pub use searching::search_all;

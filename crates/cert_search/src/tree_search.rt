@@ -11,7 +11,6 @@ mod grid;
 mod leaves;
 mod lists;
 mod matching;
-mod members;
 mod needs;
 mod order;
 mod parts;

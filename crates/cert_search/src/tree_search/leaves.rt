@@ -1,8 +1,8 @@
 //! The leaves of a search: states that a rule without branches refutes, and states that two disjoint sets satisfy.
 
-use crate::tree_search::members::common;
-use crate::tree_search::state::State;
-use quorum_expr::{Expr, MEMBERS};
+use crate::tree_search::state::{Row, State};
+use quorum_checker::members_named;
+use quorum_expr::{Expr, MEMBERS, MemberSet};
 use refutation::{Refutation, Side};
 use std::alloc::Allocator;
 
@@ -47,26 +47,35 @@ pub fn leaf<A: Allocator, B: Allocator>(state: &State<'_, A>) -> Option<Refutati
     }
 }
 
-/// Returns whether two disjoint sets satisfy all items of both sides if the left side gives up each common member that
+/// Returns the members that the items name and that aren't absent.
+fn members_in<A: Allocator>(row: &Row<'_, A>) -> MemberSet {
+    let mut members = MemberSet::empty();
+    for item in row.items {
+        members = members.union(members_named(*item));
+    }
+    members.difference(row.absent)
+}
+
+/// Returns whether two disjoint sets satisfy all items of both sides if the first side gives up each common member that
 /// it doesn't need.
-fn leaves_enough<A: Allocator>(state: &State<'_, A>) -> bool {
-    let mut left = state.left.absent.complement();
-    let mut right = state.right.absent.complement();
-    let common = common(state);
+fn leaves_enough<A: Allocator>(one: &Row<'_, A>, other: &Row<'_, A>) -> bool {
+    let mut first = one.absent.complement();
+    let mut second = other.absent.complement();
+    let common = members_in(one).intersection(members_in(other));
     for member in 0..MEMBERS {
         if common.contains(member) {
-            let fewer = left.without(member);
-            if state.left.hold(fewer) {
-                left = fewer;
+            let fewer = first.without(member);
+            if one.hold(fewer) {
+                first = fewer;
             } else {
-                right = right.without(member);
+                second = second.without(member);
             }
         }
     }
-    state.right.hold(right)
+    other.hold(second)
 }
 
 /// Returns whether two disjoint sets that satisfy both sides are found quickly. No item may be unsatisfiable.
 pub fn has_counterexample<A: Allocator>(state: &State<'_, A>) -> bool {
-    leaves_enough(state) || leaves_enough(&state.swapped())
+    leaves_enough(&state.left, &state.right) || leaves_enough(&state.right, &state.left)
 }

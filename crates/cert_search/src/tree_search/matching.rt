@@ -106,8 +106,7 @@ impl<'e> WeightedMatching<'e> {
         }
         let one = lefts.get(usize::from(left)).copied().unwrap_or(0);
         let other = rights.get(right).copied().unwrap_or(0);
-        let smaller = if one < other { one } else { other };
-        i32::from(smaller)
+        i32::from(one.min(other))
     }
 
     /// Returns a pair's cost above the sum of its prices.

@@ -2,15 +2,6 @@
 
 use crate::tree_search::parts::{Choice, Form, Part};
 
-/// The computed properties of a choice.
-#[derive(Clone, Copy)]
-pub struct Known {
-    pub is_flat: bool,
-    pub is_live: bool,
-    pub members: u64,
-    pub needs: u64,
-}
-
 /// Returns whether the children are members of weight 1, and those that aren't absent are distinct.
 fn are_flat(children: &[Part]) -> bool {
     let mut members = 0u64;
@@ -64,8 +55,8 @@ fn needed_by(children: &[Part], needed: usize) -> u64 {
     sure
 }
 
-/// Computes the properties of a choice from its children.
-pub fn known_of(choice: Choice, children: &[Part]) -> Known {
+/// Returns the part of a choice with this weight, with its properties computed from its children.
+pub fn known_part(choice: Choice, weight: u8, children: &[Part]) -> Part {
     let mut members = 0u64;
     let mut live = 0usize;
     for child in children {
@@ -86,8 +77,9 @@ pub fn known_of(choice: Choice, children: &[Part]) -> Known {
     } else {
         0
     };
-    Known {
-        is_flat,
+    Part {
+        form: Form::KOf(Choice { is_flat, ..choice }),
+        weight,
         is_live,
         members,
         needs,

@@ -1,7 +1,7 @@
 //! The subexpressions of an expression, numbered.
 
 use crate::tree_search::lists::append;
-use crate::tree_search::needs::known_of;
+use crate::tree_search::needs::known_part;
 use crate::tree_search::spending::Search;
 use quorum_expr::{Expr, MemberSet};
 use std::alloc::{AllocError, Allocator};
@@ -215,18 +215,9 @@ impl<B: Allocator> Parts<B> {
         else {
             return;
         };
-        let known = known_of(choice, self.children(&choice));
+        let known = known_part(choice, weight, self.children(&choice));
         if let Some(part) = self.all.get_mut(at) {
-            *part = Part {
-                form: Form::KOf(Choice {
-                    is_flat: known.is_flat,
-                    ..choice
-                }),
-                weight,
-                is_live: known.is_live,
-                members: known.members,
-                needs: known.needs,
-            };
+            *part = known;
         }
     }
 

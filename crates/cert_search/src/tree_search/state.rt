@@ -169,14 +169,6 @@ impl<'a, A: Allocator> State<'a, A> {
         }
     }
 
-    /// Returns the state with its sides exchanged.
-    pub fn swapped(&self) -> State<'a, A> {
-        State {
-            left: self.right.copy(),
-            right: self.left.copy(),
-        }
-    }
-
     /// Returns the state with other items on a side.
     pub fn changed<'b>(&self, side: Side, items: &'b [&'b Expr<A>]) -> State<'b, A>
     where
