@@ -3,7 +3,7 @@
 ghost use Rattle.std.specs.Prelude.{◌<◌, ◌≤◌};
 
 use crate::refusal::EditRefusal;
-use cert_search::{Gate, search_all};
+use cert_search::{NoGate, search_all};
 use json::Scratch;
 use plan::{ClaimRef, TapedPlan, lent_claims};
 use refutation::Certificate;
@@ -14,15 +14,6 @@ use volume_model::Fault;
 
 /// The most nodes that are tried for a claim.
 const BUDGET: u64 = 100_000;
-
-/// A gate that does nothing.
-struct NoGate;
-
-impl Gate for NoGate {
-    fn started(&self, _claim: usize) {}
-
-    fn finished(&self, _claim: usize) {}
-}
 
 /// Returns a copy of the certificate that the plan has for a claim, if it refutes the claim.
 fn own_certificate(

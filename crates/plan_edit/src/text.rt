@@ -34,11 +34,13 @@ fn add_expression(text: &mut String, expr: &Expr<Global>) -> Result<(), AllocErr
         Expr::Member(member) => write!(text, "{member}"),
         Expr::KOf { k, of } => {
             write!(text, "{{\"k\":{k},\"of\":[")?;
-            let mut comma = "";
+            let mut is_first = true;
             for (_, child) in of {
-                text.push_str(comma)?;
+                if !is_first {
+                    text.push_str(",")?;
+                }
+                is_first = false;
                 add_expression(text, child)?;
-                comma = ",";
             }
             text.push_str("]")?;
             if of.iter().any(|child| child.0 != 1) {

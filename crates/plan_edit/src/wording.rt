@@ -4,12 +4,12 @@ use crate::refusal::EditRefusal;
 use crate::replacement::Replacement;
 use std::alloc::{AllocError, Global};
 
-/// Appends why a replacement is refused.
-fn add_reason(
-    text: &mut String,
+/// Returns the line that says why a replacement is refused.
+pub fn reason(
+    alloc: Global,
     refusal: &EditRefusal,
     replacement: Replacement,
-) -> Result<(), AllocError> {
+) -> Result<String, AllocError> {
     let Replacement {
         group,
         configuration,
@@ -17,38 +17,28 @@ fn add_reason(
         new,
         ..
     } = replacement;
-    match refusal {
-        EditRefusal::NotInPlan => {
-            write!(
-                text,
-                "the plan has no configuration {configuration} of group {group}"
-            )
-        }
-        EditRefusal::NotAMember => {
-            write!(
-                text,
-                "member {old} isn't in configuration {configuration} of group {group}"
-            )
-        }
+    let mut text = String::from_str(alloc, "no: ")?;
+    let written = match refusal {
+        EditRefusal::NotInPlan => write!(
+            text,
+            "the plan has no configuration {configuration} of group {group}\n"
+        ),
+        EditRefusal::NotAMember => write!(
+            text,
+            "member {old} isn't in configuration {configuration} of group {group}\n"
+        ),
         EditRefusal::MemberReused => write!(
             text,
-            "configuration {configuration} of group {group}, or one on the way to it, has member {new} already"
+            "configuration {configuration} of group {group}, or one on the way to it, has member {new} already\n"
         ),
         EditRefusal::NoPlace => {
-            write!(text, "group {group} would have more than 64 configurations")
+            write!(
+                text,
+                "group {group} would have more than 64 configurations\n"
+            )
         }
-        other => write!(text, "{other}"),
-    }
-}
-
-/// Returns the line that says why a replacement is refused.
-pub fn reason(
-    alloc: Global,
-    refusal: &EditRefusal,
-    replacement: Replacement,
-) -> Result<String, AllocError> {
-    let mut text = String::from_str(alloc, "no: ")?;
-    add_reason(&mut text, refusal, replacement)?;
-    text.push_str("\n")?;
+        other => write!(text, "{other}\n"),
+    };
+    written?;
     Ok(text)
 }
