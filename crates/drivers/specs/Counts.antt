@@ -2,7 +2,7 @@
 use Rattle.std.specs.Prelude.{◌+◌, Bool, true, false, Result, Ok, Err}
 use Rattle.volume_model.specs.declared.fault.Fault.{Fault}
 use Rattle.volume_model.specs.declared.fault.Fault.TheVariants.{NoMemory}
-use Rattle.drivers.specs.declared.run_counts.RunCounts.{RunCounts}
+use Rattle.drivers.specs.declared.completion_table.RunCounts.{RunCounts}
 use Rattle.drivers.specs.declared.completion.Completion.{Completion}
 use Rattle.drivers.specs.declared.completion.Completion.TheVariants.{Made, Refused, OutOfMemory}
 

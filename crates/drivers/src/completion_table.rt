@@ -1,14 +1,47 @@
 //! The completions of a script's orders.
 
-ghost use Rattle.std.specs.Prelude.{◌≡◌, ◌+◌, IfOk, IfErr, vec_len};
+ghost use Rattle.std.specs.Prelude.{◌≡◌, ◌+◌, ◌<◌, ◌^◌, IfErr, IfOk, vec_len};
 ghost use Rattle.volume_model.specs.declared.fault.Fault.TheVariants.{NoMemory};
 
 use crate::completion::Completion;
 use crate::completion_slot::CompletionSlot;
-use crate::run_counts::RunCounts;
 use std::alloc::{AllocError, Global};
 use std::sync::{OnceLock, Wait};
 use volume_model::Fault;
+
+/// The numbers of orders that were made and refused.
+#[derive(Clone, Copy)]
+pub struct RunCounts {
+    pub made: usize,
+    pub refused: usize,
+}
+
+impl RunCounts {
+    ghost use Rattle.drivers.specs.Counts.{IsOutOfMemory, counts_with};
+
+    /// Counts one more order by its completion.
+    ///
+    /// # Errors
+    /// `NoMemory` if the order ran out of memory.
+    fn with(self, completion: Completion) -> Result<RunCounts, Fault>
+        requires { self.made + self.refused + 1 < 2 ^ 64 }
+        ensures counted { IfOk result (λ counts. counts ≡ counts_with completion self) }
+        ensures one_more { IfOk result (λ counts. counts.made + counts.refused ≡ self.made + self.refused + 1) }
+        ensures starved { IfErr result (λ fault. (fault ≡ NoMemory) × IsOutOfMemory completion) }
+    {
+        match completion {
+            Completion::Made { .. } => Ok(RunCounts {
+                made: self.made + 1,
+                refused: self.refused,
+            }),
+            Completion::Refused => Ok(RunCounts {
+                made: self.made,
+                refused: self.refused + 1,
+            }),
+            Completion::OutOfMemory => Err(Fault::NoMemory),
+        }
+    }
+}
 
 /// A slot for the completion of each order of a script.
 #[derive(Drop)]
@@ -73,7 +106,10 @@ impl CompletionTable {
         ensures all { IfOk result (λ counts. counts.made + counts.refused ≡ vec_len self.now.slots) }
         ensures memory { IfErr result (λ fault. fault ≡ NoMemory) }
     {
-        let mut counts = RunCounts::new();
+        let mut counts = RunCounts {
+            made: 0,
+            refused: 0,
+        };
         for slot in &self.slots {
             counts = counts.with(slot.wait(rt))?;
         }

@@ -1,21 +1,20 @@
 //! Runs a script on threads, from the fleet's opening to its end.
 
-ghost use Rattle.std.specs.Prelude.{◌≡◌, ◌≤◌, ◌<◌, ◌+◌, IfErr, IfOk, vec_len};
+ghost use Rattle.std.specs.Prelude.{◌≡◌, ◌==◌, ◌&&◌, ◌≤◌, ◌<◌, ◌+◌, IfErr, IfOk, is_err, not, vec_len};
 ghost use Rattle.std.specs.Arc.{arc_value};
+ghost use Rattle.std.specs.List.{list_any};
 ghost use Rattle.volume_model.specs.declared.fault.Fault.TheVariants.{NoMemory};
 ghost use Rattle.plan.specs.Common.{checked_model};
 ghost use Rattle.journal.specs.Tokens.{ids_of};
 ghost use Rattle.node_fleet.specs.Bases.{passes_of, IsBaseOf};
 ghost use Rattle.drivers.specs.Driven.{IsDriven};
 
-use crate::agreeing::agrees;
 use crate::assignments::{Assignment, assignments};
-use crate::completion_table::CompletionTable;
+use crate::completion_table::{CompletionTable, RunCounts};
 use crate::nodes::{Node, receivers};
 use crate::reading::Script;
 use crate::run::Run;
-use crate::run_counts::RunCounts;
-use crate::threads::{Workers, run_all};
+use crate::threads::run_all;
 use crate::worker::{Part, WorkerContext};
 use node_fleet::{Base, Fleet, FleetSite, Pass, Row};
 use plan::CheckedPlan;
@@ -24,7 +23,7 @@ use std::marker::Brand;
 use std::sync::{Arc, Wait};
 use std::thread::Threads;
 use volume_model::Fault;
-use world::{Outcome, run};
+use world::{Event, Outcome, run};
 
 /// The number of client slots.
 const SLOTS: u32 = 64;
@@ -42,20 +41,14 @@ pub struct Driven {
     pub outcome: Outcome,
 }
 
-/// Returns the part of each node's thread.
-fn node_parts(alloc: Global, nodes: &[Node]) -> Result<Vec<Part>, AllocError> {
-    let mut parts = Vec::with_capacity(alloc, nodes.len())?;
-    for node in nodes {
-        parts.push(Part::Node(*node))?;
-    }
-    Ok(parts)
-}
-
-/// Returns the part of each driver.
-fn driver_parts(alloc: Global, workers: u8) -> Result<Vec<Part>, AllocError> {
-    let mut parts = Vec::with_capacity(alloc, usize::from(workers))?;
+/// Returns the part of each thread, those of the drivers first.
+fn parts(alloc: Global, workers: u8, nodes: &[Node]) -> Result<Vec<Part>, AllocError> {
+    let mut parts = Vec::new(alloc);
     for number in 0..workers {
         parts.push(Part::Driver(number))?;
+    }
+    for node in nodes {
+        parts.push(Part::Node(*node))?;
     }
     Ok(parts)
 }
@@ -102,16 +95,24 @@ fn ran<'f, 'a, L: FleetSite + Send + Sync, R: Threads + Wait + Sync>(
         assignments: &stage.assignments,
         completions: &stage.completions,
     };
-    let served = node_parts(alloc, nodes)?;
-    let driven = driver_parts(alloc, workers)?;
-    let served = contexts(alloc, &run, served, &mut passes)?;
-    let drivers = contexts(alloc, &run, driven, &mut passes)?;
-    let run_threads = Workers {
-        nodes: served,
-        drivers,
-        run,
-    };
-    run_all(rt, alloc, &stage.completions.go, run_threads, nodes)
+    let parts = parts(alloc, workers, nodes)?;
+    let contexts = contexts(alloc, &run, parts, &mut passes)?;
+    run_all(rt, alloc, run, contexts, usize::from(workers), nodes)
+}
+
+/// Returns whether any event was refused.
+fn refuses(results: &[Result<u32, Fault>]) -> bool
+    ensures { result ≡ list_any (λ completion. is_err completion) results.now }
+{
+    results.iter().any(|completion| completion.is_err())
+}
+
+/// Returns whether a run refused nothing and had `steps` events.
+pub fn agrees(outcome: &Outcome, events: &Vec<Event>, steps: usize) -> bool
+    ensures { result ≡ (not (list_any (λ completion. is_err completion) outcome.now.results.items) &&
+        (vec_len events.now == steps)) }
+{
+    !refuses(outcome.results.as_slice()) && events.len() == steps
 }
 
 /// Closes the fleet. Returns the result of a run with these counts.

@@ -2,9 +2,7 @@
 //! takes its messages on its own thread.
 #![tactic(auto)]
 
-mod agreeing;
 mod assignments;
-mod calls;
 mod changes;
 mod completion;
 mod completion_slot;
@@ -19,11 +17,9 @@ mod numbers;
 mod numeral;
 mod parts;
 mod payload;
-mod pieces;
 mod plain;
 mod reading;
 mod run;
-mod run_counts;
 mod seeking;
 mod threads;
 mod worker;

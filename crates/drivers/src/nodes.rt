@@ -11,27 +11,17 @@ pub struct Node {
     pub member: u8,
 }
 
-/// Returns the node that an event delivers to.
-fn receiver_of(event: &Event) -> Option<Node> {
-    match event {
-        Event::Deliver { group, member, .. } => Some(Node {
-            group: *group,
-            member: *member,
-        }),
-        _ => None,
-    }
-}
-
 /// Returns the node that an order delivers to.
 pub fn receiver(order: &Order) -> Option<Node> {
-    match order {
-        Order::DeliverFrom { group, member, .. } => Some(Node {
-            group: *group,
-            member: *member,
-        }),
-        Order::Event(event) => receiver_of(event),
-        Order::TakeFrom { .. } => None,
-    }
+    let (group, member) = match order {
+        Order::DeliverFrom { group, member, .. } => (*group, *member),
+        Order::Event(event) => match &**event {
+            Event::Deliver { group, member, .. } => (*group, *member),
+            _ => return None,
+        },
+        Order::TakeFrom { .. } => return None,
+    };
+    Some(Node { group, member })
 }
 
 /// Returns for each member of each group (64 a group) whether an order delivers to it.

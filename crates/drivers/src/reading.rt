@@ -3,13 +3,12 @@
 ghost use Rattle.std.specs.Prelude.{◌≡◌, ◌<◌, ◌≤◌, ◌↔◌, IfOk, IsTrue, OnOk, length, vec_len};
 ghost use Rattle.std.specs.Str.{IsUtf8};
 ghost use Rattle.drivers.specs.Seen.{Seen, asked_by, seen};
-ghost use Rattle.drivers.specs.Named.{AddsFirst};
+ghost use Rattle.drivers.specs.Named.{AddsFirst, IsFirstLine};
 ghost use Rattle.drivers.specs.Script.{AddsLine, ReadsScript, kept_in, stop_at, with_line};
 
 use crate::line::{Line, line_of};
 use crate::named::named_order;
-use crate::pieces::first_line;
-use crate::seeking::count_of;
+use crate::seeking::{count_of, first_place};
 use std::alloc::{AllocError, Global};
 use volume_model::Fault;
 use world::Order;
@@ -137,6 +136,16 @@ fn add_line(
             Ok(())
         }
         Err(fault) => Err(fault),
+    }
+}
+
+/// Returns the first line of a text without its newline, and the text after it.
+pub fn first_line(text: &[u8]) -> (&[u8], &[u8])
+    ensures { 0 < length text.now → IsFirstLine text.now result.0.now result.1.now }
+{
+    match first_place(text, b'\n') {
+        Some(end) => (&text[..end], &text[end + 1..]),
+        None => (text, &[]),
     }
 }
 

@@ -1,28 +1,20 @@
 //! What all threads of a run share.
 
 use crate::assignments::Assignment;
-use crate::calls::call;
 use crate::completion::Completion;
 use crate::completion_table::CompletionTable;
 use crate::nodes::{Node, receiver};
-use node_fleet::{Fleet, FleetSite, Pass, StepGate};
+use node_fleet::{Fleet, FleetSite, Pass, Receipt, StepGate};
 use std::sync::Wait;
+use volume_model::Fault;
 use wire::Messages;
-use world::{ClientAction, Event, Order};
+use world::{ActorAction, ClientAction, Event, Order};
 
 /// A gate that does nothing.
 struct Open;
 
 impl StepGate for Open {
     fn prepared(&self, _answers: &Messages) {}
-}
-
-/// Returns the number of the message that an event delivers, 0 if it delivers none.
-fn message_of(event: &Event) -> u64 {
-    match event {
-        Event::Deliver { message, .. } => *message,
-        _ => 0,
-    }
 }
 
 /// What all threads of a run share.
@@ -52,7 +44,10 @@ impl<'f, 'a, L: FleetSite> Run<'f, 'a, L> {
             Order::DeliverFrom { event, place, .. } | Order::TakeFrom { event, place, .. } => {
                 self.completions.message(rt, index, *event as usize, *place)
             }
-            Order::Event(event) => message_of(event),
+            Order::Event(event) => match &**event {
+                Event::Deliver { message, .. } => *message,
+                _ => 0,
+            },
         }
     }
 
@@ -100,6 +95,26 @@ impl<'f, 'a, L: FleetSite> Run<'f, 'a, L> {
         }
     }
 
+    /// Makes the step of an event that isn't a delivery.
+    ///
+    /// # Errors
+    /// The actor's refusal; `NoMemory` if memory runs out; `NoMessage` if the event is a delivery.
+    fn step<R: Wait>(
+        &self,
+        rt: &R,
+        pass: &mut Pass<'a, L>,
+        event: &Event,
+    ) -> Result<Receipt, Fault> {
+        match event.split() {
+            ActorAction::Authority(action) => self.fleet.advance(rt, pass, action),
+            ActorAction::Client(volume, action) => self.fleet.client_step(rt, pass, volume, action),
+            ActorAction::Node(group, member, action) => {
+                self.fleet.node_step(rt, pass, group, member, action)
+            }
+            ActorAction::Deliver { .. } => Err(Fault::NoMessage),
+        }
+    }
+
     /// Follows order `index`, and sets its completion. First waits for the order whose message it names.
     pub fn follow<R: Wait>(&self, rt: &R, pass: &mut Pass<'a, L>, index: usize) {
         let Some(order) = self.orders.get(index) else {
@@ -115,7 +130,7 @@ impl<'f, 'a, L: FleetSite> Run<'f, 'a, L> {
                 let action = ClientAction::Take { message };
                 self.fleet.client_step(rt, pass, *volume, action)
             }
-            Order::Event(event) => call(rt, self.fleet, pass, event),
+            Order::Event(event) => self.step(rt, pass, event),
             Order::DeliverFrom { .. } => return,
         };
         self.completions.set(index, Completion::of(call));

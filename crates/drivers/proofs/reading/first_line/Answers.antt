@@ -1,6 +1,6 @@
 use Rattle.std.proofs.Common.{drop, length, take, ◌+◌, ◌-◌}
 use Rattle.drivers.proofs.Lines.{is_some, rest_is, split_at_newline, split_without_newline}
-use Rattle.drivers.proofs.pieces.first_line.Goals as goal
+use Rattle.drivers.proofs.reading.first_line.Goals as goal
 
 pub returns-in-Some : goal.returns-in-Some
 returns-in-Some c =
