@@ -1,5 +1,5 @@
 -- The command line, as clap reads it.
-use Rattle.std.specs.Prelude.{◌≡◌, ℕ, [], ◌∷◌, codes, pos, Some, true, false}
+use Rattle.std.specs.Prelude.{◌≡◌, ℕ, List, [], ◌∷◌, codes, pos, Some, true, false}
 use Rattle.clap.specs.Words.{App, Rule, Text, app_of, new_app, new_rule, rule_of, with_rule, with_subcommand}
 use Rattle.clap.specs.Simple.{on_top}
 use Rattle.clap.specs.declared.builder.arg.Arg.{Arg}
@@ -18,15 +18,25 @@ file_leaf name = with_rule (new_app name) (file_rule (codes "plan"))
 abbrev pub script_leaf : Text → App
 script_leaf name = with_rule (file_leaf name) (file_rule (codes "script"))
 
+-- an option with a value that this parser reads: --ID N
+abbrev pub parsed_rule : Text → ValueParser → Rule
+parsed_rule id range = record (new_rule id) { long = Some id; value_names = 1; parser = Some range }
+
+-- a number from one to another: --ID N
+abbrev pub bounded_rule : Text → ℕ → ℕ → Rule
+bounded_rule id least most = parsed_rule id (parsers.Signed (pos least) (pos most))
+
+-- the same, with a default
+abbrev pub count_rule : Text → ℕ → ℕ → Text → Rule
+count_rule id least most default = record (bounded_rule id least most) { defaults = default ∷ [] }
+
+-- a text: --ID TEXT
+abbrev pub text_rule : Text → Rule
+text_rule id = record (new_rule id) { long = Some id; value_names = 1; action = Some Set }
+
 -- the number of workers: -w N or --workers N, from 1 to 16; 4 by default
 abbrev pub workers_rule : Rule
-workers_rule = record (new_rule (codes "workers")) {
-  long = Some (codes "workers");
-  short = Some 119;
-  value_names = 1;
-  defaults = codes "4" ∷ [];
-  parser = Some (parsers.Signed (pos 1) (pos 16));
-}
+workers_rule = record (count_rule (codes "workers") 1 16 (codes "4")) { short = Some 119 }
 
 -- a subcommand of a plan's file and a number of workers
 abbrev pub workers_leaf : Text → App
@@ -34,12 +44,7 @@ workers_leaf name = with_rule (file_leaf name) workers_rule
 
 -- the file that the printed text goes to: -o FILE or --output FILE
 abbrev pub output_rule : Rule
-output_rule = record (new_rule (codes "output")) {
-  long = Some (codes "output");
-  short = Some 111;
-  value_names = 1;
-  action = Some Set;
-}
+output_rule = record (text_rule (codes "output")) { short = Some 111 }
 
 -- a subcommand of a plan, a script and a number of workers
 abbrev pub fleet_leaf : Text → App
@@ -53,10 +58,6 @@ other_file_rule id = record (new_rule id) { action = Some Set }
 pub record IsArg (r : Rule) (a : Arg) : Type 0 where
   pub rule : rule_of a ≡ r
   pub local : a.global ≡ false
-
--- an option with a value that this parser reads: --ID N
-abbrev pub parsed_rule : Text → ValueParser → Rule
-parsed_rule id range = record (new_rule id) { long = Some id; value_names = 1; parser = Some range }
 
 -- a subcommand before it is added
 pub record IsLeaf (a : App) (c : Command) : Type 0 where
@@ -83,25 +84,17 @@ search_leaf name = with_options (workers_leaf name)
 abbrev pub json_leaf : Text → App
 json_leaf name = with_rule (with_rule (file_leaf name) (other_file_rule (codes "script"))) (flag_rule (codes "json"))
 
--- a number from 0 to this one: --ID N
-abbrev pub number_rule : Text → ℕ → Rule
-number_rule id most = record (new_rule id) {
-  long = Some id;
-  value_names = 1;
-  parser = Some (parsers.Signed (pos 0) (pos most));
-}
-
 -- a member's number, from 0 to 63, which must be given
 abbrev pub member_rule : Text → Rule
-member_rule id = record (number_rule id 63) { required = true }
+member_rule id = record (bounded_rule id 0 63) { required = true }
 
 -- the number of a group: -g N or --group N, from 0 to 15; 0 by default
 abbrev pub group_rule : Rule
-group_rule = record (number_rule (codes "group") 15) { short = Some 103; defaults = codes "0" ∷ [] }
+group_rule = record (count_rule (codes "group") 0 15 (codes "0")) { short = Some 103 }
 
 -- the number of a configuration: -c N or --configuration N, from 0 to 63
 abbrev pub configuration_rule : Rule
-configuration_rule = record (number_rule (codes "configuration") 63) { short = Some 99 }
+configuration_rule = record (bounded_rule (codes "configuration") 0 63) { short = Some 99 }
 
 -- a subcommand of a plan's file, a number of workers and the options of a replacement
 abbrev pub members_leaf : Text → App
@@ -122,15 +115,6 @@ target_rule = record configuration_rule { required = true }
 abbrev pub steps_leaf : Text → App
 steps_leaf name = with_rule (with_rule (file_leaf name) group_rule) target_rule
 
--- a number from one to another, with a default: --ID N
-abbrev pub count_rule : Text → ℕ → ℕ → Text → Rule
-count_rule id least most default = record (new_rule id) {
-  long = Some id;
-  value_names = 1;
-  defaults = default ∷ [];
-  parser = Some (parsers.Signed (pos least) (pos most));
-}
-
 -- a subcommand of a plan's file, the first seed and the number of runs
 abbrev pub runs_leaf : Text → App
 runs_leaf name = with_rule (with_rule (file_leaf name) (count_rule (codes "seed") 0 4294967295 (codes "1")))
@@ -139,18 +123,6 @@ runs_leaf name = with_rule (with_rule (file_leaf name) (count_rule (codes "seed"
 -- the same, and what happens in the runs
 abbrev pub simulate_leaf : Text → App
 simulate_leaf name = with_rule (with_rule (runs_leaf name) (flag_rule (codes "crash"))) (flag_rule (codes "replace"))
-
--- a text: --ID TEXT
-abbrev pub text_rule : Text → Rule
-text_rule id = record (new_rule id) { long = Some id; value_names = 1; action = Some Set }
-
--- a number from one to another: --ID N
-abbrev pub bounded_rule : Text → ℕ → ℕ → Rule
-bounded_rule id least most = record (new_rule id) {
-  long = Some id;
-  value_names = 1;
-  parser = Some (parsers.Signed (pos least) (pos most));
-}
 
 -- the members of a new plan
 abbrev pub zones_leaf : Text → App
@@ -184,30 +156,10 @@ new_leaf name =
 abbrev pub draw_leaf : Text → App
 draw_leaf name = with_rule (with_rule (file_leaf name) (other_file_rule (codes "script"))) output_rule
 
--- the program with its first two subcommands, with its third, its fourth, and so on
-abbrev pub with_run : App
-with_run = with_subcommand (with_subcommand program (file_leaf (codes "check")).top) (script_leaf (codes "run")).top
-
-abbrev pub with_fleet : App
-with_fleet = with_subcommand with_run (fleet_leaf (codes "fleet")).top
-
-abbrev pub with_search : App
-with_search = with_subcommand with_fleet (search_leaf (codes "search")).top
-
-abbrev pub with_explain : App
-with_explain = with_subcommand with_search (json_leaf (codes "explain")).top
-
-abbrev pub with_replace : App
-with_replace = with_subcommand with_explain (replace_leaf (codes "replace")).top
-
-abbrev pub with_steps : App
-with_steps = with_subcommand with_replace (steps_leaf (codes "steps")).top
-
-abbrev pub with_simulate : App
-with_simulate = with_subcommand with_steps (simulate_leaf (codes "simulate")).top
-
-abbrev pub with_new : App
-with_new = with_subcommand with_simulate (new_leaf (codes "new")).top
+-- the program with these subcommands
+abbrev pub with_each : App → List App → App
+with_each app [] = app
+with_each app (leaf ∷ later) = with_each (with_subcommand app leaf.top) later
 
 -- check FILE, run PLAN SCRIPT, fleet PLAN SCRIPT -w N, search FILE -w N, explain FILE SCRIPT --json, whose script may
 -- be left out, replace FILE -w N --out N --in N -g N -c N --tail --direct, steps FILE -g N -c N, simulate FILE --seed N
@@ -215,4 +167,7 @@ with_new = with_subcommand with_simulate (new_leaf (codes "new")).top
 -- --write N --groups N --born N --lal N -w N, draw FILE SCRIPT, whose script may be left out; and --pretty of search,
 -- replace and new, -o FILE of these and of draw
 abbrev pub tool : App
-tool = with_subcommand with_new (draw_leaf (codes "draw")).top
+tool = with_each program (file_leaf (codes "check") ∷ script_leaf (codes "run") ∷ fleet_leaf (codes "fleet")
+    ∷ search_leaf (codes "search") ∷ json_leaf (codes "explain") ∷ replace_leaf (codes "replace")
+    ∷ steps_leaf (codes "steps") ∷ simulate_leaf (codes "simulate") ∷ new_leaf (codes "new") ∷ draw_leaf (codes "draw")
+    ∷ [])

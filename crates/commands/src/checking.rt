@@ -12,11 +12,11 @@ ghost use Rattle.commands.specs.declared.reply.Stop.TheVariants.{NoMemory};
 use crate::fallible::FallibleRead;
 use crate::files::Source;
 use crate::inputs::checked;
-use crate::leaking::leak;
 use crate::reply::{Reply, Stop};
 use crate::run_text::checked_line;
 use plan::CheckedPlan;
 use std::alloc::Global;
+use std::mem::forget;
 
 /// Returns the answer to the check of a plan without a fault.
 fn plan_reported(alloc: Global, plan: &CheckedPlan) -> Result<Reply, Stop>
@@ -39,7 +39,7 @@ pub fn check<P: FallibleRead>(
     match checked(alloc, name, plan) {
         Ok(plan) => {
             let reported = plan_reported(alloc, &plan);
-            leak(plan);
+            forget(plan);
             reported
         }
         Err(stop) => Err(stop),

@@ -17,7 +17,6 @@ use crate::fallible::FallibleRead;
 use crate::fault_query::{explain_number, number_in};
 use crate::files::Source;
 use crate::inputs::{checked_plan, contents, plan_in};
-use crate::leaking::leak;
 use crate::names::shown_name;
 use crate::reply::{Reply, Stop};
 use crate::reporting::reported_text;
@@ -25,6 +24,7 @@ use crate::run_text::checked_line;
 use explain::{place_lines, warning_lines};
 use plan::{Plan, PlanFault};
 use std::alloc::Global;
+use std::mem::forget;
 
 /// Returns the warnings about a plan's text, and the plan in words, if it has claims: its parents and fresh members
 /// have no fault.
@@ -52,7 +52,7 @@ fn explained_plan(alloc: Global, text: &[u8], plan: Plan) -> Result<Reply, Stop>
     match checked_plan(alloc, plan) {
         Ok(plan) => {
             let line = checked_line(alloc, &plan)?;
-            leak(plan);
+            forget(plan);
             lines.push_str(line.as_str())?;
             Ok(Reply::printed(alloc, 0, lines.into_bytes()))
         }

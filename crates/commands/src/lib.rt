@@ -14,7 +14,6 @@ mod help;
 mod inputs;
 mod job_file;
 mod layout;
-mod leaking;
 mod making;
 mod names;
 mod options;

@@ -75,7 +75,8 @@ pub fn answer<H: Threads + Wait + Sync, P: FallibleRead, S: FallibleRead, G: Pro
 /// Performs a job on the contents of its files, prints its answer, and returns the exit status: 0 for yes, 1 for a
 /// refusal, 2 for an input that can't be used (printed to `err` alone) or an output that can't be written. Only `run`,
 /// `fleet` and an `explain` or a `draw` with a script read the script; `new` reads no file; only `fleet`, `search`,
-/// `replace` and `new` start threads. `simulate` shows its progress. It may leak memory to the end of the process.
+/// `replace` and `new` start threads. `simulate` shows its progress. Plans and outcomes are leaked: the end of the
+/// process frees all memory at once.
 pub fn perform<
     H: Threads + Wait + Sync,
     P: FallibleRead,

@@ -8,12 +8,12 @@ ghost use Rattle.commands.specs.Stops.{StopsBy, answer_of, said};
 ghost use Rattle.commands.specs.declared.reply.Stop.TheVariants.{NoMemory};
 
 use crate::inputs::{checked_plan, plan_in};
-use crate::leaking::leak;
 use crate::reply::{Reply, Stop};
 use crate::run_text::checked_line;
 use explain::{ConfigurationFacts, json_report, known_configurations};
 use plan::{Plan, PlanFault};
 use std::alloc::Global;
+use std::mem::forget;
 
 /// Returns a report with this value, beside the status and the line of a check.
 pub(crate) fn report_of(alloc: Global, value: String, status: u8, line: &str) -> Result<Reply, Stop>
@@ -56,7 +56,7 @@ fn reported_plan(alloc: Global, text: &[u8], plan: Plan) -> Result<Reply, Stop>
     match checked_plan(alloc, plan) {
         Ok(plan) => {
             let line = checked_line(alloc, &plan)?;
-            leak(plan);
+            forget(plan);
             made(alloc, text, known, 0, line.as_str())
         }
         Err(stop) => {

@@ -13,7 +13,6 @@ use crate::Job;
 use crate::fallible::FallibleRead;
 use crate::files::Source;
 use crate::inputs::{checked, contents};
-use crate::leaking::leak;
 use crate::names::shown_name;
 use crate::reply::{Reply, Stop};
 use crate::reporting::{report_of, status_of};
@@ -26,6 +25,7 @@ use drivers::{Script, ScriptFault, read_script};
 use explain::bad_line;
 use plan::{CheckedPlan, PlanFault};
 use std::alloc::Global;
+use std::mem::forget;
 use std::sync::Arc;
 use world::run_orders;
 
@@ -45,7 +45,7 @@ fn explained_run(
     };
     let (lines, results) = (steps.as_slice(), outcome.results.as_slice());
     let membership = steps_facts(alloc, &plan, lines, events, results)?;
-    leak(plan);
+    forget(plan);
     let ends = end_lines(alloc, &outcome)?;
     let status = run_status(&outcome);
     let facts = run_facts(alloc, steps.as_slice(), outcome)?;

@@ -8,6 +8,7 @@ use crate::run_text::next_lsn;
 use drivers::Step;
 use serde::Serialize;
 use std::alloc::{AllocError, Global};
+use std::collections::BTreeMap;
 use volume_model::Fault;
 use world::{NodeState, Outcome, RecoveryOutcome, WriterOutcome};
 
@@ -123,65 +124,27 @@ impl ClientFacts {
     }
 }
 
-/// The clients of a run that aren't listed yet, each list in growing volume epoch.
-#[derive(Clone, Copy)]
-struct ClientLists<'a> {
-    writers: &'a [WriterOutcome],
-    finds: &'a [RecoveryOutcome],
-    readers: &'a [u32],
-}
-
-impl ClientLists<'_> {
-    /// Returns the least volume epoch in the lists.
-    fn least_volume(&self) -> Option<u32> {
-        let writer = self.writers.first().map(|writer| writer.volume);
-        let find = self.finds.first().map(|find| find.volume);
-        let reader = self.readers.first().copied();
-        [writer, find, reader].into_iter().flatten().min()
-    }
-
-    /// Takes the client with a volume epoch from the lists.
-    fn take_client(&mut self, volume: u32) -> ClientFacts {
-        let mut facts = ClientFacts::new(volume);
-        if let Some((find, later)) = self.finds.split_first() {
-            if find.volume == volume {
-                facts.add_cut(find);
-                self.finds = later;
-            }
-        }
-        if let Some((writer, later)) = self.writers.split_first() {
-            if writer.volume == volume {
-                facts.add_log(writer);
-                self.writers = later;
-            }
-        }
-        if let Some((reader, later)) = self.readers.split_first() {
-            if *reader == volume {
-                self.readers = later;
-            }
-        }
-        facts
-    }
-}
-
-/// Returns the clients of a run that a View has reached.
+/// Returns the clients of a run that a View has reached, in growing volume epoch.
 fn clients_of(alloc: Global, outcome: &Outcome) -> Result<Vec<ClientFacts>, AllocError> {
-    let readers = outcome.readers(alloc)?;
-    let mut lists = ClientLists {
-        writers: outcome.writers.as_slice(),
-        finds: outcome.finds.as_slice(),
-        readers: readers.as_slice(),
-    };
-    let most = lists.writers.len().saturating_add(lists.finds.len());
-    let most = most.saturating_add(lists.readers.len());
-    let mut clients = Vec::new(alloc);
-    for _ in 0..most {
-        let Some(volume) = lists.least_volume() else {
-            return Ok(clients);
-        };
-        clients.push(lists.take_client(volume))?;
+    let mut clients = BTreeMap::new(alloc);
+    for volume in outcome.readers(alloc)? {
+        let _ = clients.insert(volume, ClientFacts::new(volume))?;
     }
-    Ok(clients)
+    for find in &outcome.finds {
+        let facts = clients.entry(find.volume)?;
+        facts.or_insert(ClientFacts::new(find.volume)).add_cut(find);
+    }
+    for writer in &outcome.writers {
+        let facts = clients.entry(writer.volume)?;
+        facts
+            .or_insert(ClientFacts::new(writer.volume))
+            .add_log(writer);
+    }
+    let mut list = Vec::with_capacity(alloc, clients.len())?;
+    for facts in clients.values() {
+        list.push(*facts)?;
+    }
+    Ok(list)
 }
 
 /// Returns what is known of a run, whose script has these steps.

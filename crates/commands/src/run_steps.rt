@@ -20,19 +20,22 @@ const GROUPS: usize = 16;
 /// The most members of a group.
 const SLOTS: usize = MEMBERS as usize;
 
-/// An event that may change which members can be read.
+/// An event that may change which members of a group can be read.
 #[derive(Clone, Copy)]
-pub enum StepEvent {
-    /// The next group joins.
-    Grow,
-    /// A group advances to a configuration.
-    Advance(u8, u8),
-    /// A group's member becomes whole.
-    Hydrate(u8, u8),
-    /// A group's member takes the first message that the event with this index made.
-    Deliver(u8, u8, u32),
-    /// Another event, or one that was refused.
-    Other,
+pub struct StepEvent {
+    group: u8,
+    change: Change,
+}
+
+/// What an event does to its group.
+#[derive(Clone, Copy)]
+enum Change {
+    /// The group advances to a configuration.
+    Advance(u8),
+    /// A member becomes whole.
+    Hydrate(u8),
+    /// A member takes the first message that the event with this index made.
+    Deliver(u8, u32),
 }
 
 /// An advance that was made.
@@ -101,54 +104,58 @@ struct Reached {
 
 /// A group in a run.
 #[derive(Drop)]
-struct GroupSteps {
+struct GroupSteps<'p> {
+    plan: &'p CheckedPlan,
+    /// Its number.
+    group: u8,
     /// The configurations that it has had, in order.
     path: Vec<Reached>,
     /// The index of the configuration that each member has learned of last.
     places: [usize; SLOTS],
     /// The whole members.
     whole: MemberSet,
+    /// The line since which no later recovery can read it.
+    lost: Option<u32>,
 }
 
-/// Returns what an order may change.
-fn step_event(order: &Order) -> StepEvent {
-    match order {
-        Order::DeliverFrom {
+/// Returns what an event may change.
+fn changes_of(event: &Event) -> Option<StepEvent> {
+    match event {
+        Event::Advance {
             group,
-            member,
-            event,
-            place: 1,
-        } => StepEvent::Deliver(*group, *member, *event),
-        Order::Event(event) => match &**event {
-            Event::Grow => StepEvent::Grow,
-            Event::Advance {
-                group,
-                configuration,
-            } => match u8::try_from(*configuration) {
-                Ok(configuration) => StepEvent::Advance(*group, configuration),
-                Err(_) => StepEvent::Other,
-            },
-            Event::Hydrate { group, member } => StepEvent::Hydrate(*group, *member),
-            _ => StepEvent::Other,
-        },
-        _ => StepEvent::Other,
+            configuration,
+        } => Some(StepEvent {
+            group: *group,
+            change: Change::Advance(u8::try_from(*configuration).ok()?),
+        }),
+        Event::Hydrate { group, member } => Some(StepEvent {
+            group: *group,
+            change: Change::Hydrate(*member),
+        }),
+        _ => None,
     }
 }
 
-/// Returns what the orders of a script may change, an event for each order; none if no group advances.
+/// Returns what the orders of a script may change: for each order its event, if it has one.
 ///
 /// # Errors
 /// `AllocError` if memory runs out.
-pub fn step_events(alloc: Global, orders: &[Order]) -> Result<Vec<StepEvent>, AllocError> {
-    let mut events = Vec::new(alloc);
+pub fn step_events(alloc: Global, orders: &[Order]) -> Result<Vec<Option<StepEvent>>, AllocError> {
+    let mut events = Vec::with_capacity(alloc, orders.len())?;
     for order in orders {
-        events.push(step_event(order))?;
-    }
-    if !events
-        .iter()
-        .any(|event| matches!(event, StepEvent::Advance(..)))
-    {
-        events.clear();
+        events.push(match order {
+            Order::DeliverFrom {
+                group,
+                member,
+                event,
+                place: 1,
+            } => Some(StepEvent {
+                group: *group,
+                change: Change::Deliver(*member, *event),
+            }),
+            Order::Event(event) => changes_of(event),
+            _ => None,
+        })?;
     }
     Ok(events)
 }
@@ -163,18 +170,35 @@ impl Reached {
     }
 }
 
-impl GroupSteps {
+impl<'p> GroupSteps<'p> {
     /// Returns a group at its root.
-    fn new(alloc: Global, plan: &CheckedPlan, group: u8) -> Result<GroupSteps, AllocError> {
+    fn new(alloc: Global, plan: &'p CheckedPlan, group: u8) -> Result<GroupSteps<'p>, AllocError> {
         let whole = match plan.configuration(group, 0) {
             Some(root) => root.members,
             None => MemberSet::empty(),
         };
         Ok(GroupSteps {
+            plan,
+            group,
             path: vec![in alloc; Reached::new(0)]?,
             places: [0; SLOTS],
             whole,
+            lost: None,
         })
+    }
+
+    /// Returns the group's configuration.
+    fn last(&self) -> Option<&'p Configuration> {
+        let reached = self.path.last()?;
+        self.plan.configuration(self.group, reached.configuration)
+    }
+
+    /// Returns whether the whole members satisfy the read expression of the group's configuration.
+    fn is_ready(&self) -> bool {
+        match self.last() {
+            Some(configuration) => holds(&configuration.read, self.whole),
+            None => false,
+        }
     }
 
     /// Returns the members of a set that haven't passed a place.
@@ -189,11 +213,14 @@ impl GroupSteps {
     }
 
     /// Returns the whole members and those that can still become whole.
-    fn can_be_whole(&self, plan: &CheckedPlan, group: u8) -> MemberSet {
+    fn can_be_whole(&self) -> MemberSet {
         let mut whole = self.whole;
         let mut hydrated = MemberSet::empty();
         for (place, reached) in self.path.iter().enumerate() {
-            if let Some(configuration) = plan.configuration(group, reached.configuration) {
+            if let Some(configuration) = self
+                .plan
+                .configuration(self.group, reached.configuration)
+            {
                 let sources = self.up_to(self.whole, place).union(hydrated);
                 if holds(&configuration.read, sources.union(reached.copied)) {
                     let fresh = self.up_to(configuration.members.difference(whole), place);
@@ -206,35 +233,38 @@ impl GroupSteps {
     }
 
     /// Returns whether a later recovery can read the group.
-    fn can_be_read(&self, plan: &CheckedPlan, group: u8) -> bool {
-        match self.last(plan, group) {
-            Some(configuration) => holds(&configuration.read, self.can_be_whole(plan, group)),
+    fn can_be_read(&self) -> bool {
+        match self.last() {
+            Some(configuration) => holds(&configuration.read, self.can_be_whole()),
             None => true,
         }
     }
 
-    /// Returns the group's configuration.
-    fn last<'p>(&self, plan: &'p CheckedPlan, group: u8) -> Option<&'p Configuration> {
-        let reached = self.path.last()?;
-        plan.configuration(group, reached.configuration)
+    /// Notes the line of a step since which no later recovery can read the group. No event gives a group back.
+    fn note_loss(&mut self, line: u32) {
+        if self.lost.is_none() && !self.can_be_read() {
+            self.lost = Some(line);
+        }
     }
 
-    /// Lets a member take a message that concerns a step. Returns what it answers.
-    fn deliver(&mut self, member: u8, notice: Notice) -> Notice {
+    /// Lets a member take a message. Returns what it answers.
+    fn deliver(&mut self, member: u8, notice: Notice, line: u32) -> Notice {
+        if member >= MEMBERS {
+            return Notice::Other;
+        }
         match notice {
             Notice::StepTo { place } => {
-                if let Some(own) = self.places.get_mut(usize::from(member)) {
-                    *own = place;
+                if self.places[usize::from(member)] != place {
+                    self.places[usize::from(member)] = place;
+                    self.note_loss(line);
                 }
-                if member < MEMBERS && !self.whole.contains(member) {
+                if !self.whole.contains(member) {
                     return Notice::CopyAsk { place };
                 }
             }
             Notice::CopyAsk { place } => {
                 if let Some(reached) = self.path.get_mut(place) {
-                    if member < MEMBERS {
-                        reached.copied = reached.copied.with(member);
-                    }
+                    reached.copied = reached.copied.with(member);
                 }
             }
             Notice::Other => {}
@@ -246,13 +276,12 @@ impl GroupSteps {
 /// The groups in a run.
 #[derive(Drop)]
 struct StepReplay<'p> {
-    plan: &'p CheckedPlan,
     /// The groups of the plan.
-    groups: Vec<GroupSteps>,
-    /// The number of groups that have joined.
-    joined: u8,
+    groups: Vec<GroupSteps<'p>>,
     /// What the first message of each event says.
     notices: Vec<Notice>,
+    /// The advances so far.
+    advances: Vec<AdvanceFacts>,
 }
 
 impl<'p> StepReplay<'p> {
@@ -263,126 +292,58 @@ impl<'p> StepReplay<'p> {
             groups.push(GroupSteps::new(alloc, plan, group)?)?;
         }
         Ok(StepReplay {
-            plan,
             groups,
-            joined: plan.born(),
             notices: Vec::new(alloc),
+            advances: Vec::new(alloc),
         })
     }
 
-    /// Returns the groups after these events.
-    fn after(
-        alloc: Global,
-        plan: &'p CheckedPlan,
-        events: &[StepEvent],
-    ) -> Result<StepReplay<'p>, AllocError> {
-        let mut replay = StepReplay::new(alloc, plan)?;
-        for event in events {
-            replay.take(*event)?;
-        }
-        Ok(replay)
-    }
-
-    /// Returns whether the whole members of a group satisfy a configuration's read expression.
-    fn may_advance(&self, group: u8, configuration: u8) -> bool {
-        let Some(steps) = self.groups.get(usize::from(group)) else {
-            return false;
+    /// Makes the event of a line. Returns what its first message says.
+    fn apply(&mut self, event: StepEvent, line: u32) -> Result<Notice, AllocError> {
+        let StepReplay {
+            groups,
+            notices,
+            advances,
+        } = self;
+        let StepEvent { group, change } = event;
+        let Some(steps) = groups.get_mut(usize::from(group)) else {
+            return Ok(Notice::Other);
         };
-        match self.plan.configuration(group, configuration) {
-            Some(configuration) => holds(&configuration.read, steps.whole),
-            None => false,
+        match change {
+            Change::Advance(configuration) => {
+                let place = steps.path.len();
+                steps.path.push(Reached::new(configuration))?;
+                advances.push(AdvanceFacts {
+                    line,
+                    group,
+                    configuration,
+                    waited: steps.is_ready(),
+                })?;
+                steps.note_loss(line);
+                Ok(Notice::StepTo { place })
+            }
+            Change::Hydrate(member) => {
+                if member < MEMBERS {
+                    steps.whole = steps.whole.with(member);
+                }
+                Ok(Notice::Other)
+            }
+            Change::Deliver(member, event) => {
+                let notice = notices.get(event as usize).copied();
+                Ok(steps.deliver(member, notice.unwrap_or(Notice::Other), line))
+            }
         }
     }
 
-    /// Returns whether no later recovery can read a group that has joined.
-    fn has_lost(&self, group: u8) -> bool {
-        match self.groups.get(usize::from(group)) {
-            Some(steps) => group < self.joined && !steps.can_be_read(self.plan, group),
-            None => false,
-        }
-    }
-
-    /// Makes an event. Returns what its first message says.
-    fn apply(&mut self, event: StepEvent) -> Result<Notice, AllocError> {
-        match event {
-            StepEvent::Grow => self.joined = self.joined.saturating_add(1),
-            StepEvent::Advance(group, configuration) => {
-                if let Some(steps) = self.groups.get_mut(usize::from(group)) {
-                    let place = steps.path.len();
-                    steps.path.push(Reached::new(configuration))?;
-                    return Ok(Notice::StepTo { place });
-                }
-            }
-            StepEvent::Hydrate(group, member) => {
-                if let Some(steps) = self.groups.get_mut(usize::from(group)) {
-                    if member < MEMBERS {
-                        steps.whole = steps.whole.with(member);
-                    }
-                }
-            }
-            StepEvent::Deliver(group, member, event) => {
-                let notice = self.notices.get(event as usize).copied();
-                if let Some(steps) = self.groups.get_mut(usize::from(group)) {
-                    return Ok(steps.deliver(member, notice.unwrap_or(Notice::Other)));
-                }
-            }
-            StepEvent::Other => {}
-        }
-        Ok(Notice::Other)
-    }
-
-    /// Makes the next event.
-    fn take(&mut self, event: StepEvent) -> Result<(), AllocError> {
-        let notice = self.apply(event)?;
+    /// Makes the event of a line, if it has one.
+    fn take(&mut self, event: Option<StepEvent>, line: u32) -> Result<(), AllocError> {
+        let notice = match event {
+            Some(event) => self.apply(event, line)?,
+            None => Notice::Other,
+        };
         self.notices.push(notice)?;
         Ok(())
     }
-}
-
-/// Returns the advances among the events, and the groups at the end.
-fn advances_of<'p>(
-    alloc: Global,
-    plan: &'p CheckedPlan,
-    events: &[StepEvent],
-    lines: &[u32],
-) -> Result<(Vec<AdvanceFacts>, StepReplay<'p>), AllocError> {
-    let mut replay = StepReplay::new(alloc, plan)?;
-    let mut advances = Vec::new(alloc);
-    for (event, line) in events.iter().zip(lines) {
-        if let StepEvent::Advance(group, configuration) = *event {
-            advances.push(AdvanceFacts {
-                line: *line,
-                group,
-                configuration,
-                waited: replay.may_advance(group, configuration),
-            })?;
-        }
-        replay.take(*event)?;
-    }
-    Ok((advances, replay))
-}
-
-/// Returns how many events lead to the loss of a group that all of them have lost. No event gives a group back.
-fn events_to_loss(
-    alloc: Global,
-    plan: &CheckedPlan,
-    events: &[StepEvent],
-    group: u8,
-) -> Result<usize, AllocError> {
-    let (mut kept, mut lost) = (0usize, events.len());
-    for _ in 0..usize::BITS {
-        if lost.saturating_sub(kept) <= 1 {
-            break;
-        }
-        let half = kept.saturating_add(lost.saturating_sub(kept) / 2);
-        let (first, _) = events.split_at(half.min(events.len()));
-        if StepReplay::after(alloc, plan, first)?.has_lost(group) {
-            lost = half;
-        } else {
-            kept = half;
-        }
-    }
-    Ok(lost)
 }
 
 /// Returns what the steps of a run have led to. `steps` are the script's lines, `events` what its orders may change,
@@ -394,24 +355,30 @@ pub fn steps_facts(
     alloc: Global,
     plan: &CheckedPlan,
     steps: &[Step],
-    mut events: Vec<StepEvent>,
+    mut events: Vec<Option<StepEvent>>,
     results: &[Result<u32, Fault>],
 ) -> Result<StepsFacts, AllocError> {
     for (event, result) in events.iter_mut().zip(results) {
         if result.is_err() {
-            *event = StepEvent::Other;
+            *event = None;
         }
     }
-    let events = events.as_slice();
     let lines = event_lines(alloc, steps)?;
-    let (advances, replay) = advances_of(alloc, plan, events, lines.as_slice())?;
+    let mut replay = StepReplay::new(alloc, plan)?;
+    for (event, line) in events.iter().zip(lines.as_slice()) {
+        replay.take(*event, *line)?;
+    }
     let mut lost = Vec::new(alloc);
-    for group in 0..plan.groups() {
-        if replay.has_lost(group) {
-            let count = events_to_loss(alloc, plan, events, group)?;
-            let line = lines.get(count.saturating_sub(1)).copied().unwrap_or(0);
-            lost.push(LostGroup { group, line })?;
+    for steps in &replay.groups {
+        if let Some(line) = steps.lost {
+            lost.push(LostGroup {
+                group: steps.group,
+                line,
+            })?;
         }
     }
-    Ok(StepsFacts { advances, lost })
+    Ok(StepsFacts {
+        advances: replay.advances,
+        lost,
+    })
 }

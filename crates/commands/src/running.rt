@@ -14,13 +14,13 @@ use crate::Job;
 use crate::fallible::FallibleRead;
 use crate::files::Source;
 use crate::inputs::{PlanAndScript, plan_and_script};
-use crate::leaking::leak;
 use crate::pictures::drawn_run;
 use crate::reply::{Reply, Stop};
 use crate::run_text::{fleet_lines, run_lines, run_status};
 use drivers::{Script, drive};
 use plan::CheckedPlan;
 use std::alloc::Global;
+use std::mem::forget;
 use std::sync::{Arc, Wait};
 use std::thread::Threads;
 use world::run_orders;
@@ -37,9 +37,9 @@ fn ran(alloc: Global, both: PlanAndScript) -> Result<Reply, Stop>
         Ok(outcome) => {
             let text = run_lines(alloc, steps.as_slice(), &outcome)?;
             let status = run_status(&outcome);
-            leak(outcome);
-            leak(steps);
-            leak(plan);
+            forget(outcome);
+            forget(steps);
+            forget(plan);
             Ok(Reply::printed(alloc, status, text.into_bytes()))
         }
         Err(_) => Err(Stop::NoMemory),
@@ -62,7 +62,7 @@ fn driven<H: Threads + Wait + Sync>(
     match drive(rt, alloc, plan, script, workers) {
         Ok(driven) => {
             let reported = fleet_lines(alloc, &driven)?;
-            leak(driven);
+            forget(driven);
             Ok(reported)
         }
         Err(_) => Err(Stop::NoMemory),
@@ -80,7 +80,8 @@ pub enum ScriptUse {
     Draw,
 }
 
-/// Returns the answer of `run`, `fleet`, or `draw` with a script: checks the plan, reads the whole script, then uses it.
+/// Returns the answer of `run`, `fleet`, or `draw` with a script: checks the plan, reads the whole script, then uses
+/// it.
 pub fn use_script<H: Threads + Wait + Sync, P: FallibleRead, S: FallibleRead>(
     rt: &H,
     alloc: Global,

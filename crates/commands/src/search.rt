@@ -16,27 +16,18 @@ use crate::Job;
 use crate::fallible::FallibleRead;
 use crate::files::Source;
 use crate::inputs::{contents, plan_of_tape, taped};
-use crate::leaking::leak;
 use crate::reply::{Reply, Stop};
-use cert_search::{Gate, keep_shortest, search_all};
+use cert_search::{NoGate, keep_shortest, search_all};
 use json::Scratch;
 use plan::{ClaimRef, PLAN_BYTES, Plan, TapedPlan, claim_name, lent_claims, shown_claims_certify};
 use refutation::Certificate;
 use std::alloc::{AllocError, Global};
+use std::mem::forget;
 use std::sync::Wait;
 use std::thread::Threads;
 
 /// The budget of a claim: the most nodes that are tried.
 const BUDGET: u64 = 100_000;
-
-/// A gate that does nothing.
-struct NoGate;
-
-impl Gate for NoGate {
-    fn started(&self, _claim: usize) {}
-
-    fn finished(&self, _claim: usize) {}
-}
 
 /// Returns the claims of a plan.
 fn claims_of<'p>(alloc: Global, plan: &'p Plan) -> Result<Vec<ClaimRef<'p>>, Stop>
@@ -206,9 +197,9 @@ fn searched_tape<H: Threads + Wait + Sync>(
     let line = fitting_line(alloc, text, &mut certificates)?;
     let unfound = unfound(alloc, &claims, &certificates)?;
     let status = u8::from(has_gap(&certificates));
-    leak(certificates);
-    leak(claims);
-    leak(plan);
+    forget(certificates);
+    forget(claims);
+    forget(plan);
     Ok(Reply {
         status,
         out: line,
