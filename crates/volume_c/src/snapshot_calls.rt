@@ -63,8 +63,8 @@ fn save_held(alloc: Global, held: &mut Held, out: &mut Handle) -> u8
 
 /// Takes a snapshot of a segment, and drops the pieces of copies and installs that are under way, as a restart does.
 /// `out` must be empty. On success it holds the snapshot, whose bytes `volume_snapshot_read` hands out, and the
-/// segment's handle holds exactly what the bytes are resumed to. A resumed segment that takes the messages logged since,
-/// in order, reaches the same state.
+/// segment's handle holds exactly what the bytes are resumed to. A resumed segment that takes the messages logged
+/// since, in order, reaches the same state.
 ///
 /// The snapshot shares the segment's records: it takes some 8 bytes for each of them, and stays as it is whatever the
 /// segment does meanwhile. It may be read in another thread.
