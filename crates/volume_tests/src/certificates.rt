@@ -1,7 +1,7 @@
 //! Tests of certificates outside a search, and of what is written of a plan.
 
 use crate::thread_plans::plan_of;
-use cert_search::{Gate, keep_shortest, search_all, search_one};
+use cert_search::{NoGate, keep_shortest, search_all, search_one};
 use plan::{PLAN_BYTES, Plan, PlanFault, claims, read_plan, write_plan};
 use quorum_checker::check;
 use quorum_expr::{Lists, MemberSet, holds, read_expr, valid};
@@ -90,15 +90,6 @@ fn plans_are_written(rt: HostRuntime) {
         [becomes(alloc, PLAIN), becomes(alloc, GROWING)],
         [true, true]
     );
-}
-
-/// A gate that does nothing.
-struct NoGate;
-
-impl Gate for NoGate {
-    fn started(&self, _claim: usize) {}
-
-    fn finished(&self, _claim: usize) {}
 }
 
 /// Returns which of the four certificates are kept if there is this much room.
