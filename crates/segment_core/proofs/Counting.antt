@@ -1,8 +1,11 @@
 -- The records with a chain down to 0, collected in order.
-use Rattle.std.proofs.Common.{◌≡◌, ℕ, ◌<◌, ◌≤◌, ◌⊎◌, true, List, [], ◌∷◌, ◌++◌, refl, sym, ap, ◌∙◌, subst, inl, inr, arith}
-use Rattle.volume_model.specs.Common.{IsIn, Redo, spelling, numbers_before, scl, IsGrounded, IsGroundedNumber, GroupLinksFall, from_none, from_one}
+use Rattle.std.proofs.Common.{◌≡◌, ℕ, ◌<◌, ◌≤◌, ◌⊎◌, true, false, List, [], ◌∷◌, ◌++◌, Option, Some, None, is_some, option_map, refl, sym, ap, ◌∙◌, subst, inl, inr, arith, true≢false}
+use Rattle.std.specs.Borrow.{Bor}
+use Rattle.volume_model.specs.Common.{IsIn, Redo, spelling, numbers_before, record_at, scl, IsGrounded, IsGroundedNumber, GroupLinksFall, from_none, from_one}
 use Rattle.volume_model.proofs.Basics.{IsIn-append, IsIn-append_left, IsIn-append_right}
-use Rattle.redo_record.specs.Common.{IsInOrder, ComesAfter}
+use Rattle.volume_model.proofs.Chains.{record_at-some, record_at-there}
+use Rattle.redo_record.specs.Common.{IsInOrder, ComesAfter, shared_redo}
+use Rattle.redo_record.specs.declared.shared_record.SharedRecord.{SharedRecord}
 use Rattle.redo_record.proofs.Before.{IsBefore}
 use Rattle.redo_record.proofs.Finding.{lsn-rises}
 use Rattle.redo_record.proofs.Places.{IsOrdered, ordered-from}
@@ -22,6 +25,22 @@ pub record IsCounted (all left grounded : List Redo) (point : ℕ) : Type 0 wher
 own : (records : List Redo) (r : Redo) → IsGrounded records r → IsIn r records
 own records t (from_none r i e) = i
 own records t (from_one r before i g e) = i
+
+-- a record links to 0, or to the one that is found by the number before it
+pub linked-found : (grounded : List Redo) (r : Redo) (n : ℕ) (found : Option (Bor SharedRecord)) → n ≡ r.prev_group → option_map (λ packet. shared_redo packet.now) found ≡ record_at grounded n → is_some found ≡ true → IsLinkedTo grounded r
+linked-found grounded r n None at same some = absurd (true≢false (sym some))
+linked-found grounded r n (Some packet) at same some = let (i, e) = record_at-some grounded n (shared_redo packet.now) (sym same) in inr (shared_redo packet.now, i, e ∙ at)
+
+pub linked-not : (grounded : List Redo) (r : Redo) (n : ℕ) (found : Option (Bor SharedRecord)) → n ≡ r.prev_group → option_map (λ packet. shared_redo packet.now) found ≡ record_at grounded n → is_some found ≡ false → (n ≡ 0 → ⊥) → IsLinkedTo grounded r → ⊥
+linked-not grounded r n found at same none some (inl z) = some (at ∙ z)
+linked-not grounded r n (Some packet) at same none some (inr p) = true≢false none
+linked-not grounded r n None at same none some (inr p) =
+    let (s, i, e) = p in
+    let (t, there) = record_at-there grounded s i in
+    none-some (record_at grounded s.lsn) t (same ∙ ap (record_at grounded) (at ∙ sym e)) there
+  where
+    none-some : (found : Option Redo) (s : Redo) → None ≡ found → found ≡ Some s → ⊥
+    none-some found s h e = cc
 
 -- nothing is read
 pub counted-none : (all : List Redo) → IsInOrder all → IsCounted all all [] 0

@@ -11,7 +11,6 @@ mod chains;
 mod complete_point;
 mod line;
 mod one_chain;
-mod page_index;
 mod pending_insert;
 mod prepared;
 mod records;

@@ -5,9 +5,9 @@ mod hydrating;
 mod paging;
 mod saving;
 
-ghost use Rattle.std.specs.Prelude.{◌≡◌, true, IfOk, ◌==◌, false, not, [], ◌∷◌, Ok, Err, IfErr, MatchResult, ◌≢◌};
+ghost use Rattle.std.specs.Prelude.{◌≡◌, true, IfOk, false, [], ◌∷◌, Ok, Err, IfErr, MatchResult, ◌≢◌};
 ghost use Rattle.std.specs.Arc.{arc_value};
-ghost use Rattle.volume_model.specs.Common.{is_named, Answers, AnswersAlways, AnswersAfterGrowth, AnswersNew, refuse_if, record_at, scl, NodeAnswer, gossip_of, installed, label_checks, lineage_epoch, offered, restarted, take_record, is_bad_piece};
+ghost use Rattle.volume_model.specs.Common.{is_named, Answers, AnswersAlways, AnswersAfterGrowth, AnswersNew, scl, NodeAnswer, installed, label_checks, offered, restarted, take_record, is_bad_piece};
 ghost use Rattle.plan.specs.Common.{checked_model};
 
 use crate::action::NodeAction;
@@ -55,7 +55,7 @@ pub struct Segment {
 }
 
 impl Segment {
-    ghost use Rattle.volume_model.specs.declared.fault.Fault.TheVariants.{NoMemory, NotAddressed, NotInstalled};
+    ghost use Rattle.volume_model.specs.declared.fault.Fault.TheVariants.{NoMemory};
     ghost use Rattle.redo_record.specs.Common.{shared_redo};
     ghost use Rattle.redo_record.specs.RecordSet.{records_of as set_records};
     ghost use Rattle.volume_model.specs.Message as model;
@@ -313,7 +313,7 @@ impl Segment {
             return Err(Fault::Full);
         }
         let pending_insert = self.held.prepare(alloc, place, packet)?;
-        let scl = self.held.records.point_with(&pending_insert);
+        let scl = pending_insert.chains.point();
         Ok(self.acknowledged(label, scl, Effect::Enter(pending_insert)))
     }
 
@@ -349,14 +349,20 @@ impl Segment {
         })
     }
 
-    /// Returns a record for the other nodes of the group.
-    fn gossip(&self, lsn: u64) -> Result<Carried<'_>, Fault>
+    /// Returns a record for the other nodes of the group; of several with this LSN, the first in the order of their
+    /// bytes. Allocates nothing.
+    ///
+    /// # Errors
+    /// `NotWhole` before the segment is whole, `NotInstalled` if its lineage isn't that of the volume epoch that it has
+    /// promised, `NoRecord` if it holds no such record.
+    pub fn offer(&self, lsn: u64) -> Result<Carried<'_>, Fault>
         ensures own { IfErr result (λ fault. fault ≢ NoMemory) }
-        ensures answers { AnswersAlways offered_step
-            (refuse_if (not ((node_of self.now).volume == lineage_epoch (node_of self.now))) NotInstalled
-            (gossip_of (segment_group self.now) (node_of self.now) (record_at (node_of self.now).contents.records lsn)))
+        ensures answers { AnswersAlways offered_step (offered (segment_group self.now) (node_of self.now) lsn)
             (node_of self.now) result (node_of self.now) }
     {
+        if !self.whole {
+            return Err(Fault::NotWhole);
+        }
         if self.volume != self.held.lineage.last_epoch() {
             return Err(Fault::NotInstalled);
         }
@@ -374,38 +380,6 @@ impl Segment {
         })
     }
 
-    /// Returns a record for the other nodes of the group; of several with this LSN, the first in the order of their
-    /// bytes. Allocates nothing.
-    ///
-    /// # Errors
-    /// `NotWhole` before the segment is whole, `NotInstalled` if its lineage isn't that of the volume epoch that it has
-    /// promised, `NoRecord` if it holds no such record.
-    pub fn offer(&self, lsn: u64) -> Result<Carried<'_>, Fault>
-        ensures own { IfErr result (λ fault. fault ≢ NoMemory) }
-        ensures answers { AnswersAlways offered_step (offered (segment_group self.now) (node_of self.now) lsn)
-            (node_of self.now) result (node_of self.now) }
-    {
-        if self.whole {
-            self.gossip(lsn)
-        } else {
-            Err(Fault::NotWhole)
-        }
-    }
-
-    /// Prepares the reaction to a `Write`.
-    #[inline(always)]
-    fn written(&mut self, alloc: Global, write: &Write) -> Result<Prepared, Fault>
-        ensures step { Prepares (message_of (Message.Write write.now)) self.old result }
-        ensures ready { IfOk result (λ prepared. CanTake self.new prepared.effect) }
-        ensures node { node_of self.new ≡ node_of self.old }
-        ensures actor { IsSameActor self.old self.new }
-    {
-        if !write.is_for(self.group) {
-            return Err(Fault::NotAddressed);
-        }
-        self.prepare_record(alloc, write.label, &write.packet)
-    }
-
     /// The general case of [`Segment::prepare`], out of line so that the write path keeps a small stack frame.
     #[inline(never)]
     fn prepare_any(&mut self, alloc: Global, message: &Message) -> Result<Prepared, Fault>
@@ -417,7 +391,7 @@ impl Segment {
         match message {
             Message::Fence(fence) => self.fenced(alloc, fence),
             Message::Install(install) => self.installed(alloc, install),
-            Message::Write(write) => self.written(alloc, write),
+            Message::Write(write) => self.prepare_write(alloc, write),
             Message::Gossip(gossip) if gossip.is_for(self.group) => {
                 self.prepare_record(alloc, gossip.label, &gossip.packet)
             }
@@ -443,7 +417,7 @@ impl Segment {
         ensures actor { IsSameActor self.old self.new }
     {
         if let Message::Write(write) = message {
-            return self.written(alloc, write);
+            return self.prepare_write(alloc, write);
         }
         self.prepare_any(alloc, message)
     }
@@ -459,7 +433,10 @@ impl Segment {
         ensures node { node_of self.new ≡ node_of self.old }
         ensures actor { IsSameActor self.old self.new }
     {
-        self.written(alloc, write)
+        if !write.is_for(self.group) {
+            return Err(Fault::NotAddressed);
+        }
+        self.prepare_record(alloc, write.label, &write.packet)
     }
 
     /// Prepares to offer a record, as [`Segment::offer`] does.
@@ -510,8 +487,7 @@ impl Segment {
             Effect::Move(place) => {
                 self.configuration = place.configuration;
                 self.epoch = place.epoch;
-                self.copies.clear();
-                self.assembly.clear();
+                self.restart();
             }
             Effect::Count => self.copied += 1,
             Effect::Gather { volume, change } => {
@@ -525,7 +501,7 @@ impl Segment {
             } => {
                 self.volume = volume;
                 self.held = SegmentState::new(lineage, Box::into_inner(records));
-                self.assembly.clear();
+                self.assembly = Assembly::new();
             }
             Effect::Keep(keeping) => self.copies.keep(Box::into_inner(keeping)),
             Effect::Restart => self.restart(),

@@ -1,7 +1,7 @@
 use Rattle.std.proofs.Common.{List, sym, subst}
 use Rattle.volume_model.specs.Common.{Redo}
 use Rattle.segment_core.specs.Chains.{AreChainsOf}
-use Rattle.segment_core.specs.PageIndex.{IsIndexOf}
+use Rattle.segment_core.specs.Blocks.{IsIndexOf}
 use Rattle.segment_core.proofs.records.Records.to_set.Goals as goal
 
 pub invariant_of-self : goal.invariant_of-self
