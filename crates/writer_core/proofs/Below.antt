@@ -7,7 +7,7 @@ use Rattle.volume_model.specs.Message as model
 use Rattle.wire.specs.declared.label.Place.{Place}
 use Rattle.wire.specs.Common.{place_of}
 
-and_false : (a : Bool) → (a && false) ≡ false
+pub and_false : (a : Bool) → (a && false) ≡ false
 and_false true = refl
 and_false false = refl
 

@@ -1,7 +1,7 @@
 -- The front of a log that the points of its groups cover.
-use Rattle.std.proofs.Common.{◌≡◌, ℕ, ◌+◌, ◌<◌, ◌≤◌, Bool, true, false, ◌&&◌, nat_le, List, [], ◌∷◌, ◌++◌, map, length, take, drop, get_or, if◌then◌else◌, refl, sym, ap, ap₂, ◌∙◌, subst, inl, inr, arith, drop-cons, add-one, ◌==◌}
+use Rattle.std.proofs.Common.{◌≡◌, ℕ, ◌+◌, ◌<◌, ◌≤◌, Bool, true, false, ◌&&◌, nat_le, List, [], ◌∷◌, map, length, take, drop, get_or, if◌then◌else◌, refl, sym, ap, ap₂, ◌∙◌, subst, inl, inr, arith, drop-cons, add-one, ◌==◌}
 use Rattle.std.proofs.Math.Path.{fun_ext}
-use Rattle.std.proofs.lemmas.List.{take-append-drop, take_all, map-append}
+use Rattle.std.proofs.lemmas.List.{take-append-drop, take_all}
 use Rattle.std.proofs.lemmas.Bool.{cases_Bool, and_parts, and_from, eq-eqb, le-leb, lt-leb, leb-true}
 use Rattle.std.proofs.lemmas.Bool.Decides.{nat_tests}
 use Rattle.volume_model.specs.Common.{every, added, Redo, last_lsn, last_of_group, complete_of, consistency_point_below, last_of_group_below}
@@ -10,26 +10,18 @@ use Rattle.redo_record.specs.Common.{shared_redo}
 use Rattle.writer_core.specs.Logs.{log_of, is_growing}
 use Rattle.writer_core.specs.DurabilityTracker.{is_covered, Covers, CoversNone, CoversPrefix, CoversLog}
 use Rattle.writer_core.specs.declared.durability.DurabilityTracker.{DurabilityTracker}
+use Rattle.writer_core.proofs.Below.{and_false}
 use Rattle.writer_core.proofs.Entering.{group-entered}
 use Rattle.writer_core.proofs.Finding.{above}
 use Rattle.writer_core.proofs.Growing.{both}
+use Rattle.writer_core.proofs.Joined.{log_of-append}
 use Rattle.writer_core.proofs.Logs.{log_of-more}
-
-and_false : (a : Bool) → (a && false) ≡ false
-and_false true = refl
-and_false false = refl
 
 -- ---- a front, and what comes behind it
 
-added-append : {A : Type 0} (xs ys kept : List A) → added (xs ++ ys) kept ≡ added ys (added xs kept)
-added-append [] ys kept = refl
-added-append (x ∷ xs) ys kept = added-append xs ys (x ∷ kept)
-
 split : (records : List SharedRecord) (n : ℕ) → log_of records ≡ added (map shared_redo (drop n records)) (log_of (take n records))
 split records n =
-    ap log_of (sym (take-append-drop n records))
-    ∙ ap (λ xs. added xs []) (map-append shared_redo (take n records) (drop n records))
-    ∙ added-append (map shared_redo (take n records)) (map shared_redo (drop n records)) []
+    ap log_of (sym (take-append-drop n records)) ∙ log_of-append (take n records) (drop n records)
 
 -- ---- all records are covered
 

@@ -76,9 +76,8 @@ impl DurabilityTracker {
         self.complete = record.lsn;
         self.last_lsns[usize::from(record.group)] = record.lsn;
         if record.point {
-            let last_lsns = self.last_lsns;
             self.durable = record.lsn;
-            self.durable_lasts = last_lsns;
+            self.durable_lasts = self.last_lsns;
         }
     }
 }

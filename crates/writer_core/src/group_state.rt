@@ -26,7 +26,7 @@ pub struct GroupState {
 
 impl GroupState {
     ghost use Rattle.std.specs.Prelude.{◌≡◌, ◌<◌, OnOk, OnErr};
-    ghost use Rattle.volume_model.specs.Common.{sat, senders, born_group, newly_at, no_group, place_configuration, raised_group, counted_by, later_group, reread_group};
+    ghost use Rattle.volume_model.specs.Common.{sat, senders, born_group, newly_at, place_configuration, raised_group, counted_by, later_group, reread_group};
     ghost use Rattle.plan.specs.Common.{checked_model};
     ghost use Rattle.wire.specs.Common.{place_of};
     ghost use Rattle.writer_core.specs.GroupStates.{group_at, counted_group, report_of, reported_group};
@@ -55,17 +55,6 @@ impl GroupState {
         let mut group_state = GroupState::at(alloc, root);
         group_state.joined = true;
         group_state
-    }
-
-    /// Makes the state of a group that isn't in the client's view.
-    pub(crate) fn none(alloc: Global) -> GroupState
-        ensures { group_at result ≡ no_group }
-    {
-        let nowhere = Place {
-            configuration: 0,
-            epoch: 0,
-        };
-        GroupState::at(alloc, nowhere)
     }
 
     /// Counts an acknowledgement. On error the state is unchanged.

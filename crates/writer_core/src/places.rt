@@ -49,7 +49,11 @@ pub fn extend(group_states: &mut Vec<GroupState>, groups: usize) -> Result<(), A
     let alloc = *group_states.allocator();
     let before = group_states.len();
     'more: while group_states.len() < groups {
-        if let Err(failed) = group_states.push(GroupState::none(alloc)) {
+        let nowhere = Place {
+            configuration: 0,
+            epoch: 0,
+        };
+        if let Err(failed) = group_states.push(GroupState::at(alloc, nowhere)) {
             group_states.truncate(before);
             return Err(AllocError::from(failed));
         }

@@ -21,6 +21,7 @@ use lineage::Lineage;
 use plan::CheckedPlan;
 use redo_record::{LAST_LSN, RecordSet};
 use std::alloc::Global;
+use std::mem;
 use std::sync::Arc;
 use volume_model::Fault;
 use wire::{Ack, Carried, Message, Messages, PageAsk, View};
@@ -144,6 +145,19 @@ impl Writer {
         ensures { log_in result.now ≡ (client_of self.now).log }
     {
         &self.log
+    }
+
+    /// Takes the log, in order of LSN, out of a writer at the end of a run. The writer is left without a record, so it
+    /// must not act again.
+    pub fn take_log(&mut self) -> Log
+        ensures log { log_in result ≡ (client_of self.old).log }
+        ensures plan { writer_plan self.new ≡ writer_plan self.old }
+        ensures volume { writer_volume self.new ≡ writer_volume self.old }
+    {
+        let alloc = self.group_states.alloc();
+        self.last_lsns = LastLsns::new(alloc, 0);
+        self.durability = DurabilityTracker::none();
+        mem::replace(&mut self.log, Log::begin(alloc, RecordSet::new(alloc)))
     }
 
     /// Returns the greatest LSN of the log up to which each record is covered by its group's point, else 0.

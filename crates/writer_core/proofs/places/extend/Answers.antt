@@ -12,13 +12,13 @@ more-preserved c =
     let initial : List GroupState = c.args.group_states.now.items in
     let now : List GroupState = c.more.group_states.items in
     let next : List GroupState = c.push.new.self.items in
-    let is : next ≡ now ++ c.none.result ∷ [] = c.in_default.ensures.items in
-    let many : length next ≡ length now + 1 = ap length is ∙ length_push now c.none.result in
+    let is : next ≡ now ++ c.at.result ∷ [] = c.in_default.ensures.items in
+    let many : length next ≡ length now + 1 = ap length is ∙ length_push now c.at.result in
     record {
       within = omega (arith, many, c.more.invariant.within);
       few = omega (arith, many, c.more-test.true, c.len.ensures, c.more.group_states.ok.0);
-      more = taken-up initial now next c.none.result c.more.invariant.within is c.none.ensures c.more.invariant.more;
-      front = subst (λ (xs : List GroupState). take (length initial) xs ≡ initial) (sym is) (front_on now c.none.result initial c.more.invariant.front);
+      more = taken-up initial now next c.at.result c.more.invariant.within is c.at.ensures c.more.invariant.more;
+      front = subst (λ (xs : List GroupState). take (length initial) xs ≡ initial) (sym is) (front_on now c.at.result initial c.more.invariant.front);
     }
 
 pub returns-clause-more : goal.returns-clause-more
