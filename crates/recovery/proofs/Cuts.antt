@@ -1,5 +1,5 @@
 -- The cut of the first records of a list.
-use Rattle.std.proofs.Common.{◌≡◌, ℕ, zero, suc, ◌+◌, ◌<◌, ◌≤◌, Bool, true, false, ◌&&◌, ◌||◌, nat_eq, nat_lt, cond, List, [], ◌∷◌, ◌++◌, map, take, length, get_or, inl, inr, if◌then◌else◌, refl, sym, ap, ap₂, ◌∙◌, subst, arith, ◌==◌}
+use Rattle.std.proofs.Common.{◌≡◌, ℕ, zero, suc, ◌+◌, ◌<◌, ◌≤◌, Bool, true, false, ◌&&◌, ◌||◌, nat_eq, nat_lt, cond, List, [], ◌∷◌, map, take, length, get_or, inl, inr, if◌then◌else◌, refl, sym, ap, ap₂, ◌∙◌, subst, arith, ◌==◌}
 use Rattle.std.proofs.lemmas.Bool.{cases_Bool, cases_lt, or_right, and_from, true≢false, eqb-true, eq-eqb, ne_eqb, lt-ltb}
 use Rattle.std.proofs.lemmas.List.{take_more, map-append}
 use Rattle.volume_model.specs.Common.{added, Redo, last_lsn, cut_of}
@@ -16,6 +16,7 @@ use Rattle.recovery.specs.CutReader.{log_of_records, IsCutOf}
 use Rattle.recovery.specs.GroundedLsns.{is_grounded}
 use Rattle.recovery.specs.declared.cut_reader.CutReader.{CutReader}
 use Rattle.recovery.proofs.Links.{IsBack, leads-above, cut-next}
+use Rattle.recovery.proofs.Sharing.{added-more}
 
 -- a set's records link to smaller numbers
 pub set-back : (set : RecordSet) → IsBack (log_of_set set)
@@ -35,15 +36,11 @@ rises (x ∷ records) (suc i) kept h = rises records i (redo_of x ∷ kept) h
 pub records-growing : (records : List Record) (i : ℕ) → is_growing (log_of_records records) ≡ true → is_growing (log_of_records (take i records)) ≡ true
 records-growing records i h = rises records i [] h
 
-added-last : (xs : List Redo) (r : Redo) (kept : List Redo) → added (xs ++ r ∷ []) kept ≡ r ∷ added xs kept
-added-last [] r kept = refl
-added-last (x ∷ xs) r kept = added-last xs r (x ∷ kept)
-
 pub records-more : (records : List Record) (i : ℕ) (r : Record) → i < length records → r ≡ get_or records i r → log_of_records (take (i + 1) records) ≡ redo_of r ∷ log_of_records (take i records)
 records-more records i r within is =
     ap log_of_records (take_more records i r within)
     ∙ ap (λ xs. added xs []) (map-append redo_of (take i records) (get_or records i r ∷ []))
-    ∙ added-last (map redo_of (take i records)) (redo_of (get_or records i r)) []
+    ∙ added-more (map redo_of (take i records)) (redo_of (get_or records i r)) []
     ∙ ap (λ (x : Record). redo_of x ∷ log_of_records (take i records)) (sym is)
 
 -- the next record of a growing list has a number above those before it

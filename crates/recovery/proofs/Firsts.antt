@@ -1,9 +1,10 @@
 -- The first record of each number of a set.
-use Rattle.std.proofs.Common.{◌≡◌, ℕ, suc, ◌<◌, ◌≤◌, true, false, nat_lt, nat_eq, List, [], ◌∷◌, ◌++◌, Option, Some, None, if◌then◌else◌, refl, sym, ap, ap₂, ◌∙◌, inl, inr, arith, ◌==◌}
-use Rattle.std.proofs.lemmas.Bool.{cases_Bool, or_cases, and_parts, eqb-true, eq-eqb, ltb-true}
+use Rattle.std.proofs.Common.{◌≡◌, ℕ, suc, ◌<◌, ◌≤◌, true, false, nat_eq, List, [], ◌∷◌, ◌++◌, Option, Some, None, if◌then◌else◌, refl, sym, ap, ap₂, ◌∙◌, inl, inr, arith, ◌==◌}
+use Rattle.std.proofs.lemmas.Bool.{cases_Bool, eqb-true, eq-eqb}
 use Rattle.volume_model.specs.Common.{IsIn, Redo, spelling, numbers_before, first_of, record_at, last_lsn}
 use Rattle.redo_record.specs.Common.{IsInOrder}
 use Rattle.redo_record.proofs.Before.{before-trans, not_before}
+use Rattle.redo_record.proofs.Finding.{lsn-rises}
 use Rattle.redo_record.proofs.Places.{list-all}
 use Rattle.writer_core.specs.Logs.{is_growing}
 use Rattle.recovery.proofs.Links.{record_at-above}
@@ -16,14 +17,6 @@ find (r ∷ rest) n = if r.lsn == n then Some r else find rest n
 abbrev or_else : Option Redo → Option Redo → Option Redo
 or_else None o = o
 or_else (Some r) o = Some r
-
--- a record that comes first has no greater number
-pub before-lsn : (r s : Redo) → numbers_before (spelling r) (spelling s) ≡ true → r.lsn ≤ s.lsn
-before-lsn r s h =
-    elim (or_cases (nat_lt r.lsn s.lsn) _ h) [
-      | inl a ↦ (let l : r.lsn < s.lsn = ltb-true r.lsn s.lsn a in omega arith)
-      | inr b ↦ (let e : r.lsn ≡ s.lsn = eqb-true r.lsn s.lsn (and_parts (nat_eq r.lsn s.lsn) _ b).0 in omega (arith, e))
-    ]
 
 before-not : (r s : Redo) → numbers_before (spelling r) (spelling s) ≡ true → numbers_before (spelling s) (spelling r) ≡ false
 before-not r s h = elim (cases_Bool (numbers_before (spelling s) (spelling r))) [
@@ -107,6 +100,6 @@ module _ (done : List Redo) (r : Redo) where
 -- the records after one of a list in order have no smaller numbers, and are in order
 pub order-next : (r : Redo) (rest : List Redo) → IsInOrder (r ∷ rest) → ((s : Redo) → IsIn s rest → r.lsn ≤ s.lsn) × IsInOrder rest
 order-next r rest o = (
-  (λ s i. before-lsn r s (list-all (λ s. numbers_before (spelling r) (spelling s) ≡ true) rest (λ k d l. o 0 (suc k) d (omega arith) (omega arith)) s i)),
+  (λ s i. lsn-rises r s (list-all (λ s. numbers_before (spelling r) (spelling s) ≡ true) rest (λ k d l. o 0 (suc k) d (omega arith) (omega arith)) s i)),
   λ i j d l k. o (suc i) (suc j) d (omega arith) (omega arith),
 )

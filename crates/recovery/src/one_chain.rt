@@ -1,38 +1,31 @@
 //! Finds the last consistency point of records that are one chain.
 
-ghost use Rattle.std.specs.Prelude.{◌≡◌, ◌<◌, ◌≤◌, List, [], length, map, take, IfSome, IsTrue};
+ghost use Rattle.std.specs.Prelude.{◌≡◌, ◌<◌, ◌≤◌, List, [], length, map, take, IsTrue};
 ghost use Rattle.volume_model.specs.Common.{added, Redo, last_lsn};
-ghost use Rattle.redo_record.specs.Common.{records_of, run_records, shared_redo};
+ghost use Rattle.redo_record.specs.Common.{records_of, shared_redo};
 ghost use Rattle.writer_core.specs.Logs.{log_of_set};
-ghost use Rattle.recovery.specs.Chains.{up_to_point, IsChainTo, GoesOn};
+ghost use Rattle.recovery.specs.Chains.{up_to_point, IsChainTo};
 
-use redo_record::{RecordSet, Run, SharedRecord};
+use redo_record::{RecordSet, SharedRecord};
 
-/// Returns the last LSN of a run that goes on from a chain whose last LSN is `last`, if that is known without looking
-/// at all its records.
-fn end_of_chain(run: &Run, last: u64) -> Option<u64>
-    ensures { IfSome result (GoesOn last (run_records run.now)) }
-{
-    let packets = run.as_slice();
-    let first = packets.first()?;
-    let end = packets.last()?;
-    if run.is_volume_chain() && first.record().prev_volume == last {
-        Some(end.lsn())
-    } else {
-        None
-    }
-}
-
-/// Returns whether a set is known to be one chain by `prev_volume` from its last record down to 0.
+/// Returns whether a set is known to be one chain by `prev_volume` from its last record down to 0, without looking at
+/// all records.
 pub fn is_one_chain(set: &RecordSet) -> bool
     ensures { IsTrue result → IsChainTo (last_lsn (log_of_set set.now)) (log_of_set set.now) }
 {
     let mut last = 0;
     for run in set.runs() {
-        match end_of_chain(run, last) {
-            Some(end) => last = end,
-            None => return false,
+        let packets = run.as_slice();
+        let Some(first) = packets.first() else {
+            return false;
+        };
+        let Some(end) = packets.last() else {
+            return false;
+        };
+        if !run.is_volume_chain() || first.record().prev_volume != last {
+            return false;
         }
+        last = end.lsn();
     }
     true
 }
