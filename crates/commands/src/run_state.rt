@@ -127,8 +127,8 @@ impl ClientFacts {
 /// Returns the clients of a run that a View has reached, in growing volume epoch.
 fn clients_of(alloc: Global, outcome: &Outcome) -> Result<Vec<ClientFacts>, AllocError> {
     let mut clients = BTreeMap::new(alloc);
-    for volume in outcome.readers(alloc)? {
-        let _ = clients.insert(volume, ClientFacts::new(volume))?;
+    for volume in &outcome.readers {
+        let _ = clients.insert(*volume, ClientFacts::new(*volume))?;
     }
     for find in &outcome.finds {
         let facts = clients.entry(find.volume)?;

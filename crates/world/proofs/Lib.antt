@@ -28,3 +28,4 @@ pub mod Onward
 pub mod Started
 pub mod Installs
 pub mod Cutting
+pub mod EachBelow

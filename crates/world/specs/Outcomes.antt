@@ -1,11 +1,13 @@
 -- A program's outcome of a run.
-use Rattle.std.specs.Prelude.{◌≡◌, ℕ, suc, ◌<◌, Bool, true, not, ◌&&◌, nat_le, List, ◌++◌, ◌∷◌, Ok, map}
-use Rattle.volume_model.specs.Common.{Plan, IsIn, IsBeginningOf, each_below, Redo, up_to, Stage, has_cut, is_born, is_consistency_point, Event, Step, World, opening, run, results, step, Open, KeepsCommits, SaysTruePages, StaysSo, HasOneLineageAnEpoch, StaysFound, IsAtItsCut, IsOrderly, writers_in, finds_in}
+use Rattle.std.specs.Prelude.{◌≡◌, ℕ, suc, ◌<◌, Bool, true, not, ◌&&◌, nat_le, nat_lt, if◌then◌else◌, List, [], ◌++◌, ◌∷◌, Ok, map}
+use Rattle.volume_model.specs.Common.{Plan, IsIn, IsBeginningOf, each_below, Redo, up_to, Stage, has_cut, is_born, is_open, is_consistency_point, Event, Step, World, opening, run, results, step, Open, KeepsCommits, SaysTruePages, StaysSo, HasOneLineageAnEpoch, StaysFound, IsAtItsCut, IsOrderly, opened_client, found_client, writers_in, finds_in}
+use Rattle.volume_model.specs.Client.{Client}
 use Rattle.volume_model.specs.Outcome as model
 use Rattle.world.specs.Onward.{VolumeGoesOn}
 use Rattle.writer_core.specs.Log.{log_in}
 use Rattle.writer_core.specs.Logs.{log_of_set}
 use Rattle.lineage.specs.Lineage.{lineage_of}
+use Rattle.recovery.specs.declared.found.Found.{Found}
 use Rattle.world.specs.Actors.{plan_of, world_of, AreActors}
 use Rattle.world.specs.declared.outcome.RecoveryOutcome.{RecoveryOutcome}
 use Rattle.world.specs.declared.outcome.WriterOutcome.{WriterOutcome}
@@ -34,6 +36,35 @@ abbrev pub readers_in : World → List ℕ
 readers_in world =
     each_below (suc world.authority.last_volume) (λ volume. is_reading (world.clients volume).stage) (λ volume. volume)
 
+-- the outcome of a client as a writer, if it is one
+abbrev pub opened_by : ℕ → Client → List model.Opened
+opened_by volume client = if is_open client.stage then opened_client volume client ∷ [] else []
+
+-- the outcome of a client as a recovery, if it has cut. Writer 1 was never a recovery
+abbrev pub found_by : ℕ → Client → List model.Find
+found_by volume client = if nat_lt 1 volume && has_cut client.stage then found_client volume client ∷ [] else []
+
+-- the volume epoch of a client, if it is a recovery that hasn't cut
+abbrev pub read_by : ℕ → Client → List ℕ
+read_by volume client = if is_reading client.stage then volume ∷ [] else []
+
+-- The new outcome has this find of a recovery, too. Writer 1 was never a recovery.
+pub record HasAddedFound (volume : ℕ) (found : Found) (old new : Outcome) : Type 0 where
+  pub finds : map find_of new.finds.items ≡ map find_of old.finds.items ++ (if nat_lt 1 volume then find_of
+      (record { volume = volume; found = found }) ∷ [] else [])
+  pub writers : new.writers ≡ old.writers
+  pub readers : new.readers ≡ old.readers
+  pub results : new.results ≡ old.results
+  pub actors : new.actors ≡ old.actors
+
+-- The new outcome has that of this client, too.
+pub record HasAdded (volume : ℕ) (client : Client) (old new : Outcome) : Type 0 where
+  pub writers : map opened_of new.writers.items ≡ map opened_of old.writers.items ++ opened_by volume client
+  pub finds : map find_of new.finds.items ≡ map find_of old.finds.items ++ found_by volume client
+  pub readers : new.readers.items ≡ old.readers.items ++ read_by volume client
+  pub results : new.results ≡ old.results
+  pub actors : new.actors ≡ old.actors
+
 -- What was acknowledged after some of the events stays acknowledged to their end, with the same log before it, and no
 -- opened writer's durable point falls.
 abbrev pub KeepsAcknowledgements : Plan → List Event → Type 0
@@ -56,14 +87,15 @@ OpenAtTheirCuts plan events =
     → IsAtItsCut (opened.world.clients volume)
 
 -- The outcome is that of the model's run of these events: the result of each event, and at the end the opened writers
--- and the recoveries that have cut. Its actors are those of the model's world.
+-- and the recoveries. Its nodes are those of the model's world.
 pub record IsOutcomeOfRun (plan : Plan) (events : List Event) (outcome : Outcome) : Type 0 where
   pub results_are : outcome.results.items ≡ results plan (opening plan) events
   pub writers_are : map opened_of outcome.writers.items ≡ writers_in (run plan (opening plan) events)
   pub finds_are : map find_of outcome.finds.items ≡ finds_in (run plan (opening plan) events)
+  pub readers_are : outcome.readers.items ≡ readers_in (run plan (opening plan) events)
   pub are : AreActors outcome.actors
   pub plan_is : plan_of outcome.actors ≡ plan
-  pub world_is : world_of outcome.actors ≡ run plan (opening plan) events
+  pub nodes_are : (world_of outcome.actors).nodes ≡ (run plan (opening plan) events).nodes
 
 -- Every promise of the volume holds for the run of these events.
 pub record KeepsPromises (plan : Plan) (events : List Event) : Type 0 where

@@ -30,7 +30,7 @@ pub struct Client {
     plan: Arc<CheckedPlan>,
     /// The volume epoch with which it is born.
     volume: u32,
-    state: ClientState,
+    pub(crate) state: ClientState,
 }
 
 impl Client {

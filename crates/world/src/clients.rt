@@ -1,31 +1,10 @@
 //! The clients of a world, by volume epoch.
 
-ghost use Rattle.std.specs.Prelude.{◌≡◌, ◌<◌, length, IfErr, IfOk, MatchOption};
-ghost use Rattle.volume_model.specs.Common.{unborn};
-ghost use Rattle.world.specs.Clients.{clients_of, seen_client, HasSameClients, IsPut};
+ghost use Rattle.std.specs.Prelude.{◌≡◌, ℕ, ◌<◌, length, IfErr, IfOk};
+ghost use Rattle.world.specs.Clients.{client_in, HasSameClients, IsPut};
 
 use crate::client::Client;
 use std::alloc::AllocError;
-
-/// Returns the client of a volume epoch, if it is born.
-pub fn client_at(clients: &[Option<Box<Client>>], volume: u32) -> Option<&Client>
-    ensures { MatchOption result (clients_of clients.now volume ≡ unborn) (λ client. clients_of clients.now volume
-        ≡ seen_client client.now) }
-{
-    let place = volume as usize;
-    if place >= clients.len() {
-        return None;
-    }
-    match &clients[place] {
-        None => None,
-        Some(client) => Some(client),
-    }
-}
-
-/// Returns the number of clients.
-pub fn count(clients: &[Option<Box<Client>>]) -> usize {
-    clients.iter().filter(|client| client.is_some()).count()
-}
 
 /// Extends the table to the place of a volume epoch. The clients are unchanged, even on error.
 fn fill_up(clients: &mut Vec<Option<Box<Client>>>, volume: u32) -> Result<(), AllocError>
@@ -58,4 +37,17 @@ pub fn keep(
     fill_up(clients, volume)?;
     clients[volume as usize] = Some(client);
     Ok(())
+}
+
+/// Takes the client of a volume epoch out of the table, if it is born.
+pub fn take(clients: &mut Vec<Option<Box<Client>>>, volume: u32) -> Option<Box<Client>>
+    ensures client { result ≡ client_in clients.old.items volume }
+    ensures later { (other : ℕ) → volume < other → client_in clients.new.items other
+        ≡ client_in clients.old.items other }
+{
+    let place = volume as usize;
+    if place >= clients.len() {
+        return None;
+    }
+    clients[place].take()
 }

@@ -1,156 +1,104 @@
 //! Makes the outcome of a run from its actors.
 
-ghost use Rattle.std.specs.Prelude.{◌≡◌, ◌++◌, ◌∷◌, [], ◌&&◌, IfOk, Some, None, if◌then◌else◌, map, nat_lt, option_map};
-ghost use Rattle.volume_model.specs.Common.{has_cut, is_open, found_client, opened_client, finds_in, writers_in};
-ghost use Rattle.world.specs.Outcomes.{is_reading, find_of, opened_of};
+ghost use Rattle.std.specs.Prelude.{◌≡◌, map, IfOk};
+ghost use Rattle.volume_model.specs.Common.{writers_in, finds_in};
 ghost use Rattle.writer_core.specs.Writers.{client_of};
-ghost use Rattle.world.specs.Clients.{seen_client};
+ghost use Rattle.world.specs.Actors.{plan_of, world_of, AreActors};
+ghost use Rattle.world.specs.Clients.{client_or_unborn, seen_client};
+ghost use Rattle.world.specs.Outcomes.{opened_of, find_of, readers_in, HasAdded, HasAddedFound};
 
 use crate::actors::Actors;
 use crate::client::{Client, ClientState};
-use crate::clients::{client_at, count};
-use crate::outcome::{RecoveryOutcome, WriterOutcome};
+use crate::clients::take;
+use crate::outcome::{Outcome, RecoveryOutcome, WriterOutcome};
 use recovery::Found;
 use std::alloc::{AllocError, Global};
+use std::mem;
+use volume_model::Fault;
 use writer_core::Writer;
 
-/// Returns the outcome of a writer.
-fn end_of(volume: u32, writer: &Writer) -> Result<WriterOutcome, AllocError>
-    ensures { IfOk result (λ end. opened_of end ≡ opened_client volume (client_of writer.now)) }
-{
-    Ok(WriterOutcome {
-        volume,
-        start: writer.start(),
-        log: writer.log().clone()?,
-        durable: writer.durable_point(),
-    })
-}
-
-/// Returns the outcome of a client as a writer, if it is one.
-fn opened_by(volume: u32, client: &Client) -> Result<Option<WriterOutcome>, AllocError>
-    ensures { IfOk result (λ opened. option_map opened_of opened ≡ (if is_open (seen_client client.now).stage then Some
-        (opened_client volume (seen_client client.now)) else None)) }
-{
-    match client.state() {
-        ClientState::Writer(writer) => Ok(Some(end_of(volume, writer)?)),
-        _ => Ok(None),
-    }
-}
-
-/// Returns the outcome of a client as a recovery, if it has cut.
-fn found_by(volume: u32, client: &Client) -> Result<Option<RecoveryOutcome>, AllocError>
-    ensures { IfOk result (λ found. option_map find_of found ≡ (if has_cut (seen_client client.now).stage then Some
-        (found_client volume (seen_client client.now)) else None)) }
-{
-    let found = match client.state() {
-        ClientState::Unborn => return Ok(None),
-        ClientState::Writer(writer) => Found::of_writer(writer)?,
-        ClientState::Recovery(recovery) => match recovery.found() {
-            Some(found) => found.clone()?,
-            None => return Ok(None),
-        },
-    };
-    Ok(Some(RecoveryOutcome { volume, found }))
-}
-
-/// Returns whether a client is a recovery that hasn't cut.
-fn is_reader(client: &Client) -> bool
-    ensures { result ≡ is_reading (seen_client client.now).stage }
-{
-    match client.state() {
-        ClientState::Recovery(recovery) => recovery.found().is_none(),
-        _ => false,
-    }
-}
-
-impl Actors {
-    ghost use Rattle.world.specs.Actors.{world_of};
-    ghost use Rattle.world.specs.Clients.{clients_of};
-    ghost use Rattle.world.specs.Outcomes.{readers_in};
-
-    /// Adds the outcome of the writer of a volume epoch, if there is one.
-    fn add_writer(&self, volume: u32, ends: &mut Vec<WriterOutcome>) -> Result<(), AllocError>
-        ensures { IfOk result (λ _. map opened_of ends.new.items ≡ map opened_of ends.old.items
-            ++ (if is_open (clients_of self.now.clients.items volume).stage then opened_client volume
-            (clients_of self.now.clients.items volume) ∷ [] else [])) }
-    {
-        let Some(client) = client_at(self.clients.as_slice(), volume) else {
-            return Ok(());
-        };
-        if let Some(end) = opened_by(volume, client)? {
-            ends.push(end)?;
-        }
-        Ok(())
-    }
-
-    /// Returns the opened writers, in growing volume epoch.
-    pub fn writers(&self, alloc: Global) -> Result<Vec<WriterOutcome>, AllocError>
-        ensures { IfOk result (λ ends. map opened_of ends.items ≡ writers_in (world_of self.now)) }
-    {
-        let last = self.authority.last_volume();
-        let mut ends = Vec::with_capacity(alloc, count(self.clients.as_slice()))?;
-        for volume in 0..last {
-            self.add_writer(volume, &mut ends)?;
-        }
-        self.add_writer(last, &mut ends)?;
-        Ok(ends)
-    }
-
-    /// Adds the outcome of the client of a volume epoch as a recovery, if it has cut. Writer 1 was never a recovery.
-    fn add_find(&self, volume: u32, ends: &mut Vec<RecoveryOutcome>) -> Result<(), AllocError>
-        ensures { IfOk result (λ _. map find_of ends.new.items ≡ map find_of ends.old.items
-            ++ (if nat_lt 1 volume && has_cut (clients_of self.now.clients.items volume).stage then found_client volume
-            (clients_of self.now.clients.items volume) ∷ [] else [])) }
+impl Outcome {
+    /// Adds a recovery that has cut. Writer 1 was never a recovery.
+    fn add_found(&mut self, volume: u32, found: Found) -> Result<(), AllocError>
+        ensures { IfOk result (λ _. HasAddedFound volume found self.old self.new) }
     {
         if volume <= 1 {
             return Ok(());
         }
-        let Some(client) = client_at(self.clients.as_slice(), volume) else {
-            return Ok(());
-        };
-        if let Some(end) = found_by(volume, client)? {
-            ends.push(end)?;
-        }
+        self.finds.push(RecoveryOutcome { volume, found })?;
         Ok(())
     }
 
-    /// Returns the recoveries that have cut, in growing volume epoch.
-    pub fn finds(&self, alloc: Global) -> Result<Vec<RecoveryOutcome>, AllocError>
-        ensures { IfOk result (λ ends. map find_of ends.items ≡ finds_in (world_of self.now)) }
+    /// Adds a writer, whose log it takes, and what the writer found as a recovery.
+    fn add_writer(&mut self, volume: u32, writer: &mut Writer) -> Result<(), AllocError>
+        ensures { IfOk result (λ _. HasAdded volume (client_of writer.old) self.old self.new) }
     {
-        let last = self.authority.last_volume();
-        let mut ends = Vec::with_capacity(alloc, count(self.clients.as_slice()))?;
-        for volume in 0..last {
-            self.add_find(volume, &mut ends)?;
-        }
-        self.add_find(last, &mut ends)?;
-        Ok(ends)
-    }
-
-    /// Adds a volume epoch, if its client is a recovery that hasn't cut.
-    fn add_reader(&self, volume: u32, readers: &mut Vec<u32>) -> Result<(), AllocError>
-        ensures { IfOk result (λ _. readers.new.items ≡ readers.old.items
-            ++ (if is_reading (clients_of self.now.clients.items volume).stage then volume ∷ [] else [])) }
-    {
-        let Some(client) = client_at(self.clients.as_slice(), volume) else {
-            return Ok(());
-        };
-        if is_reader(client) {
-            readers.push(volume)?;
-        }
+        let found = Found::of_writer(writer)?;
+        self.writers.push(WriterOutcome {
+            volume,
+            start: writer.start(),
+            durable: writer.durable_point(),
+            log: writer.take_log(),
+        })?;
+        self.add_found(volume, found)?;
         Ok(())
     }
 
-    /// Returns the volume epochs of the recoveries that haven't cut, in growing order.
-    pub fn readers(&self, alloc: Global) -> Result<Vec<u32>, AllocError>
-        ensures { IfOk result (λ readers. readers.items ≡ readers_in (world_of self.now)) }
+    /// Adds the outcome of the client of a volume epoch.
+    fn add_client(&mut self, volume: u32, client: &mut Client) -> Result<(), AllocError>
+        ensures { IfOk result (λ _. HasAdded volume (seen_client client.old) self.old self.new) }
     {
-        let last = self.authority.last_volume();
-        let mut readers = Vec::new(alloc);
-        for volume in 0..last {
-            self.add_reader(volume, &mut readers)?;
+        match &mut client.state {
+            ClientState::Unborn => Ok(()),
+            ClientState::Writer(writer) => self.add_writer(volume, writer),
+            ClientState::Recovery(recovery) => match recovery.found() {
+                Some(found) => self.add_found(volume, found.clone()?),
+                None => Ok(self.readers.push(volume)?),
+            },
         }
-        self.add_reader(last, &mut readers)?;
-        Ok(readers)
+    }
+
+    /// Adds the outcome of the client of a volume epoch, if it is born, and keeps the client.
+    fn add(&mut self, volume: u32, client: Option<Box<Client>>) -> Result<(), AllocError>
+        ensures { IfOk result (λ _. HasAdded volume (client_or_unborn client) self.old self.new) }
+    {
+        let Some(mut client) = client else {
+            return Ok(());
+        };
+        self.add_client(volume, &mut client)?;
+        self.clients.push(client)?;
+        Ok(())
+    }
+
+    /// Returns the outcome of a run, from the results of its events and from its actors, whose clients it takes.
+    pub fn of(
+        alloc: Global,
+        results: Vec<Result<u32, Fault>>,
+        mut actors: Actors,
+    ) -> Result<Outcome, AllocError>
+        requires { AreActors actors }
+        ensures results { IfOk result (λ outcome. outcome.results ≡ results) }
+        ensures writers { IfOk result (λ outcome. map opened_of outcome.writers.items ≡ writers_in (world_of actors)) }
+        ensures finds { IfOk result (λ outcome. map find_of outcome.finds.items ≡ finds_in (world_of actors)) }
+        ensures readers { IfOk result (λ outcome. outcome.readers.items ≡ readers_in (world_of actors)) }
+        ensures good { IfOk result (λ outcome. AreActors outcome.actors) }
+        ensures plan { IfOk result (λ outcome. plan_of outcome.actors ≡ plan_of actors) }
+        ensures nodes { IfOk result (λ outcome. (world_of outcome.actors).nodes ≡ (world_of actors).nodes) }
+    {
+        let last = actors.authority.last_volume();
+        let mut clients = mem::replace(&mut actors.clients, Vec::new(alloc));
+        let mut outcome = Outcome {
+            results,
+            writers: Vec::new(alloc),
+            finds: Vec::new(alloc),
+            readers: Vec::new(alloc),
+            clients: Vec::new(alloc),
+            actors,
+        };
+        for volume in 0..last {
+            outcome.add(volume, take(&mut clients, volume))?;
+        }
+        outcome.add(last, take(&mut clients, last))?;
+        Ok(outcome)
     }
 }

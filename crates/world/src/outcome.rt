@@ -1,6 +1,7 @@
 //! The outcome of a run.
 
 use crate::actors::Actors;
+use crate::client::Client;
 use crate::node_states::{NodeState, states_of};
 use recovery::Found;
 use std::alloc::{AllocError, Global};
@@ -40,7 +41,11 @@ pub struct Outcome {
     pub writers: Vec<WriterOutcome>,
     /// The recoveries that have cut, in growing volume epoch. One that became a writer is in both lists.
     pub finds: Vec<RecoveryOutcome>,
-    /// The actors at the end of the run, and all messages.
+    /// The volume epochs of the recoveries that haven't cut, in growing order.
+    pub readers: Vec<u32>,
+    /// The clients, whose logs were taken.
+    pub(crate) clients: Vec<Box<Client>>,
+    /// The authority, the nodes and all messages at the end of the run.
     pub(crate) actors: Actors,
 }
 
@@ -48,14 +53,6 @@ impl Outcome {
     ghost use Rattle.std.specs.Prelude.{◌≡◌, IfOk};
     ghost use Rattle.world.specs.Actors.{plan_of, world_of, AreActors};
     ghost use Rattle.world.specs.NodeStates.{nodes_in};
-    ghost use Rattle.world.specs.Outcomes.{readers_in};
-
-    /// Returns the volume epochs of the recoveries that haven't cut, in growing order.
-    pub fn readers(&self, alloc: Global) -> Result<Vec<u32>, AllocError>
-        ensures { IfOk result (λ readers. readers.items ≡ readers_in (world_of self.now.actors)) }
-    {
-        self.actors.readers(alloc)
-    }
 
     /// Returns the nodes that the plan names, by group and member. The actors are those of a run, as the contract of
     /// [`run`](crate::run) says.

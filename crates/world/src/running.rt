@@ -80,14 +80,7 @@ fn outcome_of(alloc: Global, plan: &Arc<CheckedPlan>, events: &[Event]) -> Resul
         let result = event_result(actors.step(alloc, event))?;
         results.push(result)?;
     }
-    let writers = actors.writers(alloc)?;
-    let finds = actors.finds(alloc)?;
-    Ok(Outcome {
-        results,
-        writers,
-        finds,
-        actors,
-    })
+    Ok(Outcome::of(alloc, results, actors)?)
 }
 
 /// Returns the number of messages that orders usually make together.
@@ -130,14 +123,7 @@ fn outcome_of_orders(
         firsts.push(made)?;
         results.push(result)?;
     }
-    let writers = actors.writers(alloc)?;
-    let finds = actors.finds(alloc)?;
-    Ok(Outcome {
-        results,
-        writers,
-        finds,
-        actors,
-    })
+    Ok(Outcome::of(alloc, results, actors)?)
 }
 
 /// Runs events one after the other over a new volume of a checked plan. A refused event changes nothing.
