@@ -176,11 +176,8 @@ impl Opened {
         ensures front { (front_log front.new ≡ front_log front.old) × (front_book front.new ≡ front_book front.old) }
         ensures begins { IsPrefix (front_log front.old) (log_of self.old) }
     {
-        let fresh = self.front();
-        let LogPrefix { seat: other } = mem::replace(front, fresh);
+        self.meet(front);
         let Opened { table, seat } = self;
-        table.shared.join_seat::<Borrow>(seat, other);
-        table.shared.load::<Compare>(seat, 0);
         let seat = table.shared.split_seat::<Borrow>(seat);
         *front = LogPrefix { seat };
     }
@@ -192,6 +189,7 @@ impl Opened {
         ensures same { (log_of self.new ≡ log_of self.old) × (book_of self.new ≡ book_of self.old) }
         ensures front { (front_log front.new ≡ log_of self.old) × (front_book front.new ≡ front_book front.old) }
         ensures begins { IsPrefix (front_log front.old) (log_of self.old) }
+        ensures claim { self.new.seat.me.0.claim ≡ front_log front.old }
     {
         let fresh = self.front();
         let LogPrefix { seat: other } = mem::replace(front, fresh);

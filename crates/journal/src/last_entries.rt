@@ -22,10 +22,7 @@ pub struct LastEntries {
 fn none_yet(alloc: Global, count: usize) -> Result<Vec<usize>, AllocError>
     ensures { IfOk result (λ v. v.items ≡ replicate count 0) }
 {
-    let mut made = Vec::with_capacity(alloc, count)?;
-    for _ in 0..count {
-        made.push(0)?;
-    }
+    let made = vec![in alloc; 0; count]?;
     Ok(made)
 }
 

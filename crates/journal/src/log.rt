@@ -52,14 +52,6 @@ pub struct Log<'a, L: Site> {
     ghost counted: { book.total ≡ vec_len entries },
 }
 
-// Blocks forever. Called only if a count would pass 2^64, which can't happen.
-fn never<R: Wait, T>(rt: &R) -> T
-    ensures { ⊥ }
-{
-    for _ in rt.forever() {}
-    unreachable!()
-}
-
 // Writes an entry into the first of these cells, and returns it.
 #[inline(always)]
 fn write<'a>(rest: &mut &'a mut [Option<Entry>], entry: Entry) -> &'a Entry
@@ -79,13 +71,16 @@ fn write<'a>(rest: &mut &'a mut [Option<Entry>], entry: Entry) -> &'a Entry
     written
 }
 
-// Returns the number of messages after `more` were made. Blocks forever if it passes 2^64.
+// Returns the number of messages after `more` were made. Blocks forever if it passes 2^64, which can't happen.
 fn total<R: Wait>(rt: &R, messages: u64, more: usize) -> u64
     ensures { result ≡ messages + more }
 {
     match messages.checked_add(more as u64) {
         Some(all) => all,
-        None => never(rt),
+        None => {
+            for _ in rt.forever() {}
+            unreachable!()
+        }
     }
 }
 
@@ -416,33 +411,6 @@ impl<'a, L: Site> Log<'a, L> {
         self.between(0, end, false, number)
     }
 
-    // Looks a message up by its number; the search begins at `near`. Returns `None` if no step has made it.
-    #[inline(always)]
-    fn find_near(&mut self, near: usize, number: u64) -> Option<MessageRef<'a, L>>
-        ensures log { (self.new.entries ≡ self.old.entries) × (self.new.firsts ≡ self.old.firsts)
-            × (self.new.lasts ≡ self.old.lasts) }
-        ensures history { log_of self.new.history.opened ≡ log_of self.old.history.opened }
-        ensures some { IfSome result (λ l. message_ref_number l ≡ number) }
-        ensures is { IfSome result (λ l. numbered (world_of self.old).messages number ≡ message_ref_message l) }
-        ensures none { IfNone result (numbered (world_of self.old).messages number ≡ None) }
-    {
-        if number == 0 || number > self.messages {
-            return None;
-        }
-        let cell = self.maker(near, number);
-        let entry = self.entry(cell);
-        let Log { history, .. } = self;
-        let seen = history.opened.front();
-        Some(MessageRef {
-            number,
-            cell,
-            index: (number - 1 - entry.first) as usize,
-            entry,
-            seen,
-            site: PhantomData,
-        })
-    }
-
     /// Shows that a message that was looked up before still has its number.
     #[inline(always)]
     pub fn has(&mut self, message_ref: &mut MessageRef<'a, L>)
@@ -457,7 +425,7 @@ impl<'a, L: Site> Log<'a, L> {
     }
 
     /// Looks a message up by its number, and brings the pass up to the end of the journal. Returns `None` if no step
-    /// has made it.
+    /// has made it. The search begins at the last message that was looked up.
     #[inline(always)]
     pub fn seek(&mut self, pass: &mut Pass<'a, L>, number: u64) -> Option<MessageRef<'a, L>>
         ensures log { (self.new.entries ≡ self.old.entries) × (self.new.firsts ≡ self.old.firsts)
@@ -471,12 +439,23 @@ impl<'a, L: Site> Log<'a, L> {
         ensures own { IfNone result (All (IsElse number) (steps_of pass.old)) }
     {
         self.catch_up(pass);
-        let found = self.find_near(pass.near, number);
-        let near = found
-            .as_ref()
-            .map_or(self.entries.len(), |message_ref| message_ref.cell);
-        pass.stay(near);
-        found
+        if number == 0 || number > self.messages {
+            pass.stay(self.entries.len());
+            return None;
+        }
+        let cell = self.maker(pass.near, number);
+        pass.stay(cell);
+        let entry = self.entry(cell);
+        let Log { history, .. } = self;
+        let seen = history.opened.front();
+        Some(MessageRef {
+            number,
+            cell,
+            index: (number - 1 - entry.first) as usize,
+            entry,
+            seen,
+            site: PhantomData,
+        })
     }
 
     /// Notes the model's refusal of an event in the pass, with the journal's length.
@@ -491,18 +470,6 @@ impl<'a, L: Site> Log<'a, L> {
         pass.note(event, fault, self.entries.len());
     }
 
-    // Shows that each step of the pass is in the journal, and each of its notes is true of it.
-    fn check(&mut self, pass: &mut Pass<'a, L>)
-        ensures log { self.new.entries ≡ self.old.entries }
-        ensures stands { All (Stands L.plan (journal_of self.old)) (steps_of pass.old) }
-        ensures refused { All (IsRefused L.plan L.slots (length L.cells) (journal_of self.old)) (notes_of pass.old) }
-        ensures count { length (steps_of pass.old) ≡ pass.new.share.amount }
-        ensures part { pass.new.share.parts ≡ 1 }
-        ensures seat { seat_of pass.new ≡ seat_of pass.old }
-    {
-        self.catch_up(pass);
-    }
-
     /// Takes a pass back. Each of its steps is in the journal, and each of its notes is true of it. Returns its share
     /// of the count of steps, and its seat on the board. Allocates nothing.
     pub fn take_back(&mut self, mut pass: Pass<'a, L>) -> (Share<L>, BoardSeat)
@@ -512,7 +479,7 @@ impl<'a, L: Site> Log<'a, L> {
         ensures part { (result.0.parts ≡ 1) × (result.0.amount ≡ length (steps_of pass.entry)) }
         ensures seat { IsSeatIn L.board result.1 × (board.steps_of result.1 ≡ seat_of pass.entry) }
     {
-        self.check(&mut pass);
+        self.catch_up(&mut pass);
         let Pass { share, seat, .. } = pass;
         (share, seat)
     }
