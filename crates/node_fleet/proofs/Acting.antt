@@ -55,22 +55,28 @@ action_step : (plan : Plan) (w : World) (volume : ℕ) (asked : ClientAction) (f
 action_step plan w volume (action.Take message) found is = ap (λ (o : Option model.Message). of_client w volume (take plan volume (w.clients volume) o)) is.1
 action_step plan w volume asked found is = refl
 
--- a client that was old, of this plan, does what it is asked to, in a world that has it
-module _ (plan own : Plan) (of : own ≡ plan) (w : World) (volume : ℕ) (asked : ClientAction)
-    (found : Option model.Message) (old new : Client) (event : Event) (here : w.clients volume ≡ old)
-    (is : event ≡ client_event volume asked) (heard : IsFound w.messages event found) where
+-- the event is an action of a client of this plan, in a world that has the client and, for a Take, the message
+pub record Acts (plan own : Plan) (w : World) (volume : ℕ) (asked : ClientAction) (found : Option model.Message)
+    (old : Client) (event : Event) : Type 0 where
+  pub of : own ≡ plan
+  pub here : w.clients volume ≡ old
+  pub is : event ≡ client_event volume asked
+  pub heard : IsFound w.messages event found
+
+module _ {plan own : Plan} {w : World} {volume : ℕ} {asked : ClientAction} {found : Option model.Message} {old : Client}
+    {event : Event} (acts : Acts plan own w volume asked found old event) where
   abbrev pub answer : ClientAnswer
   answer = client_acted found asked own volume old
 
   whole : step plan w event ≡ of_client w volume answer
-  whole = ap (step plan w) is ∙ action_step plan w volume asked found
-      (subst (λ (e : Event). IsFound w.messages e found) is heard)
-      ∙ λ i. of_client w volume (client_acted found asked (sym of i) volume (here i))
+  whole = ap (step plan w) acts.is ∙ action_step plan w volume asked found
+      (subst (λ (e : Event). IsFound w.messages e found) acts.is acts.heard)
+      ∙ λ i. of_client w volume (client_acted found asked (sym acts.of i) volume (acts.here i))
 
   pub refuses_alike : refusal (step plan w event) ≡ refusal answer
   refuses_alike = ap refusal whole ∙ of_client-refusal w volume answer
 
-  module _ (made : Messages) (done : answer ≡ Ok (answered made new)) where
+  module _ (new : Client) (made : Messages) (done : answer ≡ Ok (answered made new)) where
     stepped : step plan w event ≡ of_client w volume (Ok (answered made new))
     stepped = whole ∙ ap (of_client w volume) done
 
@@ -80,20 +86,21 @@ module _ (plan own : Plan) (of : own ≡ plan) (w : World) (volume : ℕ) (asked
     client_after : (after plan w event).clients volume ≡ new
     client_after = ap (λ (s : Result Step Fault). (after_step w s).clients volume) stepped ∙ put-here w.clients volume new
 
-  pub attempt_makes : (attempt : Result Messages Fault) → IfOk attempt (λ made. answer ≡ Ok (answered made new)) → IfOk attempt (λ made. makes (step plan w event) ≡ Some (messages_of (listed made)))
-  attempt_makes (Ok made) done = client_makes made done
-  attempt_makes (Err fault) done = tt
+  module _ (new : Client) where
+    pub attempt_makes : (attempt : Result Messages Fault) → IfOk attempt (λ made. answer ≡ Ok (answered made new)) → IfOk attempt (λ made. makes (step plan w event) ≡ Some (messages_of (listed made)))
+    attempt_makes (Ok made) done = client_makes new made done
+    attempt_makes (Err fault) done = tt
 
-  pub attempt_durable : (attempt : Result Messages Fault) → IfOk attempt (λ made. answer ≡ Ok (answered made new))
-      → (durable : ℕ) → durable ≡ action_durable asked new
-      → OnOk attempt (durable ≡ durable_in (after plan w event) event)
-  attempt_durable (Ok made) done durable shown =
-      shown ∙ client_shows volume asked (after plan w event) new (client_after made done)
-      ∙ ap (durable_in (after plan w event)) (sym is)
-  attempt_durable (Err fault) done durable shown = tt
+    pub attempt_durable : (attempt : Result Messages Fault) → IfOk attempt (λ made. answer ≡ Ok (answered made new))
+        → (durable : ℕ) → durable ≡ action_durable asked new
+        → OnOk attempt (durable ≡ durable_in (after plan w event) event)
+    attempt_durable (Ok made) done durable shown =
+        shown ∙ client_shows volume asked (after plan w event) new (client_after new made done)
+        ∙ ap (durable_in (after plan w event)) (sym acts.is)
+    attempt_durable (Err fault) done durable shown = tt
 
-  -- what the actor's mark has seen then has the client as it is
-  pub attempt_state : (attempt : Result Messages Fault) → IfOk attempt (λ made. answer ≡ Ok (answered made new)) → OnErr attempt (new ≡ old) → (seen now : List Entry) → old ≡ (world_at plan seen).clients volume
-      → MatchResult attempt (λ made. world_at plan now ≡ after plan w event) (λ fault. now ≡ seen) → new ≡ (world_at plan now).clients volume
-  attempt_state (Ok made) done still seen now was stands = sym (ap (λ (v : World). v.clients volume) stands ∙ client_after made done)
-  attempt_state (Err fault) done still seen now was stands = still ∙ was ∙ ap (λ (es : List Entry). (world_at plan es).clients volume) (sym stands)
+    -- what the actor's mark has seen then has the client as it is
+    pub attempt_state : (attempt : Result Messages Fault) → IfOk attempt (λ made. answer ≡ Ok (answered made new)) → OnErr attempt (new ≡ old) → (seen now : List Entry) → old ≡ (world_at plan seen).clients volume
+        → MatchResult attempt (λ made. world_at plan now ≡ after plan w event) (λ fault. now ≡ seen) → new ≡ (world_at plan now).clients volume
+    attempt_state (Ok made) done still seen now was stands = sym (ap (λ (v : World). v.clients volume) stands ∙ client_after new made done)
+    attempt_state (Err fault) done still seen now was stands = still ∙ was ∙ ap (λ (es : List Entry). (world_at plan es).clients volume) (sym stands)

@@ -4,7 +4,7 @@ ghost use Rattle.std.specs.Prelude.{◌≡◌, length, ◌≢◌, Err, IfErr, On
 
 use crate::halt::Halt;
 use crate::node::NodeActor;
-use crate::step::{catch_up_and_reserve, refused};
+use crate::step::{refused, reserve_step};
 use journal::{Log, Pass, Receipt, Site};
 use segment_core::NodeAction;
 use std::alloc::Global;
@@ -56,7 +56,8 @@ impl<L: Site> NodeActor<L> {
             group,
             member,
         } = self;
-        catch_up_and_reserve(log, pass, cursor)?;
+        log.catch_up(pass);
+        reserve_step(log, pass, cursor)?;
         let event = Event::of_node(*group, *member, action);
         if u64::from(*group) >= log.joined() {
             return Err(refused(log, pass, event, Fault::NoActor));

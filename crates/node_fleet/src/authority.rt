@@ -9,7 +9,7 @@ ghost use Rattle.journal.proofs.Plans.{Plan-set};
 
 use crate::authority_attempt::try_step;
 use crate::halt::Halt;
-use crate::step::{catch_up_and_reserve, commit_or_note};
+use crate::step::{commit_or_note, reserve_step};
 use epochs::Authority;
 use journal::{ActorCursor, Log, Pass, Receipt, Site};
 use std::alloc::Global;
@@ -74,7 +74,8 @@ impl<L: Site> AuthorityActor<L> {
         ensures still { OnErr result (actor_authority self.new ≡ actor_authority self.old) }
     {
         let AuthorityActor { cursor, authority } = self;
-        if let Err(halt) = catch_up_and_reserve(log, pass, cursor) {
+        log.catch_up(pass);
+        if let Err(halt) = reserve_step(log, pass, cursor) {
             return Err(halt);
         }
         let done = try_step(alloc, authority, log.is_full(), action, slots);

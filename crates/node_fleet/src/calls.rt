@@ -1,6 +1,6 @@
 //! The public calls of a fleet.
 
-ghost use Rattle.std.specs.Prelude.{◌≡◌, IfErr, IfOk, OnErr, [], true, ◌++◌, ◌∷◌, ◌≢◌, ◌≤◌, All, None, Some};
+ghost use Rattle.std.specs.Prelude.{◌≡◌, IfErr, IfOk, OnErr, [], true, ◌++◌, ◌∷◌, ◌≢◌, ◌≤◌, All, Err, None, Some};
 ghost use Rattle.volume_model.specs.Common.{Deliver, Issue, is_named};
 ghost use Rattle.writer_core.specs.Changes.{changes_of};
 ghost use Rattle.world.specs.Actions.{authority_event, client_event, node_event};
@@ -9,6 +9,9 @@ ghost use Rattle.node_fleet.specs.Passes.{notes_of, seat_of, steps_of, IsEntrySa
 
 use crate::fleet::Fleet;
 use crate::gate::StepGate;
+use crate::halt::Halt;
+use crate::halting::refusal_of;
+use crate::locking::lock_spinning;
 use crate::mailbox::Letter;
 use crate::pass::Pass;
 use crate::site::FleetSite;
@@ -21,11 +24,30 @@ use writer_core::Change;
 
 impl<'a, L: FleetSite> Fleet<'a, L> {
     ghost use Rattle.volume_model.specs.declared.fault.Fault.TheVariants.{NoMessage};
+    ghost use Rattle.node_fleet.specs.declared.halt.Halt.TheVariants.{Refused};
+    ghost use Rattle.journal.specs.Passes as journal;
+    ghost use Rattle.node_fleet.specs.RecordsAttempt.{PassRecords};
     ghost use Rattle.world.specs.Slots.{slot_of};
     ghost use Rattle.board.specs.Board.{number_of, IsKept};
     ghost use Rattle.board.specs.declared.BoardStep.{BoardStep};
     ghost use Rattle.node_fleet.specs.Mail.{AddsCollected, AddsPosted};
     ghost use Rattle.node_fleet.specs.Mails.{ChangesAt};
+
+    // Takes the locks and attempts an action of the authority.
+    fn try_authority<R: Wait>(
+        &self,
+        rt: &R,
+        pass: &mut journal::Pass<'a, L>,
+        action: AuthorityAction,
+    ) -> Result<Receipt, Halt>
+        ensures recorded { PassRecords (authority_event action) result pass.old pass.new }
+        ensures seat { journal.seat_of pass.new ≡ journal.seat_of pass.old }
+        ensures found { result ≢ Err (Refused NoMessage) }
+    {
+        let mut actor = lock_spinning(rt, &self.authority);
+        let mut log = lock_spinning(rt, &self.journal);
+        actor.act(rt, self.alloc, &mut log, pass, action, self.slots)
+    }
 
     /// Makes a step of the authority: assigns a volume epoch, advances a group to a child of its configuration, makes a
     /// View for a client, or lets the next group join.
@@ -45,7 +67,10 @@ impl<'a, L: FleetSite> Fleet<'a, L> {
         ensures mail { IsMailSame pass.old pass.new }
         ensures found { IfErr result (λ fault. fault ≢ NoMessage) }
     {
-        self.enter_authority(rt, &mut pass.entered, action)
+        match self.try_authority(rt, &mut pass.entered, action) {
+            Ok(receipt) => Ok(receipt),
+            Err(halt) => Err(refusal_of(rt, halt)),
+        }
     }
 
     /// Makes a step of a client. After a Take or an Open it raises the board to the client's durable point, still under
@@ -120,7 +145,23 @@ impl<'a, L: FleetSite> Fleet<'a, L> {
         ensures seat { seat_of pass.new ≡ seat_of pass.old }
         ensures mail { IsMailSame pass.old pass.new }
     {
-        self.enter_delivery(rt, &mut pass.entered, group, member, message, gate)
+        let Some(node) = self.node(group, member) else {
+            let event = Event::Deliver {
+                group,
+                member,
+                message,
+            };
+            return Err(self.refuse_absent(rt, &mut pass.entered, event));
+        };
+        let mut message_ref = match self.find(rt, &mut pass.entered, group, member, message) {
+            Ok(message_ref) => message_ref,
+            Err(fault) => return Err(fault),
+        };
+        let entered = &mut pass.entered;
+        match self.try_deliver(rt, entered, node, group, member, &mut message_ref, gate) {
+            Ok(receipt) => Ok(receipt),
+            Err(halt) => Err(refusal_of(rt, halt)),
+        }
     }
 
     /// Makes a step of a node that takes no message: hydrates, restarts or offers a record.
@@ -142,7 +183,14 @@ impl<'a, L: FleetSite> Fleet<'a, L> {
         ensures seat { seat_of pass.new ≡ seat_of pass.old }
         ensures mail { IsMailSame pass.old pass.new }
     {
-        self.enter_node(rt, &mut pass.entered, group, member, action)
+        let Some(node) = self.node(group, member) else {
+            let event = Event::of_node(group, member, action);
+            return Err(self.refuse_absent(rt, &mut pass.entered, event));
+        };
+        match self.try_node(rt, &mut pass.entered, node, group, member, action) {
+            Ok(receipt) => Ok(receipt),
+            Err(halt) => Err(refusal_of(rt, halt)),
+        }
     }
 
     /// Returns the board's number: the greatest that any pass has raised (0 if none), and at least all that this pass
@@ -171,7 +219,8 @@ impl<'a, L: FleetSite> Fleet<'a, L> {
         ensures step { ChangesAt (slot_of group member) (λ before after. AddsPosted before (Some message) after)
             pass.old.mail pass.new.mail }
     {
-        self.mail.post(rt, &mut pass.mail, group, member, message);
+        self.mail
+            .send(rt, &mut pass.mail, group, member, Some(message));
     }
 
     /// Takes a node's oldest letter. Blocks while there is none. The letter's place is above all that this pass has
@@ -192,6 +241,6 @@ impl<'a, L: FleetSite> Fleet<'a, L> {
         ensures step { ChangesAt (slot_of group member) (λ before after. AddsPosted before None after) pass.old.mail
             pass.new.mail }
     {
-        self.mail.close_mailbox(rt, &mut pass.mail, group, member);
+        self.mail.send(rt, &mut pass.mail, group, member, None);
     }
 }

@@ -4,7 +4,6 @@ ghost use Rattle.std.specs.Prelude.{false, ◌≡◌, IfErr, IfOk, Ok, OnErr, On
 ghost use Rattle.writer_core.specs.Writers.{answered};
 ghost use Rattle.world.specs.Actions.{client_acted, message_found};
 ghost use Rattle.world.specs.Clients.{client_plan, client_volume, seen_client, IsSameClient};
-ghost use Rattle.journal.specs.PassSteps.{durable_of};
 ghost use Rattle.node_fleet.specs.Actions.{action_durable, HasFound};
 ghost use Rattle.node_fleet.specs.Attempts.{JudgedOf};
 
@@ -45,29 +44,20 @@ pub fn try_step(
     client.act(alloc, action, found)
 }
 
-/// Returns a client's durable point, 0 before it opens.
-#[inline(always)]
-fn durable_point(client: &Client) -> u64
-    ensures { result ≡ durable_of (seen_client client.now) }
-{
-    match client.state() {
-        ClientState::Unborn => 0,
-        ClientState::Recovery(_) => 0,
-        ClientState::Writer(writer) => writer.durable_point(),
-    }
-}
-
-/// Returns the durable point for a step's entry: the client's if the action may move it, else 0.
+/// Returns the durable point for a step's entry: the client's if the action may move it, else 0. A client that hasn't
+/// opened has durable point 0.
 #[inline(always)]
 pub(crate) fn shown(client: &Client, action: ClientAction<'_>) -> u64
     ensures { result ≡ action_durable action.entry (seen_client client.now) }
 {
     match action {
-        ClientAction::Take { .. } => durable_point(client),
-        ClientAction::Open => durable_point(client),
-        ClientAction::Issue(_) => 0,
-        ClientAction::Cut => 0,
-        ClientAction::Resend { .. } => 0,
-        ClientAction::Read { .. } => 0,
+        ClientAction::Take { .. } | ClientAction::Open => match client.state() {
+            ClientState::Unborn | ClientState::Recovery(_) => 0,
+            ClientState::Writer(writer) => writer.durable_point(),
+        },
+        ClientAction::Issue(_)
+        | ClientAction::Cut
+        | ClientAction::Resend { .. }
+        | ClientAction::Read { .. } => 0,
     }
 }

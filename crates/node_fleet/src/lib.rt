@@ -4,7 +4,6 @@
 mod action;
 mod authority;
 mod authority_attempt;
-mod authority_calls;
 mod base;
 mod calls;
 mod client;

@@ -123,8 +123,15 @@ impl Mailboxes {
         Ok((mailboxes, seats))
     }
 
-    // Posts a letter to a node. Blocks while the mailbox is full.
-    fn send<R: Wait>(&self, rt: &R, seats: &mut MailSeats, group: u8, member: u8, letter: Letter)
+    /// Posts a letter to a node. Blocks while the mailbox is full. Allocates nothing.
+    pub fn send<R: Wait>(
+        &self,
+        rt: &R,
+        seats: &mut MailSeats,
+        group: u8,
+        member: u8,
+        letter: Letter,
+    )
         requires node { has_mailbox self.now group member ≡ true }
         requires seats { AreSeatsOf self.now seats.old }
         ensures same { AreSeatsOf self.now seats.new }
@@ -139,28 +146,6 @@ impl Mailboxes {
             unreachable!()
         };
         mailbox.put(rt, seat, letter);
-    }
-
-    /// Posts a message's number to a node. Blocks while the mailbox is full. Allocates nothing.
-    pub fn post<R: Wait>(&self, rt: &R, seats: &mut MailSeats, group: u8, member: u8, message: u64)
-        requires node { has_mailbox self.now group member ≡ true }
-        requires seats { AreSeatsOf self.now seats.old }
-        ensures same { AreSeatsOf self.now seats.new }
-        ensures step { ChangesAt (slot_of group member) (λ before after. AddsPosted before (Some message) after)
-            seats.old seats.new }
-    {
-        self.send(rt, seats, group, member, Some(message));
-    }
-
-    /// Posts the closing letter to a node. Blocks while the mailbox is full. Allocates nothing.
-    pub fn close_mailbox<R: Wait>(&self, rt: &R, seats: &mut MailSeats, group: u8, member: u8)
-        requires node { has_mailbox self.now group member ≡ true }
-        requires seats { AreSeatsOf self.now seats.old }
-        ensures same { AreSeatsOf self.now seats.new }
-        ensures step { ChangesAt (slot_of group member) (λ before after. AddsPosted before None after) seats.old
-            seats.new }
-    {
-        self.send(rt, seats, group, member, None);
     }
 
     /// Takes a node's oldest letter. Blocks while there is none. The letter's place is above all that this caller has

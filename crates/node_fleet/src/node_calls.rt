@@ -6,12 +6,11 @@ ghost use Rattle.journal.specs.Passes.{journal_of, message_ref_number, notes_of,
 ghost use Rattle.world.specs.Events.{event_of};
 ghost use Rattle.node_fleet.specs.RecordsAttempt.{AddsNote, PassRecords};
 ghost use Rattle.world.specs.Actions.{node_event};
-ghost use Rattle.node_fleet.specs.Calls.{IsOfNone, PassRecordsCall, Unmade};
+ghost use Rattle.node_fleet.specs.Calls.{IsOfNone, Unmade};
 
 use crate::fleet::Fleet;
 use crate::gate::StepGate;
 use crate::halt::Halt;
-use crate::halting::refusal_of;
 use crate::locking::lock_spinning;
 use crate::node::NodeActor;
 use crate::site::FleetSite;
@@ -26,7 +25,7 @@ impl<'a, L: FleetSite> Fleet<'a, L> {
     ghost use Rattle.node_fleet.specs.declared.halt.Halt.TheVariants.{Refused};
 
     // Returns the node of a member of a group, or `None` if the plan doesn't name the member.
-    fn node(&self, group: u8, member: u8) -> Option<&Mutex<NodeActor<L>>>
+    pub(crate) fn node(&self, group: u8, member: u8) -> Option<&Mutex<NodeActor<L>>>
         ensures { IfNone result (is_named L.plan group member ≡ false) }
     {
         let slot = slot(self.nodes.len(), group, member)?;
@@ -52,7 +51,12 @@ impl<'a, L: FleetSite> Fleet<'a, L> {
     }
 
     // Refuses the event of a node that the plan doesn't name.
-    fn refuse_absent<R: Wait>(&self, rt: &R, pass: &mut Pass<'a, L>, event: Event) -> Fault
+    pub(crate) fn refuse_absent<R: Wait>(
+        &self,
+        rt: &R,
+        pass: &mut Pass<'a, L>,
+        event: Event,
+    ) -> Fault
         requires of { IsOfNone L.plan (event_of event) }
         ensures steps { steps_of pass.new ≡ steps_of pass.old }
         ensures seat { seat_of pass.new ≡ seat_of pass.old }
@@ -65,7 +69,7 @@ impl<'a, L: FleetSite> Fleet<'a, L> {
 
     // Looks a message up for a node. Notes `NoActor` if the node's group hasn't joined. Returns `NoMessage` if no step
     // has made the message.
-    fn find<R: Wait>(
+    pub(crate) fn find<R: Wait>(
         &self,
         rt: &R,
         pass: &mut Pass<'a, L>,
@@ -96,7 +100,7 @@ impl<'a, L: FleetSite> Fleet<'a, L> {
     }
 
     // Takes the node's lock and attempts a delivery.
-    fn try_deliver<R: Wait, G: StepGate>(
+    pub(crate) fn try_deliver<R: Wait, G: StepGate>(
         &self,
         rt: &R,
         pass: &mut Pass<'a, L>,
@@ -118,40 +122,8 @@ impl<'a, L: FleetSite> Fleet<'a, L> {
         actor.react(rt, self.alloc, &self.journal, pass, message_ref, gate)
     }
 
-    // Delivers a message and records it in the pass.
-    pub(crate) fn enter_delivery<R: Wait, G: StepGate>(
-        &self,
-        rt: &R,
-        pass: &mut Pass<'a, L>,
-        group: u8,
-        member: u8,
-        message: u64,
-        gate: &G,
-    ) -> Result<Receipt, Fault>
-        ensures recorded { PassRecordsCall (Deliver group member message) result pass.old pass.new }
-        ensures unmade { IfErr result (λ fault. Unmade message (steps_of pass.old) fault) }
-        ensures seat { seat_of pass.new ≡ seat_of pass.old }
-    {
-        let Some(node) = self.node(group, member) else {
-            let event = Event::Deliver {
-                group,
-                member,
-                message,
-            };
-            return Err(self.refuse_absent(rt, pass, event));
-        };
-        let mut message_ref = match self.find(rt, pass, group, member, message) {
-            Ok(message_ref) => message_ref,
-            Err(fault) => return Err(fault),
-        };
-        match self.try_deliver(rt, pass, node, group, member, &mut message_ref, gate) {
-            Ok(receipt) => Ok(receipt),
-            Err(halt) => Err(refusal_of(rt, halt)),
-        }
-    }
-
     // Takes the locks and attempts a node's action.
-    fn try_node<R: Wait>(
+    pub(crate) fn try_node<R: Wait>(
         &self,
         rt: &R,
         pass: &mut Pass<'a, L>,
@@ -170,27 +142,5 @@ impl<'a, L: FleetSite> Fleet<'a, L> {
         }
         let mut log = lock_spinning(rt, &self.journal);
         actor.act(rt, self.alloc, &mut log, pass, action)
-    }
-
-    // Performs a node's action and records it in the pass.
-    pub(crate) fn enter_node<R: Wait>(
-        &self,
-        rt: &R,
-        pass: &mut Pass<'a, L>,
-        group: u8,
-        member: u8,
-        action: NodeAction,
-    ) -> Result<Receipt, Fault>
-        ensures recorded { PassRecordsCall (node_event group member action) result pass.old pass.new }
-        ensures found { IfErr result (λ fault. fault ≢ NoMessage) }
-        ensures seat { seat_of pass.new ≡ seat_of pass.old }
-    {
-        let Some(node) = self.node(group, member) else {
-            return Err(self.refuse_absent(rt, pass, Event::of_node(group, member, action)));
-        };
-        match self.try_node(rt, pass, node, group, member, action) {
-            Ok(receipt) => Ok(receipt),
-            Err(halt) => Err(refusal_of(rt, halt)),
-        }
     }
 }

@@ -1,12 +1,12 @@
 //! Reactions of a fleet's nodes to messages.
 
-ghost use Rattle.std.specs.Prelude.{◌≡◌, length, ◌≢◌, IfErr, IfOk, Ok, OnErr, Some};
+ghost use Rattle.std.specs.Prelude.{◌≡◌, length, ◌≢◌, IfErr, Ok, OnErr, Some};
 
 use crate::gate::StepGate;
 use crate::halt::Halt;
 use crate::locking::lock_spinning;
 use crate::node::NodeActor;
-use crate::step::{catch_up_and_reserve, refused};
+use crate::step::{refused, reserve_step};
 use journal::{Log, MessageRef, Pass, Receipt, Site};
 use segment_core::Prepared;
 use std::alloc::Global;
@@ -24,16 +24,13 @@ impl<L: Site> NodeActor<L> {
     ghost use Rattle.journal.specs.Passes.{journal_of, message_ref_message, message_ref_number, seat_of};
     ghost use Rattle.node_fleet.specs.declared.halt.Halt.TheVariants.{Refused};
     ghost use Rattle.node_fleet.specs.RecordsAttempt.{Enters, IsExact, PassRecords};
-    ghost use Rattle.node_fleet.specs.Nodes.{actor_group, actor_member, actor_node, delivery_of};
+    ghost use Rattle.node_fleet.specs.Nodes.{actor_node, delivery_of, PreparesReaction, Reacts};
 
     /// Prepares the reaction to a message under the node's lock: finds every refusal, allocates, and computes the
     /// answers. The node is unchanged.
     #[inline(always)]
     fn prepare(&mut self, alloc: Global, message: &Message) -> Result<Prepared, Fault>
-        ensures ready { IfOk result (λ prepared. IsReady self.new.segment prepared) }
-        ensures step { IfOk result (λ prepared. delivery_of self.new (Some (message_of message.now))
-            ≡ Ok (step_of prepared (node_of self.new.segment))) }
-        ensures fails { IfErr result (λ fault. Fails fault (delivery_of self.new (Some (message_of message.now)))) }
+        ensures prepared { PreparesReaction (Some (message_of message.now)) result self.new }
         ensures same { (self.new.group ≡ self.old.group) × (self.new.member ≡ self.old.member)
             × (actor_node self.new ≡ actor_node self.old) }
     {
@@ -43,11 +40,7 @@ impl<L: Site> NodeActor<L> {
     /// Prepares the reaction to a Write, as [`prepare`](NodeActor::prepare) does.
     #[inline(always)]
     fn prepare_write(&mut self, alloc: Global, write: &Write) -> Result<Prepared, Fault>
-        ensures ready { IfOk result (λ prepared. IsReady self.new.segment prepared) }
-        ensures step { IfOk result (λ prepared. delivery_of self.new (Some (message_of (Message.Write write.now)))
-            ≡ Ok (step_of prepared (node_of self.new.segment))) }
-        ensures fails { IfErr result (λ fault. Fails fault
-            (delivery_of self.new (Some (message_of (Message.Write write.now))))) }
+        ensures prepared { PreparesReaction (Some (message_of (Message.Write write.now))) result self.new }
         ensures same { (self.new.group ≡ self.old.group) × (self.new.member ≡ self.old.member)
             × (actor_node self.new ≡ actor_node self.old) }
     {
@@ -85,7 +78,8 @@ impl<L: Site> NodeActor<L> {
             member,
         } = self;
         log.has(message_ref);
-        catch_up_and_reserve(log, pass, cursor)?;
+        log.catch_up(pass);
+        reserve_step(log, pass, cursor)?;
         let event = Event::Deliver {
             group: *group,
             member: *member,
@@ -122,7 +116,8 @@ impl<L: Site> NodeActor<L> {
         ensures still { actor_node self.new ≡ actor_node self.old }
     {
         log.has(message_ref);
-        catch_up_and_reserve(log, pass, &mut self.cursor)?;
+        log.catch_up(pass);
+        reserve_step(log, pass, &mut self.cursor)?;
         let event = Event::Deliver {
             group: self.group,
             member: self.member,
@@ -132,32 +127,6 @@ impl<L: Site> NodeActor<L> {
             return Err(refused(log, pass, event, Fault::NoActor));
         }
         Err(refused(log, pass, event, fault))
-    }
-
-    /// Shows the prepared answers to the gate, then takes the journal's lock and applies the reaction.
-    #[inline(always)]
-    fn accept<'a, R: Wait, G: StepGate>(
-        &mut self,
-        rt: &R,
-        journal: &Mutex<Log<'a, L>>,
-        pass: &mut Pass<'a, L>,
-        message_ref: &mut MessageRef<'a, L>,
-        gate: &G,
-        prepared: Prepared,
-    ) -> Result<Receipt, Halt>
-        requires ready { IsReady self.old.segment prepared }
-        requires step { delivery_of self.old (message_ref_message message_ref.old)
-            ≡ Ok (step_of prepared (node_of self.old.segment)) }
-        ensures recorded { PassRecords (Deliver (actor_group self.old) (actor_member self.old)
-            (message_ref_number message_ref.old)) result pass.old pass.new }
-        ensures seat { seat_of pass.new ≡ seat_of pass.old }
-        ensures found { IfErr result (λ halt. halt ≢ Refused NoMessage) }
-        ensures same { (actor_group self.new ≡ actor_group self.old) × (actor_member self.new ≡ actor_member self.old) }
-        ensures still { OnErr result (actor_node self.new ≡ actor_node self.old) }
-    {
-        gate.prepared(prepared.answers());
-        let mut log = lock_spinning(rt, journal);
-        self.receive(rt, &mut log, pass, message_ref, prepared)
     }
 
     /// Takes the journal's lock and notes that the node refuses a message. Out of line, since refusals are rare.
@@ -171,15 +140,34 @@ impl<L: Site> NodeActor<L> {
         fault: Fault,
     ) -> Result<Receipt, Halt>
         requires fails { Fails fault (delivery_of self.old (message_ref_message message_ref.old)) }
-        ensures recorded { PassRecords (Deliver (actor_group self.old) (actor_member self.old)
-            (message_ref_number message_ref.old)) result pass.old pass.new }
-        ensures seat { seat_of pass.new ≡ seat_of pass.old }
-        ensures found { IfErr result (λ halt. halt ≢ Refused NoMessage) }
-        ensures same { (actor_group self.new ≡ actor_group self.old) × (actor_member self.new ≡ actor_member self.old) }
-        ensures still { OnErr result (actor_node self.new ≡ actor_node self.old) }
+        ensures { Reacts (message_ref_number message_ref.old) result self.old self.new pass.old pass.new }
     {
         let mut log = lock_spinning(rt, journal);
         self.decline(&mut log, pass, message_ref, fault)
+    }
+
+    /// Shows the prepared answers to the gate, then takes the journal's lock and applies the reaction. Notes a refusal.
+    #[inline(always)]
+    fn finish<'a, R: Wait, G: StepGate>(
+        &mut self,
+        rt: &R,
+        journal: &Mutex<Log<'a, L>>,
+        pass: &mut Pass<'a, L>,
+        message_ref: &mut MessageRef<'a, L>,
+        gate: &G,
+        prepared: Result<Prepared, Fault>,
+    ) -> Result<Receipt, Halt>
+        requires { PreparesReaction (message_ref_message message_ref.old) prepared self.old }
+        ensures { Reacts (message_ref_number message_ref.old) result self.old self.new pass.old pass.new }
+    {
+        match prepared {
+            Ok(prepared) => {
+                gate.prepared(prepared.answers());
+                let mut log = lock_spinning(rt, journal);
+                self.receive(rt, &mut log, pass, message_ref, prepared)
+            }
+            Err(fault) => self.reject(rt, journal, pass, message_ref, fault),
+        }
     }
 
     /// The general case of [`react`](NodeActor::react), out of line so that the write path keeps a small stack frame.
@@ -193,17 +181,10 @@ impl<L: Site> NodeActor<L> {
         message_ref: &mut MessageRef<'a, L>,
         gate: &G,
     ) -> Result<Receipt, Halt>
-        ensures recorded { PassRecords (Deliver (actor_group self.old) (actor_member self.old)
-            (message_ref_number message_ref.old)) result pass.old pass.new }
-        ensures seat { seat_of pass.new ≡ seat_of pass.old }
-        ensures found { IfErr result (λ halt. halt ≢ Refused NoMessage) }
-        ensures same { (actor_group self.new ≡ actor_group self.old) × (actor_member self.new ≡ actor_member self.old) }
-        ensures still { OnErr result (actor_node self.new ≡ actor_node self.old) }
+        ensures { Reacts (message_ref_number message_ref.old) result self.old self.new pass.old pass.new }
     {
-        match self.prepare(alloc, message_ref.message()) {
-            Ok(prepared) => self.accept(rt, journal, pass, message_ref, gate, prepared),
-            Err(fault) => self.reject(rt, journal, pass, message_ref, fault),
-        }
+        let prepared = self.prepare(alloc, message_ref.message());
+        self.finish(rt, journal, pass, message_ref, gate, prepared)
     }
 
     /// Delivers a message to the node, whose lock the caller holds: prepares the reaction, shows the answers to the
@@ -228,19 +209,12 @@ impl<L: Site> NodeActor<L> {
         message_ref: &mut MessageRef<'a, L>,
         gate: &G,
     ) -> Result<Receipt, Halt>
-        ensures recorded { PassRecords (Deliver (actor_group self.old) (actor_member self.old)
-            (message_ref_number message_ref.old)) result pass.old pass.new }
-        ensures seat { seat_of pass.new ≡ seat_of pass.old }
-        ensures found { IfErr result (λ halt. halt ≢ Refused NoMessage) }
-        ensures same { (actor_group self.new ≡ actor_group self.old) × (actor_member self.new ≡ actor_member self.old) }
-        ensures still { OnErr result (actor_node self.new ≡ actor_node self.old) }
+        ensures { Reacts (message_ref_number message_ref.old) result self.old self.new pass.old pass.new }
     {
         // Most messages are Writes: compiled on their own, they take a tenth fewer instructions.
         if let Message::Write(write) = message_ref.message() {
-            return match self.prepare_write(alloc, write) {
-                Ok(prepared) => self.accept(rt, journal, pass, message_ref, gate, prepared),
-                Err(fault) => self.reject(rt, journal, pass, message_ref, fault),
-            };
+            let prepared = self.prepare_write(alloc, write);
+            return self.finish(rt, journal, pass, message_ref, gate, prepared);
         }
         self.react_any(rt, alloc, journal, pass, message_ref, gate)
     }

@@ -45,29 +45,6 @@ pub(crate) fn reserve_step<'a, L: Site>(
     Ok(())
 }
 
-/// Brings the pass up to the end of the journal, and does the same.
-#[inline(always)]
-pub(crate) fn catch_up_and_reserve<'a, L: Site>(
-    log: &mut Log<'a, L>,
-    pass: &mut Pass<'a, L>,
-    cursor: &mut ActorCursor<L>,
-) -> Result<(), Halt>
-    ensures log { journal_of log.new ≡ journal_of log.old }
-    ensures steps { steps_of pass.new ≡ steps_of pass.old }
-    ensures notes { notes_of pass.new ≡ notes_of pass.old }
-    ensures seat { seat_of pass.new ≡ seat_of pass.old }
-    ensures cursor { (marked cursor.new ≡ marked cursor.old) × (cursor_number cursor.new ≡ cursor_number cursor.old)
-        × (seen_at cursor.new ≡ seen_at cursor.old) }
-    ensures ready { IfOk result (λ _. IsReadyToStep cursor.new log.new pass.new) }
-    ensures agree { IfOk result (λ _. Agree (marked cursor.old) (world_at L.plan (seen_at cursor.old))
-        (world_of log.new)) }
-    ensures early { IfErr result (λ halt. IsEarly halt) }
-    ensures stale { result ≡ Err StaleCursor → IsStale cursor.old log.old }
-{
-    log.catch_up(pass);
-    reserve_step(log, pass, cursor)
-}
-
 /// Notes a refusal, except `NoMemory` and `NoMessage`. Out of line, since refusals are rare.
 #[inline(never)]
 pub fn refused<'a, L: Site>(

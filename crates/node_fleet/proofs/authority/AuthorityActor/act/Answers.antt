@@ -15,7 +15,7 @@ commit_or_note-requires-clause-exact g c =
     let self = c.args.self.now in
     let plan = g.L.Site.plan in
     let action = c.args.action in
-    let es = journal_of c.catch_up_and_reserve.new.log in
+    let es = journal_of c.reserve_step.new.log in
     let w = world_at plan es in
     let own = authority_plan self.authority in
     let old = authority_of self.authority in
@@ -29,19 +29,19 @@ commit_or_note-requires-clause-exact g c =
     c.try_step-done.ensures.refused
 
 pub invariant_of-self-2-clause-who : goal.invariant_of-self-2-clause-who
-invariant_of-self-2-clause-who g c = c.commit_or_note.ensures.cursor ∙ c.catch_up_and_reserve.ensures.cursor.0 ∙ c.args.self.now.who
+invariant_of-self-2-clause-who g c = c.commit_or_note.ensures.cursor ∙ c.reserve_step.ensures.cursor.0 ∙ c.args.self.now.who
 
 pub invariant_of-self-2-clause-state : goal.invariant_of-self-2-clause-state
 invariant_of-self-2-clause-state g c =
     let self = c.args.self.now in
     let plan = g.L.Site.plan in
     let action = c.args.action in
-    let w = world_at plan (journal_of c.catch_up_and_reserve.new.log) in
+    let w = world_at plan (journal_of c.reserve_step.new.log) in
     let old = authority_of self.authority in
     let new = authority_of c.try_step-done.new.authority in
     let event = event_of c.of_authority.result in
     let here = authority_here (marked self.cursor) (world_at plan (seen_at self.cursor)) w old self.who c.in_default.ensures.agree self.state in
-    let was = self.state ∙ ap (λ (l : List Entry). (world_at plan l).authority) (sym c.catch_up_and_reserve.ensures.cursor.2) in
+    let was = self.state ∙ ap (λ (l : List Entry). (world_at plan l).authority) (sym c.reserve_step.ensures.cursor.2) in
     ruled_state plan (authority_plan self.authority) self.plan w action old new event here c.of_authority.ensures
     c.try_step-done.result c.try_step-done.ensures.done c.try_step-done.ensures.still
-    (seen_at c.catch_up_and_reserve.new.cursor) (seen_at c.commit_or_note.new.cursor) was c.commit_or_note.ensures.seen
+    (seen_at c.reserve_step.new.cursor) (seen_at c.commit_or_note.new.cursor) was c.commit_or_note.ensures.seen

@@ -5,7 +5,7 @@ use Rattle.world.specs.Clients.{client_plan, client_volume, seen_client}
 use Rattle.world.specs.Events.{event_of}
 use Rattle.journal.specs.Passes.{journal_of}
 use Rattle.world.specs.Actions.{action_event, client_acted, client_event, message_found}
-use Rattle.node_fleet.proofs.Acting.{event_is, refuses_alike}
+use Rattle.node_fleet.proofs.Acting.{event_is, refuses_alike, Acts}
 use Rattle.node_fleet.proofs.Exactly.{exact_of}
 use Rattle.node_fleet.proofs.fleet.Fleet.refuse_unborn.Goals as goal
 
@@ -26,7 +26,7 @@ refused-requires-clause-exact g c =
     let split = sym (ap action_event c.in-Client.is) ∙ c.split.ensures in
     let is : event ≡ client_event volume action = event_is event volume c.in-Client.field-0 action split who in
     let of : client_plan client ≡ plan = own.plan_is ∙ ap checked_model c.in-Ok.ensures.cases ∙ c.args.self.now.plan_is in
-    let same = refuses_alike plan (client_plan client) of w volume action found old old event here is c.requires.found in
+    let acts : Acts plan (client_plan client) w volume action found old event = record { of = of; here = here; is = is; heard = c.requires.found } in
     exact_of plan g.L.Site.slots (length g.L.Site.cells) es event ⊥ c.is_full.result
-    (client_acted found action (client_plan client) volume old) (λ h. absurd h) c.is_full.ensures same
+    (client_acted found action (client_plan client) volume old) (λ h. absurd h) c.is_full.ensures (refuses_alike acts)
     c.in-Err-try_step.fault c.in-Err-try_step.ensures.refused

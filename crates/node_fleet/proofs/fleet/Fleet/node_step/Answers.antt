@@ -1,11 +1,11 @@
 use Rattle.journal.specs.Passes.{notes_of, steps_of}
 use Rattle.world.specs.Actions.{node_event}
 use Rattle.node_fleet.proofs.Calling.{lost_halt, records_refused}
-use Rattle.node_fleet.proofs.fleet.Fleet.enter_node.Goals as goal
+use Rattle.node_fleet.proofs.fleet.Fleet.node_step.Goals as goal
 
 pub returns-in-Err-clause-recorded : goal.returns-in-Err-clause-recorded
 returns-in-Err-clause-recorded g c =
-    let first = c.args.pass.now in
+    let first = c.args.pass.now.entered in
     let new = c.try_node.new.pass in
     records_refused (node_event c.args.group c.args.member c.args.action) c.in-Err.halt c.refusal_of.result
     (steps_of first) (steps_of new) (notes_of first) (notes_of new) c.refusal_of.ensures c.in-Err.ensures.recorded
