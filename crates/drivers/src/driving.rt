@@ -9,7 +9,7 @@ ghost use Rattle.journal.specs.Tokens.{ids_of};
 ghost use Rattle.node_fleet.specs.Bases.{passes_of, IsBaseOf};
 ghost use Rattle.drivers.specs.Driven.{IsDriven};
 
-use crate::assignments::{Assignment, assignments};
+use crate::assignments::assignments;
 use crate::completion_table::{CompletionTable, RunCounts};
 use crate::nodes::{Node, receivers};
 use crate::reading::Script;
@@ -71,30 +71,15 @@ fn contexts<'f, 'a, L: FleetSite>(
     Ok(contexts)
 }
 
-/// What all threads of a run borrow.
-#[derive(Drop)]
-struct Stage {
-    assignments: Vec<Assignment>,
-    completions: CompletionTable,
-}
-
 /// Runs drivers and nodes on threads and takes their passes back.
 fn ran<'f, 'a, L: FleetSite + Send + Sync, R: Threads + Wait + Sync>(
     rt: &'f R,
     alloc: Global,
-    fleet: &'f Fleet<'a, L>,
-    stage: &'f Stage,
-    script: &'f Script,
+    run: Run<'f, 'a, L>,
     workers: u8,
     nodes: &'f [Node],
     mut passes: Vec<Pass<'a, L>>,
 ) -> Result<Vec<Pass<'a, L>>, AllocError> {
-    let run = Run {
-        fleet,
-        orders: &script.orders,
-        assignments: &stage.assignments,
-        completions: &stage.completions,
-    };
     let parts = parts(alloc, workers, nodes)?;
     let contexts = contexts(alloc, &run, parts, &mut passes)?;
     run_all(rt, alloc, run, contexts, usize::from(workers), nodes)
@@ -142,37 +127,7 @@ fn ended<'a, L: FleetSite>(
     })
 }
 
-/// Runs a script on a fleet, with a pass for each driver and each node, and closes it.
-fn drive_over<'a, L: FleetSite + Send + Sync, R: Threads + Wait + Sync>(
-    rt: &R,
-    alloc: Global,
-    fleet: Fleet<'a, L>,
-    passes: Vec<Pass<'a, L>>,
-    plan: &Arc<CheckedPlan>,
-    script: &Script,
-    workers: u8,
-    nodes: &[Node],
-) -> Result<Driven, Fault>
-    requires plan { checked_model (arc_value plan.now) ≡ L.plan }
-    requires passes { (vec_len passes ≡ L.parts) × (0 < vec_len passes) }
-    requires workers { 1 ≤ workers }
-    ensures driven { IfOk result (IsDriven (checked_model (arc_value plan.now)) (vec_len script.now.orders)) }
-    ensures memory { IfErr result (λ fault. fault ≡ NoMemory) }
-{
-    let stage = Stage {
-        assignments: assignments(alloc, script, workers)?,
-        completions: CompletionTable::new(alloc, script.orders.len())?,
-    };
-    let count = passes.len();
-    let passes = ran(rt, alloc, &fleet, &stage, script, workers, nodes, passes)?;
-    if passes.len() != count {
-        return Err(Fault::NoMemory);
-    }
-    let counts = stage.completions.counts(rt)?;
-    ended(alloc, fleet, passes, plan, counts)
-}
-
-/// Runs a script on a new fleet, with a thread for each of these nodes.
+/// Runs a script on a new fleet, with a pass for each driver and each of these nodes, and closes it.
 fn drive_fleet<L: FleetSite + Send + Sync, R: Threads + Wait + Sync>(
     rt: &R,
     alloc: Global,
@@ -193,7 +148,21 @@ fn drive_fleet<L: FleetSite + Send + Sync, R: Threads + Wait + Sync>(
     ensures memory { IfErr result (λ fault. fault ≡ NoMemory) }
 {
     let (fleet, passes) = Fleet::<L>::new(alloc, row, base, plan.clone()?, SLOTS)?;
-    drive_over(rt, alloc, fleet, passes, plan, script, workers, nodes)
+    let assignments = assignments(alloc, script, workers)?;
+    let completions = CompletionTable::new(alloc, script.orders.len())?;
+    let run = Run {
+        fleet: &fleet,
+        orders: &script.orders,
+        assignments: &assignments,
+        completions: &completions,
+    };
+    let count = passes.len();
+    let passes = ran(rt, alloc, run, workers, nodes, passes)?;
+    if passes.len() != count {
+        return Err(Fault::NoMemory);
+    }
+    let counts = completions.counts(rt)?;
+    ended(alloc, fleet, passes, plan, counts)
 }
 
 /// Runs a script over a checked plan on a fleet with 64 client slots. `workers` drivers take the lines in turn, and

@@ -10,22 +10,13 @@ use volume_model::Fault;
 /// With a number up to this one any further digit gives a number below 2^64.
 const TAKES_ANY_DIGIT: u64 = 1_844_674_407_370_955_160;
 
-/// Returns whether there is a digit, and no leading zero.
-#[inline(always)]
-fn begins_numeral(digits: &[u8]) -> bool
-    ensures { result ≡ (nat_le 1 (length digits.now) && (nat_le (length digits.now) 1 || not
-        (slice_index digits.now 0 == 48))) }
-{
-    !digits.is_empty() && (digits.len() <= 1 || digits[0] != b'0')
-}
-
-/// Returns whether digits with this value are a numeral of at most `most`.
+/// Returns whether digits with this value are a numeral of at most `most`: there is a digit, and no leading zero.
 #[inline(always)]
 fn is_number(digits: &[u8], value: u64, most: u64) -> bool
     ensures { result ≡ (nat_le 1 (length digits.now) && (nat_le (length digits.now) 1 || not
         (slice_index digits.now 0 == 48)) && nat_le value most) }
 {
-    begins_numeral(digits) && value <= most
+    !digits.is_empty() && (digits.len() <= 1 || digits[0] != b'0') && value <= most
 }
 
 /// Returns the number with one more decimal digit, if it is below 2^64.

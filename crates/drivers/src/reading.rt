@@ -1,6 +1,6 @@
 //! Reads the lines of a script: at most one event a line.
 
-ghost use Rattle.std.specs.Prelude.{◌≡◌, ◌<◌, ◌≤◌, ◌↔◌, IfOk, IsTrue, OnOk, length, vec_len};
+ghost use Rattle.std.specs.Prelude.{◌≡◌, ◌<◌, ◌↔◌, IfOk, IsTrue, OnOk, length, vec_len};
 ghost use Rattle.std.specs.Str.{IsUtf8};
 ghost use Rattle.drivers.specs.Seen.{Seen, asked_by, seen};
 ghost use Rattle.drivers.specs.Named.{AddsFirst, IsFirstLine};
@@ -182,14 +182,6 @@ fn stop_at(fault: Fault, line: usize) -> ScriptFault
     }
 }
 
-/// Returns the number of lines to reserve room for: one more than there are newlines, and at most as many as a script
-/// may have.
-fn lines_at_most(text: &[u8]) -> usize
-    ensures { result ≤ SCRIPT_LINES }
-{
-    (count_of(text, b'\n') + 1).min(SCRIPT_LINES)
-}
-
 /// Reads a script: at most 100,000 lines in 16,777,216 bytes, each of them UTF-8.
 ///
 /// # Errors
@@ -197,7 +189,8 @@ fn lines_at_most(text: &[u8]) -> usize
 pub fn read_script(alloc: Global, text: &[u8]) -> Result<Script, ScriptFault>
     ensures { ReadsScript text.now result }
 {
-    let lines = lines_at_most(text);
+    // One more than there are newlines, and at most as many as a script may have.
+    let lines = (count_of(text, b'\n') + 1).min(SCRIPT_LINES);
     let mut script = Script {
         steps: Vec::with_capacity(alloc, lines)?,
         orders: Vec::with_capacity(alloc, lines)?,

@@ -23,8 +23,8 @@ fn start<'s, 'f: 's, 'a: 's, E, L: FleetSite + Send + Sync + 's, R: Wait + Sync>
     Ok(threads)
 }
 
-/// Starts all threads in a scope and lets them run. Joins the drivers, which are the first `drivers` of them, closes the
-/// nodes' mailboxes, and joins the nodes. Returns all passes. If a thread couldn't be started, none runs.
+/// Starts all threads in a scope and lets them run. Joins the drivers, which are the first `drivers` of them, closes
+/// the nodes' mailboxes, and joins the nodes. Returns all passes. If a thread couldn't be started, none runs.
 fn run_in<'s, 'f: 's, 'a: 's, E, L: FleetSite + Send + Sync + 's, R: Threads + Wait + Sync>(
     scope: &Scope<'s, E>,
     rt: &'f R,
