@@ -6,16 +6,6 @@ use crate::written::{Delivery, Named, Receiver};
 use std::ops::Range;
 
 impl Schedule {
-    /// Delivers the StepTo of a group's last advance to all its members.
-    fn step_all(&mut self, group: u8) {
-        let line = self.last_advance(group);
-        if line > 0 {
-            let members = self.members(group);
-            let nodes = Receiver::Nodes(group);
-            self.deliver_each((line, 1), group, members.as_slice(), nodes);
-        }
-    }
-
     /// Delivers a message to members of a group, and lets a client take the answers.
     fn exchange(&mut self, client: u32, named: Named, group: u8, members: &[u8]) {
         let answers = self.deliver_each(named, group, members, Receiver::Client(client));
@@ -34,12 +24,6 @@ impl Schedule {
             let place = first.saturating_add(piece);
             self.exchange(client, (cut, place), group, members);
         }
-    }
-
-    /// Returns the members of a group that its first configuration hasn't.
-    fn later_members(&self, group: u8) -> Numbers {
-        let own = self.set_of(group, self.place(group));
-        Numbers::of_set(own.difference(self.set_of(group, 0)))
     }
 
     /// Lets a member become whole from the copies, with all their pieces, that these lines made.
@@ -70,7 +54,8 @@ impl Schedule {
     fn install_all(&mut self, client: u32, cut: u64, first: u64, group: u8) {
         let members = self.members(group);
         self.install(client, cut, first, group, members.as_slice());
-        let later = self.later_members(group);
+        let own = self.set_of(group, self.place(group));
+        let later = Numbers::of_set(own.difference(self.set_of(group, 0)));
         for member in later.as_slice().iter() {
             self.make_whole(group, *member);
             self.install(client, cut, first, group, &[*member]);
@@ -81,7 +66,12 @@ impl Schedule {
     fn read_all(&mut self, client: u32, view: u64) {
         let fences = self.written.take(client, view, 1);
         for group in 0..self.joined {
-            self.step_all(group);
+            let line = self.last_advance(group);
+            if line > 0 {
+                let members = self.members(group);
+                let nodes = Receiver::Nodes(group);
+                self.deliver_each((line, 1), group, members.as_slice(), nodes);
+            }
             let place = u64::from(group).saturating_add(1);
             self.exchange_all(client, (fences, place), group);
         }

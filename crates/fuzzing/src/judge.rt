@@ -3,7 +3,7 @@
 use crate::broken::Broken;
 use crate::outcome::{Find, Outcome, Writer};
 use crate::verdicts::{is_given, is_kept};
-use crate::written::Issue;
+use crate::written::{Issue, Written};
 use std::alloc::{AllocError, Global};
 
 /// The last record of a transaction that was issued.
@@ -43,7 +43,7 @@ fn check_answers(outcome: &Outcome, lines: u64) -> Result<(), Broken> {
 
 /// Returns the cut of a writer's recovery and the start of its own LSNs, which are above it; 0 if there was none.
 fn found_by(outcome: &Outcome, client: u64) -> (u64, u64) {
-    match outcome.find_of(client) {
+    match outcome.finds.iter().find(|find| find.client == client) {
         Some(find) => (find.cut, find.start),
         None => (0, 0),
     }
@@ -51,13 +51,10 @@ fn found_by(outcome: &Outcome, client: u64) -> (u64, u64) {
 
 /// Returns the last LSN of a writer, given the ends of its transactions.
 fn last_of(outcome: &Outcome, ends: &[End], client: u64) -> u64 {
-    let (_, mut last) = found_by(outcome, client);
-    for end in ends.iter() {
-        if end.client == client {
-            last = end.last;
-        }
+    match ends.iter().rev().find(|end| end.client == client) {
+        Some(end) => end.last,
+        None => found_by(outcome, client).1,
     }
-    last
 }
 
 /// Returns the number of messages that a line made, if it wasn't refused.
@@ -168,13 +165,9 @@ pub fn check_promises(outcome: &Outcome) -> Result<(), Broken> {
 }
 
 /// Checks what a run prints for a script: the answer to each line, and the points of all clients.
-pub fn check_run(
-    alloc: Global,
-    outcome: &Outcome,
-    lines: u64,
-    issues: &[Issue],
-) -> Result<Shown, Broken> {
-    check_answers(outcome, lines)?;
+pub fn check_run(alloc: Global, outcome: &Outcome, script: &Written) -> Result<Shown, Broken> {
+    let issues = script.issues.as_slice();
+    check_answers(outcome, script.lines)?;
     check_promises(outcome)?;
     let newest = issues.last().map_or(0, |issue| u64::from(issue.client));
     let ends = ends_of(alloc, outcome, issues)?;

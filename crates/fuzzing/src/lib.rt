@@ -2,7 +2,6 @@
 #![tactic(auto)]
 
 mod broken;
-mod counts;
 mod finish;
 mod judge;
 mod long_log;
@@ -10,7 +9,6 @@ mod numbers;
 mod outcome;
 mod places;
 mod rng;
-mod scenario;
 mod schedule;
 mod shortening;
 mod simulation;

@@ -13,21 +13,15 @@ const CHANGES: u64 = 32;
 const PIECES: u64 = 2;
 
 impl Schedule {
-    /// Appends the deliveries of a line's records to a member. Returns the number of the last of these lines.
-    fn deliver_many(&mut self, line: u64, member: u8) -> u64 {
-        let mut last = line;
-        for change in 0..CHANGES {
-            let delivery = Delivery::new((line, change.saturating_add(1)), 0, member);
-            last = self.written.deliver(delivery, Receiver::Client(1));
-        }
-        last
-    }
-
     /// Appends lines in which the first writer commits the records of a transaction.
     fn commit_many(&mut self) {
         let line = self.issue_plain(1, 0, CHANGES);
         for member in self.members(0).as_slice().iter() {
-            let last = self.deliver_many(line, *member);
+            for change in 1..=CHANGES {
+                let delivery = Delivery::new((line, change), 0, *member);
+                self.written.deliver(delivery, Receiver::Client(1));
+            }
+            let last = self.written.lines;
             self.written.take(1, last, 1);
         }
     }

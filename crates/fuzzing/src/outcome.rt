@@ -122,19 +122,6 @@ impl Outcome {
 
     /// Returns the number of lines that weren't refused.
     pub fn happened(&self) -> u64 {
-        (self.answers.len() as u64).saturating_sub(self.refusals())
-    }
-
-    /// Returns the number of lines that were refused.
-    pub fn refusals(&self) -> u64 {
-        self.answers.iter().filter(|a| a.made.is_none()).count() as u64
-    }
-
-    /// Returns the recovery of a client, if it has cut.
-    pub fn find_of(&self, client: u64) -> Option<Find> {
-        self.finds
-            .iter()
-            .find(|find| find.client == client)
-            .copied()
+        self.answers.iter().filter(|a| a.made.is_some()).count() as u64
     }
 }

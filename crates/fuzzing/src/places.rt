@@ -44,10 +44,8 @@ impl Schedule {
 
     /// Returns the members of a configuration of a group.
     pub fn set_of(&self, group: u8, configuration: u8) -> MemberSet {
-        match self.plan.configuration(group, configuration) {
-            Some(configuration) => configuration.members,
-            None => MemberSet::empty(),
-        }
+        let found = self.plan.configuration(group, configuration);
+        found.map_or(MemberSet::empty(), |found| found.members)
     }
 
     /// Returns the members of a group.
@@ -69,14 +67,11 @@ impl Schedule {
 
     /// Returns the members that a configuration adds to those of its parent.
     pub fn fresh(&self, group: u8, configuration: u8) -> MemberSet {
-        let Some(child) = self.plan.configuration(group, configuration) else {
-            return MemberSet::empty();
-        };
-        let Some(parent) = child.parent else {
-            return MemberSet::empty();
-        };
+        let found = self.plan.configuration(group, configuration);
+        let parent = found.and_then(|found| found.parent).unwrap_or(0);
         let parent = u8::try_from(parent).unwrap_or(0);
-        child.members.difference(self.set_of(group, parent))
+        self.set_of(group, configuration)
+            .difference(self.set_of(group, parent))
     }
 
     /// Returns how many of these members, in order, and the given ones are a read set of a configuration.

@@ -6,7 +6,7 @@ use crate::tasks::{Answered, Stage, Task};
 use crate::written::{Delivery, Message, Named, Receiver, Written, keep};
 use plan::CheckedPlan;
 use quorum_expr::MemberSet;
-use std::alloc::Global;
+use std::alloc::{AllocError, Global};
 use std::sync::Arc;
 
 /// The most clients of a script.
@@ -286,10 +286,14 @@ impl Schedule {
         self.plan.lal() >= LONG_LAL && self.members(0).len() <= LONG_MEMBERS
     }
 
-    /// Writes a script. One in four begins with a long log, if the plan's LAL is great enough for it; else one in three
-    /// begins with a write that arrives late, if the plan has a step. Then come its turns, of at most one line each;
-    /// their number is the greater of two draws between 60 and 700.
-    pub fn fill(&mut self, alloc: Global) {
+    /// Returns a random script. It depends on the plan, on the numbers that the generator returns and on the events that
+    /// are asked for, and on nothing else. One in four begins with a long log, if the plan's LAL is great enough for
+    /// it; else one in three begins with a write that arrives late, if the plan has a step. Then come its turns, of at
+    /// most one line each; their number is the greater of two draws between 60 and 700.
+    ///
+    /// # Errors
+    /// `AllocError` if memory runs out.
+    pub fn filled(mut self, alloc: Global) -> Result<Written, AllocError> {
         if self.may_be_long() && self.rng.chance(25) {
             self.lengthen();
         } else if self.events.steps && self.rng.chance(33) {
@@ -300,5 +304,6 @@ impl Schedule {
             self.turn(alloc);
         }
         self.finish();
+        self.written.finished()
     }
 }

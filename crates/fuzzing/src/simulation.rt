@@ -3,13 +3,12 @@
 ghost use Rattle.std.specs.Prelude.{◌≤◌};
 
 use crate::broken::Broken;
-use crate::counts::Counts;
-use crate::judge::check_promises;
+use crate::judge::{check_promises, check_run};
 use crate::outcome::Outcome;
 use crate::rng::Rng;
-use crate::scenario::Scenario;
-use crate::schedule::Events;
+use crate::schedule::{Events, Schedule};
 use crate::shortening::shortened;
+use crate::written::Written;
 use plan::CheckedPlan;
 use std::alloc::{AllocError, Global};
 use std::fmt;
@@ -58,6 +57,21 @@ pub struct Verdict {
     ghost few: { status ≤ 1 },
 }
 
+/// What was checked in all runs.
+#[derive(Clone, Copy, Default)]
+struct Counts {
+    /// The number of runs.
+    runs: u64,
+    /// The number of events that weren't refused.
+    events: u64,
+    /// The number of acknowledged transactions: those up to their writer's durable point.
+    acknowledged: u64,
+    /// The number of recoveries that have cut.
+    recoveries: u64,
+    /// The number of runs in which the last advance of each group waited.
+    waited: u64,
+}
+
 /// Checks the promises in a run of a script.
 fn check_script<R: ScriptRunner>(alloc: Global, runner: &R, script: &str) -> Result<(), Broken> {
     let run = runner.run(alloc, script)?;
@@ -77,12 +91,12 @@ pub(crate) fn breaks<R: ScriptRunner>(alloc: Global, runner: &R, script: &str) -
 fn try_run<R: ScriptRunner>(
     alloc: Global,
     runner: &R,
-    scenario: &Scenario,
+    script: &Written,
     counts: &mut Counts,
 ) -> Result<(), Broken> {
-    let run = runner.run(alloc, scenario.script.as_str())?;
+    let run = runner.run(alloc, script.text.as_str())?;
     let outcome = Outcome::of_text(alloc, run.text.as_str())?;
-    let shown = scenario.check(alloc, &outcome)?;
+    let shown = check_run(alloc, &outcome, script)?;
     if run.waited {
         counts.waited = counts.waited.saturating_add(1);
         if !shown.continued {
@@ -90,7 +104,10 @@ fn try_run<R: ScriptRunner>(
             return Err(Broken::new(what, [outcome.happened(), 0, 0, 0]));
         }
     }
-    counts.add(outcome.happened(), shown);
+    counts.runs = counts.runs.saturating_add(1);
+    counts.events = counts.events.saturating_add(outcome.happened());
+    counts.acknowledged = counts.acknowledged.saturating_add(shown.acknowledged);
+    counts.recoveries = counts.recoveries.saturating_add(shown.recoveries);
     Ok(())
 }
 
@@ -128,10 +145,10 @@ fn broken_text<R: ScriptRunner>(
     alloc: Global,
     runner: &R,
     seed: u64,
-    scenario: Scenario,
+    script: Written,
     broken: Broken,
 ) -> Result<String, AllocError> {
-    let script = shortened(alloc, scenario.script, runner)?;
+    let script = shortened(alloc, script.text, runner)?;
     let ([first, second, third, fourth], what) = (broken.numbers, broken.what);
     format!(in alloc; "seed {seed}: {what}: {first} {second} {third} {fourth}\n{script}")
 }
@@ -150,12 +167,13 @@ pub fn simulate<R: ScriptRunner>(
     let mut counts = Counts::default();
     for run in 0..simulation.runs {
         let seed = simulation.seed.wrapping_add(u64::from(run));
-        let scenario = Scenario::new(alloc, plan.clone()?, Rng::new(seed), simulation.events)?;
-        match try_run(alloc, runner, &scenario, &mut counts) {
+        let schedule = Schedule::new(alloc, plan.clone()?, Rng::new(seed), simulation.events);
+        let script = schedule.filled(alloc)?;
+        match try_run(alloc, runner, &script, &mut counts) {
             Ok(()) => runner.ended(run.saturating_add(1)),
             Err(broken) if broken.is_memory() => return Err(AllocError),
             Err(broken) => {
-                let text = broken_text(alloc, runner, seed, scenario, broken)?;
+                let text = broken_text(alloc, runner, seed, script, broken)?;
                 return Ok(Verdict { status: 1, text });
             }
         }

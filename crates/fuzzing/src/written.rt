@@ -51,11 +51,12 @@ pub struct Issue {
 /// A script, and the messages that its lines may have made. Once memory runs out, what is written is of no use.
 #[derive(Drop)]
 pub struct Written {
-    text: String,
+    pub text: String,
     /// Whether memory ran out.
     pub failed: bool,
     /// The number of lines.
     pub lines: u64,
+    /// The transactions that it issues.
     pub issues: Vec<Issue>,
     pub messages: Vec<Message>,
     /// The lines that delivered a message to a node, and these deliveries.
@@ -82,18 +83,11 @@ impl Written {
         }
     }
 
-    /// Returns the text, the number of its lines and the transactions that it issues, or that memory ran out.
-    pub fn finished(self) -> Result<(String, u64, Vec<Issue>), AllocError> {
-        let Written {
-            text,
-            failed,
-            lines,
-            issues,
-            ..
-        } = self;
-        match failed {
+    /// Returns the script, or that memory ran out.
+    pub fn finished(self) -> Result<Written, AllocError> {
+        match self.failed {
             true => Err(AllocError),
-            false => Ok((text, lines, issues)),
+            false => Ok(self),
         }
     }
 
