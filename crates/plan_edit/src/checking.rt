@@ -35,11 +35,6 @@ fn has_on_way(configurations: &[Configuration], configuration: u8, member: u8) -
     false
 }
 
-/// Returns the number of configurations that a replacement adds.
-fn count_of(replacement: Replacement) -> usize {
-    if replacement.is_direct { 1 } else { 3 }
-}
-
 /// Returns the configurations of the group in which a member is to be replaced.
 ///
 /// # Errors
@@ -69,7 +64,8 @@ pub fn configurations_for(
     if has_on_way(configurations, configuration, replacement.new) {
         return Err(EditRefusal::MemberReused);
     }
-    if CONFIGURATIONS.saturating_sub(configurations.len()) < count_of(replacement) {
+    let added = if replacement.is_direct { 1 } else { 3 };
+    if CONFIGURATIONS.saturating_sub(configurations.len()) < added {
         return Err(EditRefusal::NoPlace);
     }
     Ok(configurations)

@@ -1,10 +1,10 @@
 //! The configurations that a replacement adds to a group.
 
-ghost use Rattle.std.specs.Prelude.{◌≡◌, ◌<◌, ◌∷◌, [], Ok, length, map};
+ghost use Rattle.std.specs.Prelude.{◌≡◌, ◌<◌, Ok, length, map};
 ghost use Rattle.volume_model.specs.Common.{Gives};
 ghost use Rattle.plan.specs.Common.{configuration_data};
 ghost use Rattle.plan_edit.specs.Drafts.{draft_data};
-ghost use Rattle.plan_edit.specs.Replaced.{HasNumbers, full_with, joint, swapped, back, stepped, added};
+ghost use Rattle.plan_edit.specs.Replaced.{HasNumbers, full_with, joint, swapped, back, added};
 
 use crate::expressions::{joined, renamed};
 use crate::replacement::Replacement;
@@ -28,10 +28,7 @@ fn full_with(full: MemberSet, replacement: Replacement) -> MemberSet
     requires { HasNumbers replacement }
     ensures { result ≡ full_with replacement full }
 {
-    if replacement.is_tail {
-        return full;
-    }
-    if full.contains(replacement.old) {
+    if !replacement.is_tail && full.contains(replacement.old) {
         full.with(replacement.new)
     } else {
         full
@@ -98,40 +95,8 @@ fn back(alloc: Global, base: &Configuration, parent: u64) -> Result<Draft, Fault
     })
 }
 
-/// Returns the only configuration of a direct replacement.
-fn direct_drafts(
-    alloc: Global,
-    base: &Configuration,
-    replacement: Replacement,
-) -> Result<Vec<Draft>, Fault>
-    requires { HasNumbers replacement }
-    ensures { Gives (λ v. map draft_data v.items) result
-        (Ok (swapped replacement replacement.configuration (configuration_data base.now) ∷ [])) }
-{
-    let parent = u64::from(replacement.configuration);
-    Ok(vec![in alloc; swapped(alloc, base, parent, replacement)?]?)
-}
-
-/// Returns the configurations of a replacement with a way back. The joint one gets the number `number`.
-fn stepped_drafts(
-    alloc: Global,
-    base: &Configuration,
-    number: u64,
-    replacement: Replacement,
-) -> Result<Vec<Draft>, Fault>
-    requires { HasNumbers replacement }
-    ensures { Gives (λ v. map draft_data v.items) result
-        (Ok (stepped replacement number (configuration_data base.now))) }
-{
-    let mut drafts = Vec::with_capacity(alloc, 3)?;
-    let parent = u64::from(replacement.configuration);
-    drafts.push(joint(alloc, base, parent, replacement)?)?;
-    drafts.push(swapped(alloc, base, number, replacement)?)?;
-    drafts.push(back(alloc, base, number)?)?;
-    Ok(drafts)
-}
-
-/// Returns the configurations that a replacement adds behind those of a group.
+/// Returns the configurations that a replacement adds behind those of a group: the new membership if it is direct; else
+/// the joint configuration, and those of the two steps from there.
 ///
 /// # Errors
 /// `NoMemory` if memory runs out.
@@ -146,8 +111,14 @@ pub fn replacement_drafts(
         (Ok (added replacement (map configuration_data configurations.now))) }
 {
     let base = &configurations[usize::from(replacement.configuration)];
+    let parent = u64::from(replacement.configuration);
     if replacement.is_direct {
-        return direct_drafts(alloc, base, replacement);
+        return Ok(vec![in alloc; swapped(alloc, base, parent, replacement)?]?);
     }
-    stepped_drafts(alloc, base, configurations.len() as u64, replacement)
+    let number = configurations.len() as u64;
+    let mut drafts = Vec::with_capacity(alloc, 3)?;
+    drafts.push(joint(alloc, base, parent, replacement)?)?;
+    drafts.push(swapped(alloc, base, number, replacement)?)?;
+    drafts.push(back(alloc, base, number)?)?;
+    Ok(drafts)
 }

@@ -3,18 +3,11 @@
 ghost use Rattle.std.specs.Prelude.{◌≡◌, Ok, true};
 ghost use Rattle.volume_model.specs.Common.{Gives};
 ghost use Rattle.quorum_expr.specs.Common.{formula_of};
-ghost use Rattle.plan_edit.specs.Renamed.{renamed, renamed_member, two_of};
+ghost use Rattle.plan_edit.specs.Renamed.{renamed, two_of};
 
 use quorum_expr::{Expr, copy_in};
 use std::alloc::Global;
 use volume_model::Fault;
-
-/// Returns the member that stands in a member's place once `new` replaces `old`.
-fn renamed_member(member: u8, old: u8, new: u8) -> u8
-    ensures { result ≡ renamed_member old new member }
-{
-    if member == old { new } else { member }
-}
 
 /// Returns an expression with the member `new` in the places of `old`.
 ///
@@ -24,7 +17,7 @@ pub fn renamed(alloc: Global, expr: &Expr<Global>, old: u8, new: u8) -> Result<E
     ensures { Gives formula_of result (Ok (renamed old new (formula_of expr.now))) }
 {
     match expr {
-        Expr::Member(member) => Ok(Expr::Member(renamed_member(*member, old, new))),
+        Expr::Member(member) => Ok(Expr::Member(if *member == old { new } else { *member })),
         Expr::KOf { k, of } => {
             let mut others = Vec::new(alloc);
             for (weight, child) in of {
@@ -33,21 +26,6 @@ pub fn renamed(alloc: Global, expr: &Expr<Global>, old: u8, new: u8) -> Result<E
             Ok(Expr::KOf { k: *k, of: others })
         }
     }
-}
-
-/// Returns the expression that holds if `k` of two expressions hold.
-fn two_of(
-    alloc: Global,
-    k: u16,
-    left: Expr<Global>,
-    right: Expr<Global>,
-) -> Result<Expr<Global>, Fault>
-    ensures { Gives formula_of result (Ok (two_of k (formula_of left) (formula_of right))) }
-{
-    let mut of = Vec::with_capacity(alloc, 2)?;
-    of.push((1, left))?;
-    of.push((1, right))?;
-    Ok(Expr::KOf { k, of })
 }
 
 /// Returns the expression that holds if `k` of two expressions hold: the given one, and the one in which `new` replaces
@@ -65,9 +43,10 @@ pub fn joined(
     ensures { Gives formula_of result
         (Ok (two_of k (formula_of expr.now) (renamed old new (formula_of expr.now)))) }
 {
-    let left = copy_in(expr, alloc)?;
-    let right = renamed(alloc, expr, old, new)?;
-    two_of(alloc, k, left, right)
+    let mut of = Vec::with_capacity(alloc, 2)?;
+    of.push((1, copy_in(expr, alloc)?))?;
+    of.push((1, renamed(alloc, expr, old, new)?))?;
+    Ok(Expr::KOf { k, of })
 }
 
 /// Returns whether two expressions are the same.

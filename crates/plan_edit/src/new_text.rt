@@ -13,14 +13,6 @@ fn is_weighted(members: MemberSet, weights: &[u8]) -> bool {
     (0..MEMBERS).any(|member| members.contains(member) && weight_of(weights, member) != 1)
 }
 
-/// Returns whether the members of a new plan have weights.
-fn has_weights(words: &PlanWords<'_>) -> bool {
-    match words.quorums {
-        Quorums::Counted { weights, .. } => is_weighted(words.members, weights),
-        _ => false,
-    }
-}
-
 /// Appends the weights of members as an array, if one isn't 1.
 fn add_weights(text: &mut String, members: MemberSet, weights: &[u8]) -> Result<(), AllocError> {
     if !is_weighted(members, weights) {
@@ -162,7 +154,10 @@ fn add_header(text: &mut String, words: &PlanWords<'_>) -> Result<(), AllocError
             "{{\"format\":3,\"lal\":{lal},\"born\":{born},\"groups\":["
         );
     }
-    let format = if has_weights(words) { 2u8 } else { 1 };
+    let format = match words.quorums {
+        Quorums::Counted { weights, .. } if is_weighted(words.members, weights) => 2u8,
+        _ => 1,
+    };
     write!(text, "{{\"format\":{format},\"lal\":{lal},\"groups\":[")
 }
 

@@ -1,47 +1,19 @@
 //! Replaces a member of a group.
 
-ghost use Rattle.std.specs.Prelude.{◌<◌, ◌≤◌, ◌≡◌, IfOk, map};
-ghost use Rattle.plan_edit.specs.Drafts.{draft_data};
-ghost use Rattle.plan_edit.specs.Replaced.{added, edited_group};
+ghost use Rattle.std.specs.Prelude.{◌<◌, ◌≤◌, IfOk};
 ghost use Rattle.plan_edit.specs.Edited.{IsReplaced};
 
 use crate::certifying::certified;
 use crate::checking::{check_line, configurations_for};
-use crate::drafts::{Draft, replacement_drafts};
+use crate::drafts::replacement_drafts;
 use crate::refusal::EditRefusal;
 use crate::replacement::Replacement;
 use crate::splicing::with_configurations;
 use crate::text::drafts_text;
-use plan::{Plan, read_plan};
+use plan::read_plan;
 use std::alloc::Global;
 use std::sync::Wait;
 use std::thread::Threads;
-
-/// Returns the configurations that a replacement adds to a plan.
-fn drafts_in(
-    alloc: Global,
-    plan: &Plan,
-    replacement: Replacement,
-) -> Result<Vec<Draft>, EditRefusal>
-    ensures { IfOk result (λ v. map draft_data v.items ≡ added replacement (edited_group replacement plan.now)) }
-{
-    let configurations = configurations_for(plan, replacement)?;
-    Ok(replacement_drafts(alloc, configurations, replacement)?)
-}
-
-/// Returns the text with the drafts behind the configurations of a group.
-fn drafted(
-    alloc: Global,
-    text: &[u8],
-    group: u8,
-    drafts: &[Draft],
-) -> Result<Vec<u8>, EditRefusal> {
-    let more = drafts_text(alloc, drafts)?;
-    match with_configurations(alloc, text, group, more.as_str())? {
-        Some(made) => Ok(made),
-        None => Err(EditRefusal::Defect),
-    }
-}
 
 /// Returns a line with the text of a plan in which a member of a group may be replaced: the text's plan, with the
 /// configurations of the replacement behind those of the group. Each claim has a certificate. Expressions of the given
@@ -62,8 +34,10 @@ pub fn replace<H: Threads + Wait + Sync>(
     ensures { IfOk result (λ line. IsReplaced replacement text.now line.items) }
 {
     let old = read_plan(alloc, text)?;
-    let drafts = drafts_in(alloc, &old, replacement)?;
-    let draft = drafted(alloc, text, replacement.group, &drafts)?;
+    let configurations = configurations_for(&old, replacement)?;
+    let drafts = replacement_drafts(alloc, configurations, replacement)?;
+    let more = drafts_text(alloc, &drafts)?;
+    let draft = with_configurations(alloc, text, replacement.group, more.as_str())?;
     let line = certified(rt, alloc, &draft, workers)?;
     check_line(alloc, &old, replacement.group, &drafts, &line)?;
     Ok(line)

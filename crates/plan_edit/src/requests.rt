@@ -58,20 +58,17 @@ fn zones_of(alloc: Global, request: &PlanRequest<'_>) -> Result<Vec<MemberSet>, 
     }
 }
 
-/// Returns the members of all zones.
-fn union_of(zones: &[MemberSet]) -> MemberSet {
-    zones
-        .iter()
-        .fold(MemberSet::empty(), |members, zone| members.union(*zone))
-}
-
 /// Reads the members of a request: those of its zones, if it has zones.
 fn members_of(request: &PlanRequest<'_>, zones: &[MemberSet]) -> Result<MemberSet, NewRefusal>
     ensures { IfOk result (IsNamedIf (option_map (λ text. text.now) request.now.members)) }
 {
     match request.members {
         Some(text) => Ok(read_members(text)?),
-        None => Ok(union_of(zones)),
+        None => Ok(
+            zones
+                .iter()
+                .fold(MemberSet::empty(), |members, zone| members.union(*zone)),
+        ),
     }
 }
 
