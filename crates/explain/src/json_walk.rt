@@ -3,6 +3,9 @@
 use json::{Reader, Scratch, Token};
 use std::alloc::{AllocError, Global};
 
+/// The blanks of JSON.
+pub(crate) const BLANKS: [char; 4] = [' ', '\t', '\n', '\r'];
+
 /// The nesting limit of arrays and objects.
 pub(crate) const LEVELS: usize = 127;
 
@@ -89,13 +92,7 @@ struct Walk<'a> {
 /// Returns whether the last byte before an offset that isn't a blank is a comma.
 fn is_behind_comma(text: &str, offset: usize) -> bool {
     let before = text.get(..offset).unwrap_or("");
-    for byte in before.as_bytes().iter().rev() {
-        match byte {
-            b' ' | b'\t' | b'\n' | b'\r' => {}
-            _ => return *byte == b',',
-        }
-    }
-    false
+    before.trim_end_matches(BLANKS).ends_with(',')
 }
 
 impl<'a> Walk<'a> {
@@ -117,10 +114,7 @@ impl<'a> Walk<'a> {
     /// Consumes a key of the innermost object. The key begins at `offset`.
     fn take_key(&mut self, key: &'a str, offset: usize) -> Result<(), AllocError> {
         self.due = Due::Member;
-        let first = match self.open.last() {
-            Some(open) => open.keys,
-            None => 0,
-        };
+        let first = self.open.last().map_or(0, |open| open.keys);
         for seen in self.keys.iter().skip(first) {
             if *seen == key && self.repeated.is_none() {
                 self.repeated = Some(offset);

@@ -36,4 +36,4 @@ pub use report::{json_report, known_configurations};
 pub use stepping::{NoStep, step_script};
 pub use survival::{Survival, survival_of};
 pub use text_place::{FaultPlace, fault_place};
-pub use wording::{add_expr, add_kind, add_members};
+pub use wording::{add_expr, add_kind};

@@ -83,12 +83,7 @@ fn refuse(words: &mut String, word: &str, fault: &str) -> Result<(), Stop> {
 
 /// Returns whether a word has decimal digits alone, one at least.
 fn is_decimal(word: &str) -> bool {
-    for byte in word.as_bytes() {
-        if !byte.is_ascii_digit() {
-            return false;
-        }
-    }
-    !word.is_empty()
+    !word.is_empty() && word.chars().all(|c| c.is_ascii_digit())
 }
 
 /// Returns whether a number begins with a zero that it doesn't need.
@@ -254,20 +249,13 @@ fn check_line(words: &mut String, line: &[u8], number: usize, end: usize) -> Res
 
 /// Returns the line with a number, from 1, of a text, and how many bytes the text has up to its end.
 fn line_at(text: &[u8], number: usize) -> (&[u8], usize) {
-    let mut rest = text;
-    let (mut line, mut start) = (1usize, 0usize);
-    for (at, byte) in text.iter().enumerate() {
-        if *byte == b'\n' {
-            let behind = at.saturating_add(1);
-            if line >= number {
-                return (&rest[..at.saturating_sub(start).min(rest.len())], behind);
-            }
-            line = line.saturating_add(1);
-            start = behind;
-            rest = &text[at + 1..];
-        }
+    let mut line: &[u8] = &[];
+    let mut end = 0usize;
+    for next in text.split(|byte| *byte == b'\n').take(number) {
+        line = next;
+        end = end.saturating_add(line.len()).saturating_add(1);
     }
-    (rest, text.len())
+    (line, end.min(text.len()))
 }
 
 /// Returns what is wrong with line `number` of a script's text, or `None` if it is one of a script.

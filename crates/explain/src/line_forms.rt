@@ -21,20 +21,12 @@ pub(crate) const FORMS: &[&str] = &[
 
 /// Returns the first word of a text.
 pub(crate) fn first_word(text: &str) -> &str {
-    match text.split_once(' ') {
-        Some((first, _)) => first,
-        None => text,
-    }
+    text.split_once(' ').map_or(text, |(first, _)| first)
 }
 
 /// Returns the form that begins with a word, if there is one.
 pub(crate) fn form_of(word: &str) -> Option<&'static str> {
-    for form in FORMS {
-        if first_word(form) == word {
-            return Some(form);
-        }
-    }
-    None
+    FORMS.iter().copied().find(|form| first_word(form) == word)
 }
 
 /// Returns the greatest number that a letter of a form stands for.
@@ -51,10 +43,7 @@ pub(crate) fn most_of(letter: &str) -> u64 {
 fn is_misspelt(word: &[u8], meant: &[u8]) -> bool {
     let mut differing = 0usize;
     let (mut had, mut wanted) = (0u64, 0u64);
-    for (at, byte) in word.iter().enumerate() {
-        let Some(other) = meant.get(at) else {
-            return false;
-        };
+    for (byte, other) in word.iter().zip(meant.iter()) {
         if byte.to_ascii_lowercase() != *other {
             differing = differing.saturating_add(1);
             had = had.saturating_add(u64::from(*byte));
@@ -90,11 +79,6 @@ fn is_near(word: &[u8], meant: &[u8]) -> bool {
 
 /// Returns the word that a misspelt first word may mean.
 pub(crate) fn meant_by(word: &str) -> Option<&'static str> {
-    for form in FORMS {
-        let meant = first_word(form);
-        if is_near(word.as_bytes(), meant.as_bytes()) {
-            return Some(meant);
-        }
-    }
-    None
+    let mut meant = FORMS.iter().map(|form| first_word(form));
+    meant.find(|meant| is_near(word.as_bytes(), meant.as_bytes()))
 }

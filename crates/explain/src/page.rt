@@ -8,6 +8,7 @@ pub const COLUMNS: usize = 100;
 /// Lines of words. A line that would be too long continues in the next one, further indented.
 #[derive(Drop)]
 pub struct Page {
+    pub alloc: Global,
     text: String,
     /// The width of the last line.
     column: usize,
@@ -19,6 +20,7 @@ impl Page {
     /// Returns a page without a line.
     pub fn new(alloc: Global) -> Page {
         Page {
+            alloc,
             text: String::new(alloc),
             column: 0,
             indent: 0,

@@ -24,20 +24,20 @@ pub(crate) fn repeated_key(alloc: Global, text: &[u8]) -> Result<Option<Position
 }
 
 /// Appends the position of the first repeated key of an object, if there is one.
-fn add_warning(alloc: Global, page: &mut Page, text: &[u8]) -> Result<(), AllocError> {
-    let Some(Position { line, column }) = repeated_key(alloc, text)? else {
+fn add_warning(page: &mut Page, text: &[u8]) -> Result<(), AllocError> {
+    let Some(Position { line, column }) = repeated_key(page.alloc, text)? else {
         return Ok(());
     };
-    let warning = format!(in alloc;
+    let warning = format!(in page.alloc;
         "warning: line {line}, column {column}: the object has this key already: its last value counts"
     )?;
     page.add(0, warning.as_str())
 }
 
 /// Appends a place, and what is expected there.
-fn add_place(alloc: Global, page: &mut Page, place: &FaultPlace) -> Result<(), AllocError> {
+fn add_place(page: &mut Page, place: &FaultPlace) -> Result<(), AllocError> {
     let (line, column, path) = (place.line, place.column, place.path.as_str());
-    let mut text = format!(in alloc; "line {line}, column {column}: {path}")?;
+    let mut text = format!(in page.alloc; "line {line}, column {column}: {path}")?;
     if !path.is_empty() {
         text.push_str(": ")?;
     }
@@ -54,7 +54,7 @@ fn add_place(alloc: Global, page: &mut Page, place: &FaultPlace) -> Result<(), A
 /// Memory ran out.
 pub fn warning_lines(alloc: Global, text: &[u8]) -> Result<String, AllocError> {
     let mut page = Page::new(alloc);
-    add_warning(alloc, &mut page, text)?;
+    add_warning(&mut page, text)?;
     Ok(page.into_text())
 }
 
@@ -64,9 +64,9 @@ pub fn warning_lines(alloc: Global, text: &[u8]) -> Result<String, AllocError> {
 /// Memory ran out.
 pub fn place_lines(alloc: Global, text: &[u8]) -> Result<String, AllocError> {
     let mut page = Page::new(alloc);
-    add_warning(alloc, &mut page, text)?;
+    add_warning(&mut page, text)?;
     if let Some(place) = fault_place(alloc, text)? {
-        add_place(alloc, &mut page, &place)?;
+        add_place(&mut page, &place)?;
     }
     Ok(page.into_text())
 }

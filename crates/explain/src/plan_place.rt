@@ -20,10 +20,7 @@ const CONFIGURATION: &str =
 
 /// Returns whether a node is a whole number from 1 to a limit.
 fn is_from_one(node: &TapeNode<'_, '_>, most: u64) -> bool {
-    match node.as_u64() {
-        Some(number) => 1 <= number && number <= most,
-        None => false,
-    }
+    matches!(node.as_u64(), Some(number) if 1 <= number && number <= most)
 }
 
 /// Returns the items of an array of 1 to `most` items, and how many they are.

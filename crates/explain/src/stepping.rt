@@ -181,11 +181,8 @@ fn path_from(
     let mut path = Vec::new(alloc);
     let mut at = number;
     for _ in 0..STEPS {
-        let parent = match plan.configuration(group, at) {
-            Some(configuration) => configuration.parent,
-            None => None,
-        };
-        let Some(parent) = parent else {
+        let here = plan.configuration(group, at);
+        let Some(parent) = here.and_then(|here| here.parent) else {
             break;
         };
         path.push(at)?;

@@ -94,17 +94,11 @@ pub(crate) fn quorum_facts(
     let mut expression = String::new(alloc);
     add_expr(&mut expression, expr)?;
     let survival = survival_of(alloc, expr, members, budget / nodes(expr))?;
-    let (survives, stopped_by) = match survival.smallest {
-        Some(smallest) => (
-            Some(smallest.len().saturating_sub(1)),
-            Some(Members(smallest)),
-        ),
-        None => (None, None),
-    };
+    let smallest = survival.smallest;
     Ok(QuorumFacts {
         expression,
-        survives,
-        stopped_by,
+        survives: smallest.map(|smallest| smallest.len().saturating_sub(1)),
+        stopped_by: smallest.map(|smallest| Members(smallest)),
         single: Members(survival.alone),
         blocks: blocks_of(alloc, expr, members)?,
     })

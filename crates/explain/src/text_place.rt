@@ -1,6 +1,6 @@
 //! The place of a fault in a plan's text.
 
-use crate::json_walk::{LEVELS, walk_over};
+use crate::json_walk::{BLANKS, LEVELS, walk_over};
 use crate::plan_place::check_plan;
 use crate::trail::{Step, Trail};
 use json::{Reader, Scratch, Tape};
@@ -36,14 +36,8 @@ pub(crate) struct Position {
 /// Returns the offset of the first byte from an offset on that isn't a blank.
 fn behind_blanks(text: &str, at: usize) -> usize {
     let rest = text.get(at..).unwrap_or("");
-    let mut end = at;
-    for byte in rest.as_bytes() {
-        match byte {
-            b' ' | b'\t' | b'\n' | b'\r' => end = end.saturating_add(1),
-            _ => return end,
-        }
-    }
-    end
+    let value = rest.trim_start_matches(BLANKS);
+    at.saturating_add(rest.len().saturating_sub(value.len()))
 }
 
 /// Returns the offset of the value at a key of the object that a text begins with: of the last one, if the key is

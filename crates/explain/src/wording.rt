@@ -42,12 +42,6 @@ impl fmt::Display for Members {
     }
 }
 
-/// Appends the members of a set in growing order, runs as `0-5`.
-pub fn add_members(text: &mut String, members: MemberSet) -> Result<(), AllocError> {
-    let members = Members(members);
-    write!(text, "{members}")
-}
-
 /// Appends these words and the members of a set, unless it has none.
 pub fn add_kind(text: &mut String, word: &str, members: Members) -> Result<(), AllocError> {
     if members.0.is_empty() {
