@@ -2,7 +2,7 @@
 
 use crate::actor::Actor;
 use std::alloc::AllocError;
-use world::{Event, Order};
+use world::Event;
 
 /// A kind of message.
 #[derive(Clone, Copy, Debug)]
@@ -121,19 +121,9 @@ impl Act {
     }
 }
 
-/// The message that a line names.
-#[derive(Clone, Copy)]
-pub(crate) enum Named {
-    /// None.
-    Nothing,
-    /// The message with a number.
-    Number(u64),
-    /// A place (from 1) among the messages of an event.
-    From(u32, u64),
-}
-
-/// Returns the actor of an event, what it does, and the message that it names. What depends on the run is missing.
-fn event_act(event: &Event) -> (Actor, Act, Named) {
+/// Returns the actor of an event, what it does, and the number of the message that it names, 0 if it names none. What
+/// depends on the run is missing.
+pub(crate) fn event_act(event: &Event) -> (Actor, Act, u64) {
     let takes = Act::Takes(None);
     let (actor, act) = match event {
         Event::Assign => (Actor::Authority, Act::Assign),
@@ -155,39 +145,14 @@ fn event_act(event: &Event) -> (Actor, Act, Named) {
         Event::Hydrate { group, member } => (Actor::Node(*group, *member), Act::Hydrate),
         Event::Restart { group, member } => (Actor::Node(*group, *member), Act::Restart),
         Event::Offer { group, member, lsn } => (Actor::Node(*group, *member), Act::Offer(*lsn)),
-        Event::Take { volume, message } => {
-            return (Actor::Client(*volume), takes, Named::Number(*message));
-        }
+        Event::Take { volume, message } => return (Actor::Client(*volume), takes, *message),
         Event::Deliver {
             group,
             member,
             message,
-        } => return (Actor::Node(*group, *member), takes, Named::Number(*message)),
+        } => return (Actor::Node(*group, *member), takes, *message),
     };
-    (actor, act, Named::Nothing)
-}
-
-/// Returns the actor of an order, what it does, and the message that it names. What depends on the run is missing.
-pub(crate) fn order_act(order: &Order) -> (Actor, Act, Named) {
-    let takes = Act::Takes(None);
-    match order {
-        Order::Event(event) => event_act(event),
-        Order::DeliverFrom {
-            group,
-            member,
-            event,
-            place,
-        } => (
-            Actor::Node(*group, *member),
-            takes,
-            Named::From(*event, *place),
-        ),
-        Order::TakeFrom {
-            volume,
-            event,
-            place,
-        } => (Actor::Client(*volume), takes, Named::From(*event, *place)),
-    }
+    (actor, act, 0)
 }
 
 /// Appends a message in words.

@@ -63,15 +63,10 @@ fn has_good_step(this: &ConfigurationFacts) -> bool {
     }
 }
 
-/// Returns the height of a card with these members above sentences of this height.
-fn card_height(members: MemberSet, words: usize) -> usize {
-    let squares = members_height(members.len());
-    squares.saturating_add(words).saturating_add(HEADING + 14)
-}
-
 /// Returns the card of a configuration whose lines have these numbers and this height. Its place isn't known yet.
 fn card_of(this: &ConfigurationFacts, lines: (usize, usize), words: usize) -> Card {
     let members = this.members.0;
+    let squares = members_height(members.len());
     let has_good_step = has_good_step(this);
     let (parent, fresh) = match &this.step {
         Some(step) => (step.parent, step.adds.0),
@@ -87,7 +82,7 @@ fn card_of(this: &ConfigurationFacts, lines: (usize, usize), words: usize) -> Ca
         has_good_step,
         is_good: has_good_step && is_certified(&this.meets),
         lines,
-        height: card_height(members, words),
+        height: squares.saturating_add(words).saturating_add(HEADING + 14),
         place: Place::default(),
         corner: (0, 0),
     }
@@ -104,25 +99,27 @@ pub(crate) struct Tree {
     pub cards: Vec<Card>,
 }
 
-/// Returns the cards of a group, and adds their sentences to the sheet.
-pub(crate) fn tree_of(
+/// Returns the cards of each group, and adds their sentences to the sheet.
+pub(crate) fn trees_of(
     alloc: Global,
     sheet: &mut Sheet,
-    group: u8,
     configurations: &[ConfigurationFacts],
-) -> Result<Tree, AllocError> {
-    let mut cards = Vec::new(alloc);
+) -> Result<Vec<Tree>, AllocError> {
+    let mut trees: Vec<Tree> = Vec::new(alloc);
     for this in configurations {
-        if this.group == group {
-            let first = sheet.lines();
-            add_configuration(sheet, this)?;
-            let lines = (first, sheet.lines());
-            cards.push(card_of(this, lines, sheet.height(lines)))?;
+        if this.configuration == 0 {
+            trees.push(Tree {
+                group: this.group,
+                top: 0,
+                cards: Vec::new(alloc),
+            })?;
+        }
+        let first = sheet.lines();
+        add_configuration(sheet, this)?;
+        let lines = (first, sheet.lines());
+        if let Some(tree) = trees.last_mut() {
+            tree.cards.push(card_of(this, lines, sheet.height(lines)))?;
         }
     }
-    Ok(Tree {
-        group,
-        top: 0,
-        cards,
-    })
+    Ok(trees)
 }

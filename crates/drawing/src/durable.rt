@@ -38,33 +38,10 @@ fn copy_of(alloc: Global, order: &Order) -> Result<Order, AllocError> {
     })
 }
 
-/// Returns the event of an order that names the message with this number.
-fn event_of(order: &Order, message: u64) -> Result<Event, AllocError> {
-    match order {
-        Order::Event(event) => {
-            let event: &Event = event;
-            event.clone()
-        }
-        Order::DeliverFrom { group, member, .. } => Ok(Event::Deliver {
-            group: *group,
-            member: *member,
-            message,
-        }),
-        Order::TakeFrom { volume, .. } => Ok(Event::Take {
-            volume: *volume,
-            message,
-        }),
-    }
-}
-
 /// Returns the durable point of a writer.
 fn point_of(writers: &[WriterOutcome], volume: u32) -> u64 {
-    for writer in writers {
-        if writer.volume == volume {
-            return writer.durable;
-        }
-    }
-    0
+    let writer = writers.iter().find(|writer| writer.volume == volume);
+    writer.map_or(0, |writer| writer.durable)
 }
 
 /// Returns the durable point of a writer before a row, as far as rows show it.
@@ -72,7 +49,7 @@ fn known_point(rows: &[Row], volume: u32) -> u64 {
     let mut known = 0u64;
     for row in rows {
         if let Some(point) = row.durable
-            && row.actor.is_same(Actor::Client(volume))
+            && row.actor == Actor::Client(volume)
         {
             known = point;
         }
@@ -98,13 +75,9 @@ pub(crate) fn outcome_of(
 pub(crate) fn note_growth(
     alloc: Global,
     plan: &Arc<CheckedPlan>,
-    orders: &[Order],
+    events: &[Event],
     rows: &mut [Row],
 ) -> Result<(), Fault> {
-    let mut events = Vec::new(alloc);
-    for (order, row) in orders.iter().zip(rows.iter()) {
-        events.push(event_of(order, row.message)?)?;
-    }
     for place in 0..rows.len() {
         if let Actor::Client(volume) = rows[place].actor
             && rows[place].may_commit

@@ -22,11 +22,11 @@ fn count_rows(cards: &mut [Card]) {
         let number = count - back;
         let rows = cards[number].place.rows.max(1);
         cards[number].place.rows = rows;
-        if let Some(parent) = cards[number].parent {
-            if parent < number as u64 {
-                let place = &mut cards[parent as usize].place;
-                place.rows = place.rows.saturating_add(rows);
-            }
+        if let Some(parent) = cards[number].parent
+            && parent < number as u64
+        {
+            let place = &mut cards[parent as usize].place;
+            place.rows = place.rows.saturating_add(rows);
         }
     }
 }
@@ -35,14 +35,14 @@ fn count_rows(cards: &mut [Card]) {
 fn find_places(cards: &mut [Card]) {
     for number in 0..cards.len() {
         let rows = cards[number].place.rows;
-        if let Some(parent) = cards[number].parent {
-            if parent < number as u64 {
-                let above = cards[parent as usize].place;
-                cards[parent as usize].place.taken = above.taken.saturating_add(rows);
-                let place = &mut cards[number].place;
-                place.depth = above.depth.saturating_add(1);
-                place.row = above.row.saturating_add(above.taken);
-            }
+        if let Some(parent) = cards[number].parent
+            && parent < number as u64
+        {
+            let above = cards[parent as usize].place;
+            cards[parent as usize].place.taken = above.taken.saturating_add(rows);
+            let place = &mut cards[number].place;
+            place.depth = above.depth.saturating_add(1);
+            place.row = above.row.saturating_add(above.taken);
         }
     }
 }
@@ -62,14 +62,10 @@ fn row_heights(alloc: Global, cards: &[Card]) -> Result<Vec<usize>, AllocError> 
 fn tops_of(heights: &mut [usize], top: usize) -> usize {
     let mut next = top;
     for height in heights.iter_mut() {
-        let bottom = next.saturating_add(*height);
-        let is_row = *height > 0;
+        let gap = if *height > 0 { ROW_GAP } else { 0 };
+        let below = next.saturating_add(*height).saturating_add(gap);
         *height = next;
-        next = if is_row {
-            bottom.saturating_add(ROW_GAP)
-        } else {
-            next
-        };
+        next = below;
     }
     next
 }
@@ -86,10 +82,7 @@ pub(crate) fn place_group(
     let bottom = tops_of(rows.as_mut_slice(), top.saturating_add(GROUP_HEADING));
     for card in cards.iter_mut() {
         let shift = card.place.depth.saturating_mul(CARD_WIDTH + GAP);
-        let y = match rows.get(card.place.row) {
-            Some(top) => *top,
-            None => top,
-        };
+        let y = rows.get(card.place.row).copied().unwrap_or(top);
         card.corner = (shift.saturating_add(MARGIN), y);
     }
     Ok(bottom)

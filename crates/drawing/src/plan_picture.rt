@@ -1,11 +1,11 @@
 //! A plan as a picture: each group's tree of configurations.
 
-use crate::cards::{CARD_WIDTH, Card, HEADING, Tree, tree_of};
+use crate::cards::{CARD_WIDTH, Card, HEADING, Tree, trees_of};
 use crate::layout::{GAP, MARGIN, place_group, width_of};
 use crate::members::{LEGEND, add_squares, add_title, members_height};
 use crate::sheet::Sheet;
 use crate::svg::begin_picture;
-use explain::{ConfigurationFacts, plan_facts};
+use explain::plan_facts;
 use plan::{Plan, PlanFault};
 use std::alloc::{AllocError, Global};
 
@@ -105,21 +105,6 @@ fn add_tree(svg: &mut String, sheet: &Sheet, born: u8, tree: &Tree) -> Result<()
         add_card(svg, sheet, card)?;
     }
     Ok(())
-}
-
-/// Returns the cards of each group, and adds their sentences to the sheet.
-fn trees_of(
-    alloc: Global,
-    sheet: &mut Sheet,
-    configurations: &[ConfigurationFacts],
-) -> Result<Vec<Tree>, AllocError> {
-    let mut trees = Vec::new(alloc);
-    for this in configurations {
-        if this.configuration == 0 {
-            trees.push(tree_of(alloc, sheet, this.group, configurations)?)?;
-        }
-    }
-    Ok(trees)
 }
 
 /// Places all groups. Returns the width and the height of the picture.

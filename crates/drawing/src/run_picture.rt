@@ -122,18 +122,6 @@ fn add_words(svg: &mut String, row: &Row, x: usize, y: usize) -> Result<(), Allo
     }
 }
 
-/// Appends the line across all lanes at which a recovery has found the log.
-fn add_cut(svg: &mut String, lanes: usize, row: &Row, y: usize) -> Result<(), AllocError> {
-    if let Act::Cut(Some(_)) = row.act {
-        let right = lane_x(lanes);
-        return write!(
-            svg,
-            "<path class=\"cut\" d=\"M{FIRST_LANE} {y}H{right}\"/>\n"
-        );
-    }
-    Ok(())
-}
-
 /// Appends a row's arrow or point, and its words.
 fn add_mark(svg: &mut String, lanes: &[Actor], row: &Row, y: usize) -> Result<(), AllocError> {
     let class = if row.refused.is_some() {
@@ -155,14 +143,20 @@ fn add_mark(svg: &mut String, lanes: &[Actor], row: &Row, y: usize) -> Result<()
     add_words(svg, row, at.saturating_add(10), y.saturating_add(4))
 }
 
-/// Appends a row.
+/// Appends a row, with a line across all lanes if a recovery has found the log.
 fn add_row(svg: &mut String, lanes: &[Actor], row: &Row, y: usize) -> Result<(), AllocError> {
     let (line, base) = (row.line, y.saturating_add(4));
     write!(
         svg,
         "<text class=\"line-number\" x=\"40\" y=\"{base}\">{line}</text>\n"
     )?;
-    add_cut(svg, lanes.len(), row, y)?;
+    if let Act::Cut(Some(_)) = row.act {
+        let right = lane_x(lanes.len());
+        write!(
+            svg,
+            "<path class=\"cut\" d=\"M{FIRST_LANE} {y}H{right}\"/>\n"
+        )?;
+    }
     add_mark(svg, lanes, row, y)
 }
 
@@ -198,8 +192,8 @@ pub fn draw_run(
         return Err(Fault::OverLimit);
     }
     let outcome = outcome_of(alloc, plan, orders)?;
-    let mut rows = rows_of(alloc, lines, orders, &outcome)?;
-    note_growth(alloc, plan, orders, rows.as_mut_slice())?;
+    let (mut rows, events) = rows_of(alloc, lines, orders, &outcome)?;
+    note_growth(alloc, plan, events.as_slice(), rows.as_mut_slice())?;
     let lanes = lanes_of(alloc, rows.as_slice())?;
     let mut svg = String::new(alloc);
     add_picture(&mut svg, lanes.as_slice(), rows.as_slice())?;

@@ -1,10 +1,10 @@
 //! What is drawn of each line of a run.
 
-use crate::act::{Act, Named, Sent, order_act};
+use crate::act::{Act, Sent, event_act};
 use crate::actor::Actor;
 use std::alloc::{AllocError, Global};
 use volume_model::Fault;
-use world::{Order, Outcome, RecoveryOutcome};
+use world::{Event, Order, Outcome, RecoveryOutcome};
 
 /// What is drawn of a line.
 #[derive(Clone, Copy)]
@@ -15,8 +15,6 @@ pub(crate) struct Row {
     pub actor: Actor,
     /// What it does.
     pub act: Act,
-    /// The number of the message that it names, 0 if there is none.
-    pub message: u64,
     /// Why it was refused, if it was.
     pub refused: Option<Fault>,
     /// Whether a writer's durable point may have grown.
@@ -50,13 +48,14 @@ struct RunState {
 impl RunState {
     /// Returns the place of a client, which is added if it is new.
     fn client(&mut self, volume: u32) -> Result<usize, AllocError> {
-        let mut place = 0usize;
-        for client in &self.clients {
-            if client.volume == volume {
-                return Ok(place);
-            }
-            place = place.saturating_add(1);
+        let known = self
+            .clients
+            .iter()
+            .position(|client| client.volume == volume);
+        if let Some(place) = known {
+            return Ok(place);
         }
+        let place = self.clients.len();
         self.clients.push(ClientState {
             volume,
             has_cut: volume == 1,
@@ -66,17 +65,41 @@ impl RunState {
         Ok(place)
     }
 
-    /// Returns the number of the message that a line names, 0 if there is none.
-    fn number_of(&self, named: Named) -> u64 {
-        match named {
-            Named::Nothing => 0,
-            Named::Number(number) => number,
-            Named::From(event, place) => match self.made.get(event as usize) {
-                Some((first, made)) if 1 <= place && place <= u64::from(*made) => {
-                    (*first as u64).saturating_add(place)
-                }
-                _ => 0,
-            },
+    /// Returns the number of the message at a place (from 1) among those of an event, 0 if there is none.
+    fn number_of(&self, event: u32, place: u64) -> u64 {
+        match self.made.get(event as usize) {
+            Some((first, made)) if 1 <= place && place <= u64::from(*made) => {
+                (*first as u64).saturating_add(place)
+            }
+            _ => 0,
+        }
+    }
+
+    /// Returns the event of an order.
+    fn event_of(&self, order: &Order) -> Result<Event, AllocError> {
+        match order {
+            Order::Event(event) => {
+                let event: &Event = event;
+                event.clone()
+            }
+            Order::DeliverFrom {
+                group,
+                member,
+                event,
+                place,
+            } => Ok(Event::Deliver {
+                group: *group,
+                member: *member,
+                message: self.number_of(*event, *place),
+            }),
+            Order::TakeFrom {
+                volume,
+                event,
+                place,
+            } => Ok(Event::Take {
+                volume: *volume,
+                message: self.number_of(*event, *place),
+            }),
         }
     }
 
@@ -115,12 +138,8 @@ impl RunState {
 
 /// Returns the cut and the start of a client's recovery.
 fn cut_of(finds: &[RecoveryOutcome], volume: u32) -> Option<(u64, u64)> {
-    for find in finds {
-        if find.volume == volume {
-            return Some((find.found.cut, find.found.lineage.last_start()));
-        }
-    }
-    None
+    let find = finds.iter().find(|find| find.volume == volume)?;
+    Some((find.found.cut, find.found.lineage.last_start()))
 }
 
 /// Returns an act that wasn't refused with what depends on the client, and advances the client.
@@ -152,12 +171,11 @@ fn add_row(
     rows: &mut Vec<Row>,
     state: &mut RunState,
     line: u32,
-    order: &Order,
+    event: &Event,
     answer: Result<u32, Fault>,
     finds: &[RecoveryOutcome],
 ) -> Result<(), AllocError> {
-    let (actor, plain, named) = order_act(order);
-    let message = state.number_of(named);
+    let (actor, plain, message) = event_act(event);
     let mut act = match plain {
         Act::Takes(_) => Act::Takes(state.message(message)),
         _ => plain,
@@ -183,7 +201,6 @@ fn add_row(
         line,
         actor,
         act,
-        message,
         refused,
         may_commit,
         durable: None,
@@ -191,25 +208,28 @@ fn add_row(
     Ok(())
 }
 
-/// Returns what is drawn of each line with an event. `lines` has their numbers.
+/// Returns what is drawn of each line with an event, and these events. `lines` has the lines' numbers.
 pub(crate) fn rows_of(
     alloc: Global,
     lines: &[u32],
     orders: &[Order],
     outcome: &Outcome,
-) -> Result<Vec<Row>, AllocError> {
+) -> Result<(Vec<Row>, Vec<Event>), AllocError> {
     let mut state = RunState {
         sent: Vec::new(alloc),
         made: Vec::new(alloc),
         clients: Vec::new(alloc),
     };
     let mut rows = Vec::new(alloc);
+    let mut events = Vec::new(alloc);
     for (at, order) in orders.iter().enumerate() {
         let line = lines.get(at).copied().unwrap_or(0);
         if let Some(answer) = outcome.results.get(at) {
             let finds = outcome.finds.as_slice();
-            add_row(&mut rows, &mut state, line, order, *answer, finds)?;
+            let event = state.event_of(order)?;
+            add_row(&mut rows, &mut state, line, &event, *answer, finds)?;
+            events.push(event)?;
         }
     }
-    Ok(rows)
+    Ok((rows, events))
 }

@@ -188,10 +188,8 @@ impl Sheet {
     /// Returns the height of the lines between two numbers in pixels.
     pub fn height(&self, lines: (usize, usize)) -> usize {
         let mut height = 0usize;
-        for number in lines.0..lines.1 {
-            if let Some(line) = self.lines.get(number) {
-                height = height.saturating_add(line.height());
-            }
+        for line in self.lines.iter().take(lines.1).skip(lines.0) {
+            height = height.saturating_add(line.height());
         }
         height
     }
@@ -205,11 +203,9 @@ impl Sheet {
         top: usize,
     ) -> Result<(), AllocError> {
         let mut y = top;
-        for number in lines.0..lines.1 {
-            if let Some(line) = self.lines.get(number) {
-                y = y.saturating_add(line.height());
-                self.add_line(svg, line, x, y)?;
-            }
+        for line in self.lines.iter().take(lines.1).skip(lines.0) {
+            y = y.saturating_add(line.height());
+            self.add_line(svg, line, x, y)?;
         }
         Ok(())
     }
