@@ -1,7 +1,7 @@
 -- Handles that are filled.
 use Rattle.std.proofs.Common.{◌≡◌, ◌≢◌, ◌<◌, ℕ, Bool, false, not, List, [], Option, Some, None, Result, Ok, Err, refl, sym, ap, ◌∙◌, subst, arith, inl, inr, ◌⊎◌, is_some, nat_le, option_map, true≢false}
 use Rattle.std.proofs.lemmas.Bool.Decides.{nat_tests}
-use Rattle.volume_model.specs.Common.{Fails, number_of, refuse_if, Plan, ClientAnswer, unborn, taken}
+use Rattle.volume_model.specs.Common.{Fails, number_of, refuse_if, Plan}
 use Rattle.volume_model.specs.Message as model
 use Rattle.volume_model.specs.declared.fault.Fault.{Fault}
 use Rattle.volume_model.specs.declared.fault.Fault.TheVariants.{NoMemory, NotOpen}
@@ -13,15 +13,14 @@ use Rattle.epochs.specs.declared.authority.Authority.{Authority}
 use Rattle.epochs.specs.Authority.{authority_of, authority_plan}
 use Rattle.segment_core.specs.declared.segment.Segment.{Segment}
 use Rattle.segment_core.specs.Segment.{node_of, IsSegmentOf}
-use Rattle.writer_core.specs.Writers as writers
 use Rattle.world.specs.declared.client.Client.{Client}
-use Rattle.world.specs.Clients.{client_plan, client_volume, seen_client, IsClientOf}
+use Rattle.world.specs.Clients.{seen_client, IsClientOf}
 use Rattle.volume_c.specs.declared.actor.Actor.TheVariants as actor
 use Rattle.volume_c.specs.View.{View, ANode, AClient, AnAuthority, client_in, held_now, view_of, seen, unsent}
 use Rattle.volume_c.specs.Calls.{Step, Value, IsRefusal, Refuses, Does, Makes, Reads, client_step, of_client}
 use Rattle.volume_c.specs.Authorities.{authority_made}
 use Rattle.volume_c.specs.Segments.{node_made}
-use Rattle.volume_c.specs.Clients.{birth_in, if_open, IsNoWriter}
+use Rattle.volume_c.specs.Clients.{if_open, IsNoWriter}
 use Rattle.volume_c.proofs.Statuses.{number-some, stays}
 
 none-some : {X : Type 0} (x : X) → None ≡ Some x → ⊥
@@ -103,14 +102,6 @@ step-of result = Some result
 
 pub first-made : (plan : Plan) (volume : ℕ) (first : client.Client) (c : Client) → answer first ≡ answer (seen_client c) → step-of (done [] (AClient plan volume first)) ≡ step-of (done [] (AClient plan volume (seen_client c)))
 first-made plan volume first c is = ap (λ (r : Result client.Client Fault). Some (first-step plan volume r)) is
-
--- a recovery that a View makes, by the step of a client that isn't there yet
-module _ (plan : Plan) (s : Client) (volume : ℕ) (places : List model.Place) (own : IsClientOf plan volume s) (is : seen_client s ≡ unborn) where
-  abbrev view-taken : ClientAnswer
-  view-taken = taken (client_plan s) (client_volume s) (seen_client s) (model.Message.View volume places)
-
-  begins : birth_in plan (model.Message.View volume places) ≡ client_step plan volume view-taken
-  begins = λ i. client_step plan volume (taken (sym own.plan_is i) (sym own.volume_is i) (sym is i) (model.Message.View volume places))
 
 -- a client that is held is read
 pub client-read : {A : Type 0} (give : client.Client → Result A Fault) (view : View) (c : client.Client) → client_in view ≡ Some c → of_client (λ plan volume now. give now) view ≡ Some (give c)

@@ -81,17 +81,6 @@ module _ (plan : Plan) (group member : ℕ) where
     turns = turns-append p.messages q.messages s ∙ ap (λ (r : NodeAnswer). r >>= λ (v : NodeStep). in_turn plan group member v q.messages) p.turns ∙ q.turns;
   }
 
-  -- a turn, from the reaction to its message
-  pub turned : (s t : NodeStep) (m : Message) (step : NodeStep) → reaction plan group member s.node m ≡ Ok step → t.made ≡ joined s.made step.made → t.node ≡ step.node → one_turn plan group member s m ≡ Ok t
-  turned s t m step e p q =
-      ap (λ (r : NodeAnswer). r >>= λ (u : NodeStep). Ok (record { made = joined s.made u.made; node = u.node })) e
-      ∙ (λ i. Ok (record { made = sym p i; node = sym q i }))
-
-  -- bytes whose first message isn't read, or isn't taken
-  pub not-read : (s : NodeStep) (bytes : List ℕ) (fault : Fault) → Fails fault (next_in bytes) → Fails fault (next_step plan group member s bytes)
-  not-read s bytes fault h =
-      Fails-at fault (next_in bytes) (next_step plan group member s bytes) (λ e. ap (λ (r : Result (Message × List ℕ) Fault). r >>= λ (x : Message × List ℕ). one_turn plan group member s x.0) e) h
-
 -- ---- a handle
 
 number-few : (fault : Fault) → number_of fault < 90

@@ -65,9 +65,6 @@ segment_send = search (sendable, segment_field) depth 30
 standings_field : IsSend (GroupStates.the_field).row
 standings_field = search (parts, plan_send, plan_sync) depth 30
 
-standings_send : IsSend GroupStates.the_row
-standings_send = search (sendable, standings_field) depth 30
-
 writer_field : IsSend (Writer.the_field).row
 writer_field = search (parts, plan_send, plan_sync, standings_field) depth 30
 
@@ -94,9 +91,6 @@ snapshot_field = search (sendable, heap.crosses, contents_type.the_send, content
 
 snapshot_send : IsSend SnapshotBytes.the_row
 snapshot_send = search (sendable, snapshot_field) depth 30
-
-actor_send : IsSend Actor.the_row
-actor_send = search (sendable, heap.crosses, segment_send, segment_field, client_send, client_field, authority_send, authority_field, snapshot_send, snapshot_field, plan_send, plan_sync) depth 30
 
 actor_field : IsSend (Actor.the_field).row
 actor_field = search (sendable, heap.crosses, segment_send, segment_field, client_send, client_field, authority_send, authority_field, snapshot_send, snapshot_field, plan_send, plan_sync) depth 30
