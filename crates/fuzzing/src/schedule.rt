@@ -286,10 +286,10 @@ impl Schedule {
         self.plan.lal() >= LONG_LAL && self.members(0).len() <= LONG_MEMBERS
     }
 
-    /// Returns a random script. It depends on the plan, on the numbers that the generator returns and on the events that
-    /// are asked for, and on nothing else. One in four begins with a long log, if the plan's LAL is great enough for
-    /// it; else one in three begins with a write that arrives late, if the plan has a step. Then come its turns, of at
-    /// most one line each; their number is the greater of two draws between 60 and 700.
+    /// Returns a random script. It depends on the plan, on the numbers that the generator returns and on the events
+    /// that are asked for, and on nothing else. One in four begins with a long log, if the plan's LAL is great enough
+    /// for it; else one in three begins with a write that arrives late, if the plan has a step. Then come its turns, of
+    /// at most one line each; their number is the greater of two draws between 60 and 700.
     ///
     /// # Errors
     /// `AllocError` if memory runs out.

@@ -40,8 +40,8 @@ impl Payload {
         })
     }
 
-    /// Returns the first `length` of these bytes; those after them are 0. Copies all seven, for which the compiler needs
-    /// no call: records in reverse take 7 % less time than with [`Payload::new`].
+    /// Returns the first `length` of these bytes; those after them are 0. Copies all seven, for which the compiler
+    /// needs no call: records in reverse take 7 % less time than with [`Payload::new`].
     #[inline(always)]
     pub fn from_few(bytes: &[u8; FEW_BYTES], length: u8) -> Payload
         requires not_empty { 1 ≤ length }
