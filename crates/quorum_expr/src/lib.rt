@@ -1,5 +1,5 @@
-//! Quorum expressions: their meaning, which are valid, their duals, and how they are read from JSON. A node of JSON is a
-//! `&serde_json::Value` or a place of a `json::Tape`.
+//! Quorum expressions: their meaning, which are valid, their duals, and how they are read from JSON. A node of JSON is
+//! a `&serde_json::Value` or a place of a `json::Tape`.
 #![tactic(auto)]
 
 mod counting;
