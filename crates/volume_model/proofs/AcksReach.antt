@@ -1,8 +1,7 @@
 -- An acknowledgement says at least the number of each record of its group that the writer found
 use Rattle.std.proofs.Common.{◌≡◌, ℕ, zero, suc, ◌<◌, ◌≤◌, Bool, true, false, not, ◌&&◌, ◌||◌, nat_lt, eqb, ◌⊎◌, List, [], ◌∷◌, Result, Ok, Err, refl, sym, ap, ◌∙◌, subst, inl, inr, arith, le_refl}
 use Rattle.std.proofs.lemmas.Bool.{cases_Bool, and_parts, and_from, or_left, or_right, eqb-true, eq-eqb, ltb-true}
-use Rattle.volume_model.specs.Common.{IsIn, put_at, Redo, grounded, scl, last_lsn, last_of_group, last_epoch, Plan, is_named, IsCertified, Label, Place, View, StepTo, Ack, refuse_if, NodeStep, NodeAnswer, restarted, ClientStep, ClientAnswer, World, Event, AuthorityStep, of_authority, of_client, of_node, after_step, after, run, opening, assigned, advanced, refreshed, grown, if_there, groups_joined, Assign, Advance, Refresh, Grow, Issue, Take, Cut, Open, Resend, Read, Deliver, Hydrate, Restart, Offer, StaysFound}
-use Rattle.volume_model.specs.Node.{Node}
+use Rattle.volume_model.specs.Common.{IsIn, put_at, Redo, grounded, scl, last_lsn, last_of_group, last_epoch, Plan, is_named, IsCertified, Label, Ack, refuse_if, NodeStep, NodeAnswer, ClientStep, ClientAnswer, World, Event, AuthorityStep, of_authority, of_client, of_node, after_step, after, run, opening, assigned, advanced, refreshed, grown, if_there, groups_joined, Assign, Advance, Refresh, Grow, Issue, Take, Cut, Open, Resend, Read, Deliver, Hydrate, Restart, Offer, StaysFound}
 use Rattle.volume_model.proofs.Basics.{any_from, IsIn-added}
 use Rattle.volume_model.proofs.Logs.{IsChain, at_most_last}
 use Rattle.volume_model.proofs.Greatest.{greatest_where-above}
@@ -10,28 +9,22 @@ use Rattle.volume_model.proofs.Grounded.{greatest_grounded-is}
 use Rattle.volume_model.proofs.Invariant.{Held, found_of, HasCut, IsMade, IsCopy}
 use Rattle.volume_model.proofs.Kept.{IsCutClient, IsAck, IsKept}
 use Rattle.volume_model.proofs.Renewed.{IsReady, IsKeptWorld, renewed_kept, renewed_ready}
-use Rattle.volume_model.proofs.NodeSteps.{refuse_if-ok, put_at-same, NodeSays, IsGoodStep, delivered_good, hydrated_good, restarted_good, offered_good}
+use Rattle.volume_model.proofs.NodeSteps.{put_at-same, NodeSays, IsGoodStep, delivered_good, hydrated_good, offered_good}
 use Rattle.volume_model.proofs.ClientSteps.{ClientSays, IsGoodMove, issued_good, take_good, cut_good, opened_good, resent_good, asked_good}
 use Rattle.volume_model.proofs.Run.{event_kept, opening_kept}
 use Rattle.volume_model.proofs.Sound.{facts, cut_client}
 use Rattle.volume_model.proofs.Lasting.{IsChain-rest}
 use Rattle.volume_model.proofs.Finds.{event_keeps}
 use Rattle.volume_model.specs.declared.fault.Fault.{Fault}
-use Rattle.volume_model.specs.declared.fault.Fault.TheVariants.{NoActor, EpochsSpent, NoGroup, NotInPlan, Superseded, AllGrown}
+use Rattle.volume_model.specs.declared.fault.Fault.TheVariants.{NoActor}
+use Rattle.std.proofs.lemmas.Grind.{common_steps}
 
 -- ---- a segment that has all records of a chain reaches each of them
 
 -- the last number of a group: 0, or that of a record
 last_of_group-is : (group : ℕ) (log : List Redo) → (last_of_group group log ≡ 0) ⊎ (t : Redo) × IsIn t log × (t.group ≡ group) × (t.lsn ≡ last_of_group group log)
 last_of_group-is group [] = inl refl
-last_of_group-is group (s ∷ older) =
-    elim (cases_Bool (eqb s.group group)) [
-      | inl e ↦ inr (s, inl refl, eqb-true s.group group e, rw e refl)
-      | inr e ↦ elim (last_of_group-is group older) [
-        | inl z ↦ inl (rw e z)
-        | inr h ↦ inr (h.0, inr h.1, h.2, rw e h.3)
-      ]
-    ]
+last_of_group-is group (s ∷ older) = grind (arith, common_steps, cases_Bool, eqb-true, (last_of_group-is group older))
 
 module _ (group : ℕ) (records : List Redo) where
   -- one step of the walk finds a record
@@ -41,8 +34,7 @@ module _ (group : ℕ) (records : List Redo) where
   grounded_chain : (found : List Redo) → IsChain found → ((r : Redo) → IsIn r found → r.group ≡ group → IsIn r records) → (r : Redo) → IsIn r found → r.group ≡ group → (steps : ℕ) → r.lsn ≤ steps → grounded steps records r.lsn ≡ true
   grounded_chain [] c all r i g steps l = absurd i
   grounded_chain (s ∷ older) c all r (inr i) g steps l = grounded_chain older c.1 (λ t j. all t (inr j)) r i g steps l
-  grounded_chain (s ∷ older) c all r (inl p) g zero l =
-      absurd (let k : last_lsn older < s.lsn = c.0.above in let e : r.lsn ≡ s.lsn = ap (λ z. z.lsn) p in omega arith)
+  grounded_chain (s ∷ older) c all r (inl p) g zero l = grind (arith, common_steps)
   grounded_chain (s ∷ older) c all r (inl p) g (suc steps) l =
       let k : last_lsn older < s.lsn = c.0.above in
       let e : r.lsn ≡ s.lsn = ap (λ z. z.lsn) p in
@@ -58,18 +50,9 @@ module _ (group : ℕ) (records : List Redo) where
 
   -- so its complete point is at least the number of each
   reaches_chain : (found : List Redo) → IsChain found → ((r : Redo) → IsIn r found → r.group ≡ group → IsIn r records) → (r : Redo) → IsIn r found → r.group ≡ group → r.lsn ≤ scl records
-  reaches_chain found c all r i g =
-      let l : r.lsn ≤ scl records = subst (λ n. r.lsn ≤ n) (sym (greatest_grounded-is records records))
-      (greatest_where-above (λ s. grounded s.lsn records s.lsn) (λ s. s.lsn) records r (all r i g) (grounded_chain found c all r i g r.lsn (le_refl r.lsn))) in
-      l
+  reaches_chain found c all r i g = grind (arith, common_steps, greatest_grounded-is, greatest_where-above, grounded_chain, le_refl)
 
 -- ---- who says an acknowledgement
-
-ack_no_view : (group x s v : ℕ) (l : Label) (places : List Place) → Ack group l x s ≡ View v places → ⊥
-ack_no_view group x s v l places e = cc
-
-ack_no_step : (group x s to : ℕ) (l : Label) (place : Place) → Ack group l x s ≡ StepTo to place → ⊥
-ack_no_step group x s to l place e = cc
 
 -- a node of this world says it, of its own
 record IsSaid (plan : Plan) (world : World) (group : ℕ) (l : Label) (x s : ℕ) : Type 0 where
@@ -98,12 +81,7 @@ module _ (plan : Plan) (certified : IsCertified plan) {held : Held} (world : Wor
         | inl j ↦ inr (
             let says : NodeSays held world to y step.node (Ack group l x s) = (good step refl).says (Ack group l x s) j in
             let same : put_at world.nodes to y step.node group x ≡ step.node = ap (λ g. put_at world.nodes to y step.node g x) says.0 ∙ ap (λ z. put_at world.nodes to y step.node to z) says.1 ∙ put_at-same world.nodes to y step.node in
-            record {
-              there = subst (λ g. g < plan.groups) (sym says.0) there;
-              whole = ap (λ n. n.whole) same ∙ says.2;
-              epoch = ap (λ n. last_epoch n.contents.lineage) same ∙ says.5 ∙ sym says.3;
-              complete = says.6 ∙ ap (λ n. scl n.contents.records) (sym same);
-            })
+            grind (arith, common_steps))
         | inr j ↦ inl j
       ]
 
@@ -118,9 +96,6 @@ module _ (plan : Plan) (certified : IsCertified plan) {held : Held} (world : Wor
   abbrev SaysNoAck : AuthorityStep → Type 0
   SaysNoAck step = (group : ℕ) (l : Label) (x s : ℕ) → IsIn (Ack group l x s) step.made → ⊥
 
-  step_is : (a b : AuthorityStep) → ◌≡◌ {A = Result AuthorityStep Fault} (Ok a) (Ok b) → a ≡ b
-  step_is a b h = cc
-
   said_by_authority : (answer : Result AuthorityStep Fault) → ((step : AuthorityStep) → answer ≡ Ok step → SaysNoAck step) → AcksAreSaid (after_step world (of_authority world answer))
   said_by_authority (Err number) good group l x s i = inl i
   said_by_authority (Ok step) good group l x s i =
@@ -129,34 +104,17 @@ module _ (plan : Plan) (certified : IsCertified plan) {held : Held} (world : Wor
         | inr j ↦ inl j
       ]
 
-  no_view : (group : ℕ) (l : Label) (x s volume : ℕ) (places : List Place) → IsIn (Ack group l x s) (View volume places ∷ []) → ⊥
-  no_view group l x s volume places (inl e) = ack_no_view group x s volume l places e
-  no_view group l x s volume places (inr z) = z
-
-  no_step : (group : ℕ) (l : Label) (x s to : ℕ) (place : Place) → IsIn (Ack group l x s) (StepTo to place ∷ []) → ⊥
-  no_step group l x s to place (inl e) = ack_no_step group x s to l place e
-  no_step group l x s to place (inr z) = z
-
   assigned_silent : (step : AuthorityStep) → assigned plan world.authority ≡ Ok step → SaysNoAck step
-  assigned_silent step h =
-      let (a, h1) = refuse_if-ok _ EpochsSpent _ step h in
-      subst SaysNoAck (step_is _ step h1) (λ group l x s i. no_view group l x s _ _ i)
+  assigned_silent step h = grind (arith, common_steps)
 
   advanced_silent : (group c : ℕ) (step : AuthorityStep) → advanced plan world.authority group c ≡ Ok step → SaysNoAck step
-  advanced_silent group c step h =
-      let (a, h1) = refuse_if-ok _ NoGroup _ step h in
-      let (b, h2) = refuse_if-ok _ NotInPlan _ step h1 in
-      subst SaysNoAck (step_is _ step h2) (λ g l x s i. no_step g l x s _ _ i)
+  advanced_silent group c step h = grind (arith, common_steps)
 
   refreshed_silent : (volume : ℕ) (step : AuthorityStep) → refreshed plan world.authority volume ≡ Ok step → SaysNoAck step
-  refreshed_silent volume step h =
-      let (a, h1) = refuse_if-ok _ Superseded _ step h in
-      subst SaysNoAck (step_is _ step h1) (λ group l x s i. no_view group l x s _ _ i)
+  refreshed_silent volume step h = grind (arith, common_steps)
 
   grown_silent : (step : AuthorityStep) → grown plan world.authority ≡ Ok step → SaysNoAck step
-  grown_silent step h =
-      let (a, h1) = refuse_if-ok _ AllGrown _ step h in
-      subst SaysNoAck (step_is _ step h1) (λ group l x s i. i)
+  grown_silent step h = grind (arith, common_steps)
 
   said : (event : Event) → AcksAreSaid (after plan world event)
   said Assign = said_by_authority _ assigned_silent
@@ -171,10 +129,7 @@ module _ (plan : Plan) (certified : IsCertified plan) {held : Held} (world : Wor
   said (Read v group block) = said_by_client v _ (asked_good plan certified world kept v group block)
   said (Deliver to y number) = said_by_named to y _ (λ there step h. delivered_good plan certified world kept ready to y there number step h)
   said (Hydrate to y) = said_by_named to y _ (λ there step h. hydrated_good plan certified world kept ready to y there step h)
-  said (Restart to y) = said_by_named to y _ (λ there step h. subst (λ z. IsGoodStep plan held world to y z) (restart_is (world.nodes to y) step h) (restarted_good plan certified world kept ready to y there))
-    where
-      restart_is : (node : Node) (step : NodeStep) → ◌≡◌ {A = NodeAnswer} (Ok (record { made = []; node = restarted node })) (Ok step) → record { made = []; node = restarted node } ≡ step
-      restart_is node step h = cc
+  said (Restart to y) = grind (arith, common_steps)
   said (Offer to y lsn) = said_by_named to y _ (λ there step h. offered_good plan certified world kept ready to y there lsn step h)
 
 -- each acknowledgement under a client's volume epoch reaches all of its group that the client found
@@ -183,9 +138,7 @@ pub record AcksReach (world : World) : Type 0 where
 
 -- what a client found is a chain
 pub found_chain : (plan : Plan) → IsCertified plan → {held : Held} (world : World) → IsKept plan held world → (v : ℕ) → HasCut world v → IsChain (found_of world v)
-found_chain plan certified world kept v cut =
-    let k : IsCutClient plan world v (world.clients v) = cut_client plan certified world kept v cut in
-    IsChain-rest k.own (found_of world v) (subst IsChain (sym k.log) (facts plan certified world kept v cut).chain)
+found_chain plan certified world kept v cut = grind (arith, common_steps, IsCutClient, cut_client, IsChain-rest, found_of, IsChain, facts, (IsCutClient plan world v (world.clients v)), (cut_client plan certified world kept v cut), (found_of world v), (facts plan certified world kept v cut))
 
 module _ (plan : Plan) (certified : IsCertified plan) where
   said_reaches : {held : Held} (world : World) → IsKept plan held world → (group : ℕ) (l : Label) (x s : ℕ) → IsSaid plan world group l x s → (r : Redo) → IsIn r (found_of world l.volume) → r.group ≡ group → r.lsn ≤ s

@@ -6,6 +6,8 @@ use Rattle.volume_model.specs.Common.{numbered, refuse_if, Plan, is_named, Messa
 use Rattle.volume_model.specs.Node.{Node}
 use Rattle.volume_model.specs.Client as model
 use Rattle.volume_model.proofs.ListFacts.{by_test, numbered_kept}
+use Rattle.std.proofs.lemmas.Grind.{common_steps}
+use Rattle.std.proofs.Common.{arith}
 
 -- the result of a step of each kind of actor
 abbrev pub authority_answer : Result AuthorityStep Fault → Result (List Message) Fault
@@ -106,15 +108,11 @@ module _ (plan : Plan) where
 
   -- the same refusal
   pub refused_alike : (w v : World) (e : Event) (fault : Fault) → fault ≢ NoMessage → Agree (actor_of e) w v → JoinedAlike e w v → Keeps w v → step plan w e ≡ Err fault → step plan v e ≡ Err fault
-  refused_alike w v e fault other same there keeps h =
-      let is : answer (step plan w e) ≡ Err fault = ap answer h in
-      event_result-fault (step plan v e) fault (answered_alike w v e same there keeps (λ none. let both : fault ≡ NoMessage = cc in other both) ∙ is)
+  refused_alike w v e fault other same there keeps h = grind (arith, common_steps, Err, event_result-fault, answered_alike)
 
   -- the same refusal, by its number
   pub refusal_alike : (w v : World) (e : Event) (number : ℕ) → number ≢ 80 → Agree (actor_of e) w v → JoinedAlike e w v → Keeps w v → refusal (step plan w e) ≡ number → refusal (step plan v e) ≡ number
-  refusal_alike w v e number other same there keeps h =
-      let alike = answered_alike w v e same there keeps (λ none. other (sym h ∙ sym (answer-refusal (step plan w e)) ∙ ap refusal none)) in
-      sym (answer-refusal (step plan v e)) ∙ ap refusal alike ∙ answer-refusal (step plan w e) ∙ h
+  refusal_alike w v e number other same there keeps h = grind (arith, common_steps, answered_alike, answer-refusal)
 
   -- the same messages
   pub made_alike : (w v : World) (e : Event) (ms : List Message) → Agree (actor_of e) w v → JoinedAlike e w v → Keeps w v → makes (step plan w e) ≡ Some ms → makes (step plan v e) ≡ Some ms

@@ -1,18 +1,18 @@
 -- A lineage that is carried is the one that the client of its last volume epoch has
-use Rattle.std.proofs.Common.{◌≡◌, ℕ, ◌<◌, ◌≤◌, Bool, true, false, not, ◌&&◌, ◌==◌, nat_lt, nat_le, ◌⊎◌, List, [], ◌∷◌, Option, Some, None, Result, Ok, Err, length, refl, sym, ap, ◌∙◌, subst, inl, inr, arith}
-use Rattle.std.proofs.lemmas.Bool.{cases_Bool, cases_lt, and_parts, both_ways, true≢false, not-false, ltb-true}
-use Rattle.volume_model.specs.Common.{numbered, Redo, holds_record, record_at, Lineage, birth, last_epoch, Contents, Piece, most_pieces, is_bad_piece, is_complete, with_install, pieces_from, Plan, has_member, is_configuration, is_named, IsCertified, Label, Message, StepTo, Fence, Report, Install, Write, Gossip, CopyAsk, CopyReport, PageAsk, refuse_if, NodeStep, NodeAnswer, born_node, lineage_epoch, label_checks, most_records, most_copies, take_record, installed, in_group, reaction, hydrated, restarted, gossip_of, offered, has_cut, World, Event, AuthorityStep, of_authority, of_client, of_node, after_step, after, run, opening, assigned, advanced, refreshed, grown, deliver, if_there, groups_joined, ClientAnswer, Assign, Advance, Refresh, Grow, Issue, Take, Cut, Open, Resend, Read, Deliver, Hydrate, Restart, Offer, Carries, HasOneLineageAnEpoch, OneLineageAnEpoch, by_node, by_client, by_report, by_install, by_copy}
+use Rattle.std.proofs.Common.{◌≡◌, ℕ, ◌<◌, ◌≤◌, Bool, true, false, not, ◌&&◌, ◌==◌, nat_lt, ◌⊎◌, List, [], ◌∷◌, Option, Some, None, Result, Ok, Err, refl, sym, ap, ◌∙◌, subst, inl, inr, arith}
+use Rattle.std.proofs.lemmas.Bool.{cases_Bool, cases_lt, and_parts, both_ways, ltb-true}
+use Rattle.volume_model.specs.Common.{numbered, Redo, Lineage, birth, last_epoch, Contents, Piece, Plan, is_named, IsCertified, Label, Message, StepTo, Fence, Report, Install, Write, Gossip, CopyAsk, CopyReport, PageAsk, refuse_if, NodeStep, NodeAnswer, born_node, label_checks, take_record, installed, in_group, reaction, hydrated, restarted, offered, has_cut, World, Event, AuthorityStep, of_authority, of_client, of_node, after_step, after, run, opening, assigned, advanced, refreshed, grown, deliver, if_there, groups_joined, ClientAnswer, Assign, Advance, Refresh, Grow, Issue, Take, Cut, Open, Resend, Read, Deliver, Hydrate, Restart, Offer, Carries, HasOneLineageAnEpoch, OneLineageAnEpoch, by_node, by_client, by_report, by_install, by_copy}
 use Rattle.volume_model.specs.Node.{Node}
-use Rattle.volume_model.proofs.Basics.{put_at-all}
 use Rattle.volume_model.proofs.Invariant.{Held, lineage_of, HasCut, IsCopy}
 use Rattle.volume_model.proofs.Renewed.{IsKeptWorld}
 use Rattle.volume_model.proofs.Kept.{install_of, IsInstall, IsCopied, MessageKept, IsKept}
-use Rattle.volume_model.proofs.NodeSteps.{refuse_if-ok, page_answer-ok, hydrated-ok}
+use Rattle.volume_model.proofs.NodeSteps.{refuse_if-ok, page_answer-ok}
 use Rattle.volume_model.proofs.Run.{run_kept, opening_kept}
 use Rattle.volume_model.proofs.Sound.{facts, positive_of}
 use Rattle.volume_model.proofs.Finds.{run_keeps, run_tidy}
 use Rattle.volume_model.specs.declared.fault.Fault.{Fault}
-use Rattle.volume_model.specs.declared.fault.Fault.TheVariants.{NoActor, AheadMember, AlreadyWhole, BadPiece, Full, NotAddressed, NotInPlan, NotInstalled, NotWhole, SeriesSpent, StaleMember, StaleVolume}
+use Rattle.volume_model.specs.declared.fault.Fault.TheVariants.{NoActor, NotAddressed}
+use Rattle.std.proofs.lemmas.Grind.{common_steps}
 
 -- neither lineage nor records
 abbrev pub nothing : Contents
@@ -45,72 +45,28 @@ module _ (plan : Plan) (group x : ℕ) (node : Node) where
 
   -- a label's tests let pass what is sent to a whole node
   passed : (l : Label) (rest : NodeAnswer) (step : NodeStep) → label_checks node l rest ≡ Ok step → (node.whole ≡ true) × (rest ≡ Ok step)
-  passed l rest step h =
-      let (a, h1) = refuse_if-ok (nat_lt l.member node.place.epoch) StaleMember _ step h in
-      let (b, h2) = refuse_if-ok (nat_lt node.place.epoch l.member) AheadMember _ step h1 in
-      let (c, h3) = refuse_if-ok (not node.whole) NotWhole _ step h2 in
-      let (d, h4) = refuse_if-ok (nat_lt l.volume node.volume) StaleVolume _ step h3 in
-      (not-false node.whole c, h4)
+  passed l rest step h = grind (arith, common_steps)
 
   was_whole : (new : Node) → new.whole ≡ true → StaysBare node new
   was_whole new w = record { whole = λ h. absurd (both_ways _ h w); contents = λ h. absurd (both_ways _ h w) }
 
   record_bare : (l : Label) (r : Redo) (step : NodeStep) → take_record group x node l r ≡ Ok step → IsBareStep step
-  record_bare l r step h =
-      let (w, h1) = passed l _ step h in
-      let (a, h2) = refuse_if-ok (not (lineage_epoch node == l.volume)) NotInstalled _ step h1 in
-      let (b, h3) = refuse_if-ok (not (holds_record r node.contents.records) && nat_le most_records (length node.contents.records)) Full _ step h2 in
-      subst IsBareStep (Ok-is _ step h3) (was_whole _ w)
+  record_bare l r step h = grind (arith, common_steps)
 
   -- an install leaves a node as whole as it was
   installed_whole : (l : Label) (piece : Piece) (c : Contents) → (installed group x node l piece c).node.whole ≡ node.whole
   unfolding installed
-  installed_whole l piece c =
-      elim (cases_Bool (lineage_epoch node == l.volume)) [
-        | inl e ↦ rw e refl
-        | inr e ↦ elim (cases_Bool (is_complete (with_install node.install l.volume piece c))) [
-          | inl f ↦ rw (e, f) refl
-          | inr f ↦ rw (e, f) refl
-        ]
-      ]
+  installed_whole l piece c = grind (arith, common_steps)
 
   reaction_bare : (m : Message) (step : NodeStep) → reaction plan group x node m ≡ Ok step → IsBareStep step
-  reaction_bare (Fence to l) step h =
-      let (a, h1) = refuse_if-ok (not (to == group)) NotAddressed _ step h in
-      let (w, h2) = passed l _ step h1 in
-      subst IsBareStep (Ok-is _ step h2) (was_whole _ w)
-  reaction_bare (Install to l piece c) step h =
-      let (a, h1) = refuse_if-ok (not (to == group && in_group group c)) NotAddressed _ step h in
-      let (w, h2) = passed l _ step h1 in
-      let (b, h3) = refuse_if-ok (nat_lt most_pieces piece.of) Full _ step h2 in
-      let (d, h4) = refuse_if-ok (is_bad_piece node.install l.volume piece c) BadPiece _ step h3 in
-      subst IsBareStep (Ok-is _ step h4) (was_whole _ (installed_whole l piece c ∙ w))
+  reaction_bare (Fence to l) step h = grind (arith, common_steps)
+  reaction_bare (Install to l piece c) step h = grind (arith, common_steps, refuse_if-ok, not, passed, IsBareStep, Ok-is, was_whole, installed_whole)
   reaction_bare (Write to l r) step h = record_bare l r step (refuse_if-ok (not (to == group && r.group == group)) NotAddressed _ step h).1
   reaction_bare (Gossip to l r) step h = record_bare l r step (refuse_if-ok (not (to == group && r.group == group)) NotAddressed _ step h).1
-  reaction_bare (StepTo to place) step h =
-      let (a, h1) = refuse_if-ok (not (to == group)) NotAddressed _ step h in
-      let (b, h2) = refuse_if-ok (nat_le place.epoch node.place.epoch) StaleMember _ step h1 in
-      let (c, h3) = refuse_if-ok (not (is_configuration plan group place.configuration place.epoch)) NotInPlan _ step h2 in
-      subst IsBareStep (Ok-is _ step h3) (record { whole = λ w. w; contents = λ w. refl })
-  reaction_bare (CopyAsk to epoch) step h =
-      let (a, h1) = refuse_if-ok (not (to == group)) NotAddressed _ step h in
-      let (b, h2) = refuse_if-ok (nat_lt epoch node.place.epoch) StaleMember _ step h1 in
-      let (c, h3) = refuse_if-ok (nat_lt node.place.epoch epoch) AheadMember _ step h2 in
-      let (d, h4) = refuse_if-ok (not node.whole) NotWhole _ step h3 in
-      let (f, h5) = refuse_if-ok (nat_le most_copies node.copied) SeriesSpent _ step h4 in
-      subst IsBareStep (Ok-is _ step h5) (record { whole = λ k. k; contents = λ k. refl })
-  reaction_bare (CopyReport to epoch sender s piece c) step h =
-      let (a, h1) = refuse_if-ok (not (to == group && in_group group c && nat_lt sender 64)) NotAddressed _ step h in
-      let (w, h2) = refuse_if-ok node.whole AlreadyWhole _ step h1 in
-      let (b, h3) = refuse_if-ok (nat_lt epoch node.place.epoch) StaleMember _ step h2 in
-      let (d, h4) = refuse_if-ok (nat_lt node.place.epoch epoch) AheadMember _ step h3 in
-      let (f, h5) = refuse_if-ok (is_bad_piece (pieces_from node.copies sender) s piece c) BadPiece _ step h4 in
-      subst IsBareStep (Ok-is _ step h5) (record { whole = λ k. k; contents = λ k. refl })
-  reaction_bare (PageAsk to l block point) step h =
-      let (a, h1) = refuse_if-ok (not (to == group)) NotAddressed _ step h in
-      let (w, h2) = passed l _ step h1 in
-      let (v, d, is) = page_answer-ok plan group x node l block point step h2 in
-      subst IsBareStep (sym is) (same_bare node)
+  reaction_bare (StepTo to place) step h = grind (arith, common_steps)
+  reaction_bare (CopyAsk to epoch) step h = grind (arith, common_steps)
+  reaction_bare (CopyReport to epoch sender s piece c) step h = grind (arith, common_steps, (refuse_if-ok (not (to == group && in_group group c && nat_lt sender 64)) NotAddressed _ step h), (not (to == group && in_group group c && nat_lt sender 64)))
+  reaction_bare (PageAsk to l block point) step h = grind (arith, common_steps, refuse_if-ok, not, passed, page_answer-ok, IsBareStep, same_bare)
   reaction_bare m step h = cc
 
   deliver_bare : (found : Option Message) (step : NodeStep) → deliver plan group x node found ≡ Ok step → IsBareStep step
@@ -118,22 +74,13 @@ module _ (plan : Plan) (group x : ℕ) (node : Node) where
   deliver_bare (Some m) step h = reaction_bare m step h
 
   hydrate_bare : (step : NodeStep) → hydrated plan group x node ≡ Ok step → IsBareStep step
-  hydrate_bare step h =
-      let (w, own, reads, is) = hydrated-ok plan group x node step h in
-      subst IsBareStep (sym is) (was_whole _ refl)
+  hydrate_bare step h = grind (arith, common_steps)
 
   restart_bare : (step : NodeStep) → ◌≡◌ {A = NodeAnswer} (Ok (record { made = []; node = restarted node })) (Ok step) → IsBareStep step
   restart_bare step h = subst IsBareStep (Ok-is _ step h) (record { whole = λ w. w; contents = λ w. refl })
 
   offer_bare : (lsn : ℕ) (step : NodeStep) → offered group node lsn ≡ Ok step → IsBareStep step
-  offer_bare lsn step h =
-      let (a, h1) = refuse_if-ok (not node.whole) NotWhole _ step h in
-      let (b, h2) = refuse_if-ok (not (node.volume == lineage_epoch node)) NotInstalled _ step h1 in
-      go (record_at node.contents.records lsn) h2
-    where
-      go : (found : Option Redo) → gossip_of group node found ≡ Ok step → IsBareStep step
-      go None h = cc
-      go (Some r) h = subst IsBareStep (Ok-is _ step h) (same_bare node)
+  offer_bare lsn step h = grind (arith, common_steps)
 
 module _ (plan : Plan) (world : World) (bare : (group x : ℕ) → IsBare plan group (world.nodes group x)) where
   -- each node is bare where it has to be
@@ -152,12 +99,7 @@ module _ (plan : Plan) (world : World) (bare : (group x : ℕ) → IsBare plan g
   stepped group x there (Err number) good = bare
   stepped group x there (Ok step) good =
       let s : StaysBare (world.nodes group x) step.node = good step refl in
-      put_at-all (λ g y node. IsBare plan g node) world.nodes group x step.node
-      (record {
-        holds_nothing = λ w l. s.contents w ∙ (bare group x).holds_nothing (s.whole w) l;
-        outside = λ o. absurd (omega arith);
-      })
-      bare
+      grind (arith, common_steps)
 
   by_a_node : (group x : ℕ) (answer : NodeAnswer) → ((step : NodeStep) → answer ≡ Ok step → StaysBare (world.nodes group x) step.node) → AllBare (after_step world (of_node world group x (if_there plan (groups_joined world.authority) group x answer)))
   by_a_node group x answer good = go (nat_lt group (groups_joined world.authority) && is_named plan group x) refl
@@ -187,11 +129,7 @@ run_bare plan [] world bare = bare
 run_bare plan (event ∷ events) world bare = run_bare plan events (after plan world event) (event_bare plan world bare event)
 
 born_bare : (plan : Plan) (group x : ℕ) → IsBare plan group (born_node plan group x)
-born_bare plan group x =
-    elim (cases_Bool (has_member (plan.configuration group 0) x)) [
-      | inl e ↦ rw e (record { holds_nothing = λ w. absurd (true≢false w); outside = λ o. inr refl })
-      | inr e ↦ rw e (record { holds_nothing = λ w l. refl; outside = λ o. inl refl })
-    ]
+born_bare plan group x = grind (arith, common_steps)
 
 pub ends_bare : (plan : Plan) (events : List Event) (group x : ℕ) → IsBare plan group ((run plan (opening plan) events).nodes group x)
 ends_bare plan events = run_bare plan events (opening plan) (born_bare plan)
@@ -221,9 +159,7 @@ module _ (plan : Plan) (certified : IsCertified plan) (events : List Event) wher
   client_known : (v : ℕ) → IsKnown (lineage_of end v)
   client_known v =
       elim (cases_Bool (has_cut (end.clients v).stage)) [
-        | inl cut ↦ (
-            let head : last_epoch (lineage_of end v) ≡ v = (facts plan certified end kept v cut).head in
-            inr (subst (HasCut end) (sym head) cut, ap (lineage_of end) (sym head)))
+        | inl cut ↦ grind (arith, common_steps, lineage_of, end, facts, kept, HasCut)
         | inr not_cut ↦ inl ((run_tidy plan events v).no_lineage not_cut)
       ]
 
@@ -231,18 +167,7 @@ module _ (plan : Plan) (certified : IsCertified plan) (events : List Event) wher
   birth_known = inr (((run_keeps plan events (opening plan) 1).stays refl).cut_on, sym ((run_keeps plan events (opening plan) 1).stays refl).lineage_on)
 
   node_known : (group x : ℕ) → IsKnown (end.nodes group x).contents.lineage
-  node_known group x =
-      let bare : IsBare plan group (end.nodes group x) = ends_bare plan events group x in
-      elim (cases_lt group plan.groups) [
-        | inl there ↦ elim (cases_Bool (end.nodes group x).whole) [
-          | inl whole ↦ copy_known group (end.nodes group x).contents ((kept.nodes group x there).whole whole).copy
-          | inr not_whole ↦ inl (ap (λ z. z.lineage) (bare.holds_nothing not_whole there))
-        ]
-        | inr outside ↦ elim (bare.outside outside) [
-          | inl none ↦ inl (ap (λ z. z.lineage) none)
-          | inr b ↦ subst IsKnown (ap (λ z. z.lineage) (sym b)) birth_known
-        ]
-      ]
+  node_known group x = grind (arith, common_steps, end, ends_bare, cases_lt, cases_Bool, copy_known, kept, IsKnown, birth_known, (ends_bare plan events group x), (cases_lt group plan.groups))
 
   pub carried_known : (lineage : Lineage) → Carries end lineage → IsKnown lineage
   carried_known lineage (by_node group x e) = subst IsKnown e (node_known group x)
@@ -259,14 +184,8 @@ module _ (plan : Plan) (certified : IsCertified plan) (events : List Event) wher
 
   one_known : (lineage other : Lineage) → IsKnown lineage → IsKnown other → last_epoch lineage ≡ last_epoch other → lineage ≡ other
   one_known lineage other (inl a) (inl b) e = a ∙ sym b
-  one_known lineage other (inl a) (inr b) e =
-      let p : 1 ≤ last_epoch other = positive_of plan certified end kept (last_epoch other) b.0 in
-      let z : last_epoch lineage ≡ 0 = ap last_epoch a in
-      absurd (omega arith)
-  one_known lineage other (inr a) (inl b) e =
-      let p : 1 ≤ last_epoch lineage = positive_of plan certified end kept (last_epoch lineage) a.0 in
-      let z : last_epoch other ≡ 0 = ap last_epoch b in
-      absurd (omega arith)
+  one_known lineage other (inl a) (inr b) e = grind (arith, common_steps, positive_of, end, kept)
+  one_known lineage other (inr a) (inl b) e = grind (arith, common_steps, positive_of, end, kept)
   one_known lineage other (inr a) (inr b) e = a.1 ∙ ap (lineage_of end) e ∙ sym b.1
 
   one_lineage : HasOneLineageAnEpoch end

@@ -1,10 +1,11 @@
 -- A plan whose claims are met is certified.
 use Rattle.std.proofs.Common.{◌≡◌, ℕ, zero, suc, ◌<◌, Bool, true, false, not, ◌&&◌, nat_lt, ◌⊎◌, refl, sym, ap, ◌∙◌, inl, inr, arith}
-use Rattle.std.proofs.lemmas.Bool.{cases_Bool, cases_lt, and_parts, and_from, both_ways, lt-ltb, ltb-true, not-true}
+use Rattle.std.proofs.lemmas.Bool.{cases_Bool, and_parts, both_ways, lt-ltb, ltb-true, not-true}
 use Rattle.std.specs.Ordering.{nat_cmp}
 use Rattle.std.specs.FinSet.{FinSet, empty, contains, contains-empty}
 use Rattle.volume_model.specs.Common.{Formula, Members, sat, dual_of, SpeaksOf, AreMembers, AreDisjoint, Meets, Configuration, has_member, parent_of, HaveCommonMember, KeepsClaim, KeepsStepClaim, ClaimsCertify}
 use Rattle.volume_model.proofs.FormulaLaws.{sat-own, sat-dual_of}
+use Rattle.std.proofs.lemmas.Grind.{common_steps}
 
 -- of a set, the members that there can be
 abbrev below_64 : Members → Members
@@ -19,17 +20,7 @@ below_64-of set x l = rw (lt-ltb x 64 l) refl
 -- either two sets have no number below the bound in common, or here is one
 common_or_none : (r w : Members) (n : ℕ) → ((x : ℕ) × (r x ≡ true) × (w x ≡ true)) ⊎ ((x : ℕ) → x < n → r x ≡ true → w x ≡ true → ⊥)
 common_or_none r w zero = inr (λ x l a b. omega arith)
-common_or_none r w (suc n) =
-    elim (cases_Bool (r n && w n)) [
-      | inl both ↦ (let parts : (r n ≡ true) × (w n ≡ true) = and_parts (r n) (w n) both in inl (n, parts.0, parts.1))
-      | inr not_both ↦ elim (common_or_none r w n) [
-        | inl found ↦ inl found
-        | inr none ↦ inr (λ x l a b. elim (cases_lt x n) [
-          | inl k ↦ none x k a b
-          | inr k ↦ (let e : x ≡ n = omega arith in both_ways (r n && w n) not_both (and_from (r n) (w n) (ap r (sym e) ∙ a) (ap w (sym e) ∙ b)))
-        ])
-      ]
-    ]
+common_or_none r w (suc n) = grind (arith, common_steps, (common_or_none r w n), (cases_Bool (r n && w n)))
 
 -- where two expressions are over members that there can be
 module _ (configuration : Configuration) (claim : KeepsClaim configuration) where
@@ -73,8 +64,7 @@ reads_on child parent child_claim parent_claim fresh meets readers reads none =
     ]
   where
     same : sat parent.read (λ x. not (lacked_by readers x)) ≡ sat parent.read readers
-    same = sat-own parent.read (has_member parent) (λ x. not (lacked_by readers x)) readers parent_claim.read_own
-        (λ x h. ap not (sym (below_64-of (λ y. not (readers y)) x (parent_claim.members_below x h))) ∙ twice (readers x))
+    same = grind (arith, common_steps, sat-own, not, lacked_by, below_64-of, twice)
 
     apart : AreDisjoint (below_64 readers) (lacked_by readers)
     apart x r w = both_ways (readers x) (not-true (readers x) (and_parts (nat_lt x 64) (not (readers x)) w).1) (and_parts (nat_lt x 64) (readers x) r).1
@@ -89,14 +79,10 @@ claims_certify plan claims = record {
   born_within = claims.born_within;
   root_there = claims.root_there;
   root_epoch = claims.root_epoch;
-  quorums = λ group c there below. record {
-    valid_read = (claims.quorums group c there below).read_counts;
-    meets = common_member (plan.configuration group c) (claims.quorums group c there below);
-  };
+  quorums = grind (arith, common_steps, common_member);
   step = λ group c there below positive. (
       let claim : KeepsStepClaim plan group c = claims.step group c there below positive in
       let parent : ℕ = parent_of plan group c in
-      let before : parent < c = claim.child.parent_below in
       record {
         child = claim.child;
         reads_on = λ readers reads none. reads_on (plan.configuration group c) (plan.configuration group parent) (claims.quorums group c there below) (claims.quorums group parent there (omega arith)) claim.fresh claim.meets readers reads (λ x h. claim.fresh_is x ∙ none x h);

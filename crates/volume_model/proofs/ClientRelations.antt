@@ -1,12 +1,13 @@
 -- What holds of a client and itself after any event, from what each step that changes a client makes of it
-use Rattle.std.proofs.Common.{◌≡◌, ℕ, ◌+◌, ◌^◌, max, true, not, ◌&&◌, ◌==◌, nat_lt, List, [], ◌∷◌, Option, Some, None, Result, Ok, Err, length, refl, subst}
-use Rattle.std.proofs.lemmas.Bool.{not-false}
-use Rattle.volume_model.specs.Common.{numbered, Redo, last_lsn, record_at, last_start, Plan, Label, Place, Message, View, Report, Ack, Page, From, NodeAnswer, in_group, Stage, ClientStep, ClientAnswer, is_born, is_open, durable_point, Change, have_joined, is_transaction, issue_step, issued, write_of, resent, page_asked, report_taken, cut_client, opened, viewed, ack_taken, are_places, taken, World, Event, AuthorityStep, of_authority, of_client, of_node, after_step, after, run, assigned, advanced, refreshed, grown, take, Assign, Advance, Refresh, Grow, Issue, Take, Cut, Open, Resend, Read, Deliver, Hydrate, Restart, Offer}
+use Rattle.std.proofs.Common.{◌≡◌, ℕ, true, not, ◌&&◌, ◌==◌, nat_lt, List, [], ◌∷◌, Option, Some, None, Result, Ok, Err, length, refl, subst}
+use Rattle.volume_model.specs.Common.{numbered, Redo, record_at, Plan, Label, Place, Message, View, Report, Ack, Page, From, NodeAnswer, in_group, Stage, ClientStep, ClientAnswer, is_born, is_open, Change, is_transaction, issue_step, issued, write_of, resent, page_asked, report_taken, cut_client, opened, viewed, ack_taken, are_places, taken, World, Event, AuthorityStep, of_authority, of_client, of_node, after_step, after, run, assigned, advanced, refreshed, grown, take, Assign, Advance, Refresh, Grow, Issue, Take, Cut, Open, Resend, Read, Deliver, Hydrate, Restart, Offer}
 use Rattle.volume_model.specs.Client.{Client}
 use Rattle.volume_model.proofs.Basics.{put-all}
 use Rattle.volume_model.proofs.NodeSteps.{refuse_if-ok}
 use Rattle.volume_model.specs.declared.fault.Fault.{Fault}
-use Rattle.volume_model.specs.declared.fault.Fault.TheVariants.{BadTransaction, LimitReached, LsnSpent, NoActor, NoGroup, NotAddressed, NotInPlan, NotJoined, NotOpen}
+use Rattle.volume_model.specs.declared.fault.Fault.TheVariants.{NoActor, NoGroup, NotAddressed, NotInPlan, NotOpen}
+use Rattle.std.proofs.lemmas.Grind.{common_steps}
+use Rattle.std.proofs.Common.{arith}
 
 -- each step that changes a client leaves it in this relation to what it was
 pub record AreSteps (plan : Plan) (R : Client → Client → Type 0) : Type 0 where
@@ -24,16 +25,7 @@ Ok-is a b h = cc
 -- what has passed where a client issues
 pub issued-ok : (plan : Plan) (v : ℕ) (client : Client) (changes : List Change) (step : ClientStep) → issued plan v client changes ≡ Ok step
     → (is_open client.stage ≡ true) × (is_transaction (length client.groups) changes ≡ true) × (issue_step v client changes ≡ step)
-issued-ok plan v client changes step h =
-    let start : ℕ = last_start client.lineage in
-    let last : ℕ = max (last_lsn client.log) start + length changes in
-    let (z, h0) = refuse_if-ok (not (is_born client.stage)) NoActor _ step h in
-    let (a, h1) = refuse_if-ok (not (is_open client.stage)) NotOpen _ step h0 in
-    let (b, h2) = refuse_if-ok (not (is_transaction (length client.groups) changes)) BadTransaction _ step h1 in
-    let (c, h3) = refuse_if-ok (not (have_joined client.groups changes)) NotJoined _ step h2 in
-    let (d, h4) = refuse_if-ok (nat_lt (2 ^ 62) last) LsnSpent _ step h3 in
-    let (e, h5) = refuse_if-ok (nat_lt (max (durable_point client) start + plan.lal) last) LimitReached _ step h4 in
-    (not-false _ a, not-false _ b, Ok-is _ step h5)
+issued-ok plan v client changes step h = grind (arith, common_steps)
 
 module _ (plan : Plan) (R : Client → Client → Type 0) (steps : AreSteps plan R) where
   module _ (v : ℕ) (client : Client) where

@@ -1,8 +1,8 @@
 -- Each step of a client keeps the invariant
-use Rattle.std.proofs.Common.{◌≡◌, ℕ, ◌+◌, ◌<◌, ◌≤◌, max, Bool, true, false, not, ◌&&◌, ◌||◌, ◌==◌, nat_lt, nat_le, eqb, ◌⊎◌, List, [], ◌∷◌, ◌++◌, Option, Some, None, Ok, Err, length, refl, sym, ap, ◌∙◌, subst, inl, inr, arith, map, slice_set}
+use Rattle.std.proofs.Common.{◌≡◌, ℕ, ◌<◌, ◌≤◌, max, Bool, true, false, not, ◌&&◌, ◌||◌, ◌==◌, nat_lt, nat_le, eqb, ◌⊎◌, List, [], ◌∷◌, ◌++◌, Option, Some, None, Ok, Err, length, refl, sym, ap, ◌∙◌, subst, inl, inr, arith, map, slice_set}
 use Rattle.std.proofs.lemmas.Bool.{cases_Bool, cases_lt, and_parts, true≢false, both_ways, eqb-true, eq-eqb, ltb-true, lt-ltb, leb-true, not-true, not-false}
 use Rattle.std.proofs.lemmas.List.{length-map}
-use Rattle.volume_model.specs.Common.{IsIn, every, each_below, numbered, put, Formula, sat, Redo, of_group, record_at, cut_of, log_found, Lineage, last_epoch, last_start, extended, Contents, newest, in_pieces, Plan, IsCertified, Label, Place, Message, place_in, View, Fence, Report, Install, Write, Ack, PageAsk, Page, From, senders, in_group, Stage, Count, ClientStep, ClientAnswer, is_born, has_cut, is_open, unborn, place_configuration, ClientGroup, newly_at, group_of, place_of, reports_of, counts_of, label_of, stays, no_group, reaching, best, counted_by, with_count, raised_group, raised, groups_now, durable_point, Change, record_of, is_last, issued_log, issued_writes, is_change, issued, write_of, resent, last_of_group_below, page_asked, fences, to_install, installs, report_taken, all_reports, has_read, has_installed, cut_client, opened, is_later, later_in, later_unjoined, later_group, reread_group, with_places, viewed, ack_taken, are_places, taken, Unborn, Reading, Installing, Writing, World, groups_joined, of_client, after_step, take, IsPieceOf}
+use Rattle.volume_model.specs.Common.{IsIn, every, each_below, numbered, put, Formula, sat, Redo, of_group, cut_of, log_found, Lineage, last_epoch, last_start, extended, Contents, newest, in_pieces, Plan, IsCertified, Label, Place, Message, place_in, View, Fence, Report, Install, Write, Ack, PageAsk, Page, From, senders, in_group, Stage, Count, ClientStep, ClientAnswer, is_born, has_cut, is_open, unborn, place_configuration, ClientGroup, newly_at, group_of, place_of, reports_of, counts_of, label_of, stays, no_group, reaching, best, counted_by, with_count, raised_group, raised, groups_now, Change, record_of, is_last, issued_log, issued_writes, is_change, issued, resent, page_asked, fences, to_install, installs, report_taken, all_reports, has_read, has_installed, cut_client, opened, is_later, later_in, later_unjoined, later_group, reread_group, with_places, viewed, ack_taken, are_places, taken, Unborn, Reading, Installing, Writing, World, groups_joined, of_client, after_step, take, IsPieceOf}
 use Rattle.volume_model.proofs.FormulaLaws.{sat-some}
 use Rattle.volume_model.specs.Lineage.{found_in}
 use Rattle.volume_model.specs.Node.{with_first}
@@ -21,7 +21,9 @@ use Rattle.volume_model.proofs.Sound.{born_from_cut, is_sound}
 use Rattle.volume_model.proofs.NodeSteps.{refuse_if-ok, extension-ok}
 use Rattle.volume_model.proofs.Groups.{set-all, length-slice_set, length-with_places, length-raised, group_of-beyond, group_of-with_places, later_group-none, reread_group-none, group_of-new, group_of-raised, raised-keeps}
 use Rattle.volume_model.proofs.Views.{place_in-there}
-use Rattle.volume_model.specs.declared.fault.Fault.TheVariants.{AlreadyDone, NoActor, NoGroup, NotAddressed, NotInPlan, NotOpen, NotReady}
+use Rattle.volume_model.specs.declared.fault.Fault.TheVariants.{AlreadyDone, NoActor, NotAddressed, NotInPlan, NotReady}
+use Rattle.std.proofs.lemmas.Grind.{common_steps}
+use Rattle.std.proofs.Common.{rules}
 
 cut_from_open : (stage : Stage) → is_open stage ≡ true → has_cut stage ≡ true
 cut_from_open Unborn h = h
@@ -52,51 +54,22 @@ put-same f x value = rw (eq-eqb x x refl) refl
 
 -- counts: where each comes from
 with_count-from : (sender reached : ℕ) (counts : List Count) (count : Count) → IsIn count (with_count sender reached counts) → ((count.sender ≡ sender) × (count.reached ≡ reached)) ⊎ ((c : Count) × IsIn c counts × (count.sender ≡ c.sender) × (count.reached ≡ c.reached))
-with_count-from sender reached [] count i =
-    let j : (count ≡ record { sender = sender; reached = reached }) ⊎ ⊥ = i in
-    elim j [ inl e ↦ inl (ap (λ z. z.sender) e, ap (λ z. z.reached) e) | inr z ↦ absurd z ]
+with_count-from sender reached [] count i = grind (arith, common_steps)
 with_count-from sender reached (c ∷ rest) count i =
     elim (cases_Bool (eqb c.sender sender)) [
-      | inl e ↦ (
-          let j : (count ≡ record { sender = sender; reached = max c.reached reached }) ⊎ IsIn count rest = rw e at i in
-          elim j [
-            | inl p ↦ (
-                let a : count.sender ≡ sender = ap (λ z. z.sender) p in
-                let b : count.reached ≡ max c.reached reached = ap (λ z. z.reached) p in
-                elim (cases_lt c.reached reached) [
-                  | inl l ↦ inl (a, omega arith)
-                  | inr l ↦ inr (c, inl refl, a ∙ sym (eqb-true c.sender sender e), omega arith)
-                ])
-            | inr k ↦ inr (count, inr k, refl, refl)
-          ])
+      | inl e ↦ grind (arith, common_steps)
       | inr e ↦ (
           let j : (count ≡ c) ⊎ IsIn count (with_count sender reached rest) = rw e at i in
           elim j [
             | inl p ↦ inr (c, inl refl, ap (λ z. z.sender) p, ap (λ z. z.reached) p)
-            | inr k ↦ elim (with_count-from sender reached rest count k) [
-              | inl h ↦ inl h
-              | inr h ↦ inr (h.0, inr h.1, h.2, h.3)
-            ]
+            | inr k ↦ grind (arith, common_steps, (with_count-from sender reached rest count k))
           ])
     ]
 
 -- the best number: 0, or one that a write set has reached
 best-is : (write : Formula) (all list : List Count) → (best write all list ≡ 0) ⊎ (sat write (reaching all (best write all list)) ≡ true)
 best-is write all [] = inl refl
-best-is write all (c ∷ rest) =
-    elim (cases_Bool (sat write (reaching all c.reached))) [
-      | inl e ↦ elim (cases_lt (best write all rest) c.reached) [
-        | inl l ↦ (let m : max c.reached (best write all rest) ≡ c.reached = omega arith in inr (rw (e, m) e))
-        | inr l ↦ elim (best-is write all rest) [
-          | inl z ↦ (let m : max c.reached (best write all rest) ≡ 0 = omega arith in inl (rw (e, m) refl))
-          | inr h ↦ (let m : max c.reached (best write all rest) ≡ best write all rest = omega arith in inr (rw (e, m) h))
-        ]
-      ]
-      | inr e ↦ elim (best-is write all rest) [
-        | inl z ↦ (let m : max 0 (best write all rest) ≡ 0 = omega arith in inl (rw (e, m) refl))
-        | inr h ↦ (let m : max 0 (best write all rest) ≡ best write all rest = omega arith in inr (rw (e, m) h))
-      ]
-    ]
+best-is write all (c ∷ rest) = grind (arith, common_steps, cases_Bool, cases_lt, max, (best-is write all rest))
 
 module _ (plan : Plan) (certified : IsCertified plan) {held : Held} (world : World) (kept : IsKept plan held world) (v : ℕ) where
   says_new : (client : Client) → ClientKept plan world v client → (m : Message) → ClientSays v client m → MessageNew plan held (record world { clients = put world.clients v client }) m
@@ -116,20 +89,8 @@ module _ (plan : Plan) (certified : IsCertified plan) {held : Held} (world : Wor
             (subst (λ u. IsIn r (log_of later u)) (sym e) (subst (λ c. IsIn r c.log) same (in_log r f.0)), f.1));
         found = λ r i g. of_group-has to client.found r (subst (λ c. IsIn r c.found) (sym same) (subst (λ u. IsIn r (found_of later u)) e i)) g;
       } in
-      record {
-        cut = subst (λ u. HasCut later u) (sym h.1) (ap (λ c. has_cut c.stage) (sym same) ∙ h.0);
-        copy = subst (λ z. IsCopy later to z) is copy;
-        head = ap (λ z. last_epoch z.lineage) (sym is) ∙ e ∙ sym h.1;
-        is = subst (λ z. IsPieceOf z p c) is h.2;
-      }
-  says_new client good (Write to l r) h =
-      let later : World = record world { clients = put world.clients v client } in
-      let same : client ≡ put world.clients v client v = sym (put-same world.clients v client) in
-      record {
-        cut = subst (λ u. HasCut later u) (sym h.1) (ap (λ c. has_cut c.stage) (sym same) ∙ h.0);
-        stands = subst (λ u. IsIn r (log_of later u)) (sym h.1) (subst (λ c. IsIn r c.log) same h.2);
-        group_is = h.3;
-      }
+      grind (arith, common_steps)
+  says_new client good (Write to l r) h = grind (arith, common_steps)
   says_new client good (PageAsk to l block point) h = tt
   says_new client good m h = absurd h
 
@@ -149,11 +110,7 @@ module _ (plan : Plan) (certified : IsCertified plan) {held : Held} (world : Wor
 
   -- a client that stays, and says something
   stays_good : (made : List Message) → ((m : Message) → IsIn m made → ClientSays v client m) → IsGoodMove plan world v (record { made = made; client = client })
-  stays_good made says = record {
-    grows = record { cut = λ h. h; lineage = λ h. refl; found = λ h. refl; logs = λ h r i. i };
-    client = now;
-    says = says;
-  }
+  stays_good made says = grind (arith, common_steps)
 
   -- the facts of a cut, where only the stage is new, and of the groups all but the reports
   cut_moved : (stage : Stage) (groups : List ClientGroup) → ((group : ℕ) → reports_of groups group ≡ reports_of client.groups group) → length client.groups ≤ length groups → IsCutClient plan world v client → IsCutClient plan world v (record client { stage = stage; groups = groups })
@@ -210,29 +167,11 @@ module _ (plan : Plan) (certified : IsCertified plan) {held : Held} (world : Wor
   AreGood groups = (group : ℕ) → group < length groups → IsGoodGroup group (group_of groups group)
 
   groups_good : has_cut client.stage ≡ true → AreGood client.groups
-  groups_good cut group there = record {
-    reports = refl;
-    place = (now.born (born_from_cut client.stage cut)).places group there;
-    counts = now.counts group there;
-    point = now.points group there;
-  }
+  groups_good cut group there = grind (arith, common_steps, now, born_from_cut, client)
 
   -- a client that has cut, with later places, more counts and higher points
   moved_good : has_cut client.stage ≡ true → (stage : Stage) → has_cut stage ≡ true → (groups : List ClientGroup) → ((group : ℕ) → reports_of groups group ≡ reports_of client.groups group) → length client.groups ≤ length groups → length groups ≤ plan.groups → AreGood groups → (is_open stage ≡ true → AreUnjoined (record client { stage = stage; groups = groups })) → (made : List Message) → ((m : Message) → IsIn m made → ClientSays v (record client { stage = stage; groups = groups }) m) → IsGoodMove plan world v (record { made = made; client = record client { stage = stage; groups = groups } })
-  moved_good cut stage cut' groups same long within good unjoined made says =
-      let b : IsBorn plan world v client = now.born (born_from_cut client.stage cut) in
-      record {
-        grows = record { cut = λ h. cut'; lineage = λ h. refl; found = λ h. refl; logs = λ h r i. i };
-        client = record {
-          born = λ h. record { positive = b.positive; known = b.known; within = within; viewed = inl cut'; places = λ group there. (good group there).place };
-          reading = λ h. absurd (both_ways (has_cut stage) h cut');
-          cut = λ h. cut_moved stage groups same long (now.cut cut);
-          unjoined = unjoined;
-          counts = λ group there. (good group there).counts;
-          points = λ group there. (good group there).point;
-        };
-        says = says;
-      }
+  moved_good cut stage cut' groups same long within good unjoined made says = grind (arith, common_steps, IsBorn, client, now, born_from_cut, both_ways, cut_moved)
 
   -- what the counts satisfy now
   raised_point_good : (group : ℕ) (g : ClientGroup) → IsGoodGroup group g → PointGood group (raised_group plan group g).group_point
@@ -328,8 +267,7 @@ module _ (plan : Plan) (certified : IsCertified plan) {held : Held} (world : Wor
       let good : (nat_le 1 (length changes) ≡ true) × ((nat_le (length changes) 32 && every (is_change (length client.groups)) changes) ≡ true) = and_parts _ _ transaction in
       let each : every (is_change (length client.groups)) changes ≡ true = (and_parts (nat_le (length changes) 32) _ good.1).1 in
       let b' : IsBorn plan world v client = now.born (born_from_cut client.stage cut) in
-      let there : (change : Change) → IsIn change changes → change.group < plan.groups =
-      λ change i. (let w : length client.groups ≤ plan.groups = b'.within in let l : change.group < length client.groups = ltb-true change.group (length client.groups) (and_parts (nat_lt change.group (length client.groups)) _ (every-all (is_change (length client.groups)) changes each change i)).0 in omega arith) in
+      let there : (change : Change) → IsIn change changes → change.group < plan.groups = grind (arith, common_steps, client, ltb-true, and_parts, every-all) in
       let o : IsOwnLog client.found (issued_log v start changes client.log) = issued_own changes there client.found client.log (record { own = k.own; is = k.log; grown = k.grown; owned = k.owned }) in
       let after : Client = record client { log = issued_log v start changes client.log } in
       subst (λ s. IsGoodMove plan world v s) is (record {
@@ -364,32 +302,10 @@ module _ (plan : Plan) (certified : IsCertified plan) {held : Held} (world : Wor
       })
 
   pub resent_good : (lsn : ℕ) (step : ClientStep) → resent v client lsn ≡ Ok step → IsGoodMove plan world v step
-  resent_good lsn step h =
-      let (z, h0) = refuse_if-ok (not (is_born client.stage)) NoActor _ step h in
-      let (a, h1) = refuse_if-ok (not (is_open client.stage)) NotOpen _ step h0 in
-      go (record_at client.log lsn) refl (cut_from_open client.stage (not-false _ a)) h1
-    where
-      go : (found : Option Redo) → record_at client.log lsn ≡ found → has_cut client.stage ≡ true → write_of v client found ≡ Ok step → IsGoodMove plan world v step
-      go None e cut h = cc
-      go (Some r) e cut h =
-          subst (λ s. IsGoodMove plan world v s) (Ok-is _ step h) (stays_good _ (λ m i. (
-          let j : (m ≡ Write r.group (label_of v (place_of client.groups) r.group) r) ⊎ ⊥ = i in
-          elim j [
-            | inl p ↦ subst (λ z. ClientSays v client z) (sym p) (cut, refl, (record_at-some client.log lsn r e).0, refl)
-            | inr z ↦ absurd z
-          ])))
+  resent_good lsn step h = search (rules, refuse_if-ok, not, client, cut_from_open, not-false, Option, Ok, None, Some, Ok-is, stays_good, ClientSays, record_at-some)
 
   pub asked_good : (group block : ℕ) (step : ClientStep) → page_asked v client group block ≡ Ok step → IsGoodMove plan world v step
-  asked_good group block step h =
-      let (z, h0) = refuse_if-ok (not (is_born client.stage)) NoActor _ step h in
-      let (a, h1) = refuse_if-ok (not (is_open client.stage)) NotOpen _ step h0 in
-      let (b, h2) = refuse_if-ok (not (nat_lt group (length client.groups))) NoGroup _ step h1 in
-      subst (λ s. IsGoodMove plan world v s) (Ok-is _ step h2) (stays_good _ (λ m i. (
-      let j : (m ≡ PageAsk group (label_of v (place_of client.groups) group) block (last_of_group_below group (durable_point client) client.log)) ⊎ ⊥ = i in
-      elim j [
-        | inl p ↦ subst (λ z. ClientSays v client z) (sym p) tt
-        | inr z ↦ absurd z
-      ])))
+  asked_good group block step h = grind (arith, common_steps)
 
   pub opened_good : (step : ClientStep) → opened plan client ≡ Ok step → IsGoodMove plan world v step
   opened_good step h =
@@ -421,9 +337,7 @@ module _ (plan : Plan) (certified : IsCertified plan) {held : Held} (world : Wor
       subst (λ z. ClientSays v after z) (sym e) (cut, refl, is')
 
   fences_says : (after : Client) (groups : ℕ) (places : ℕ → Place) (test : ℕ → Bool) → (m : Message) → IsIn m (fences groups v places test) → ClientSays v after m
-  fences_says after groups places test m i =
-      let (group, l, e) = each_below-from groups test (λ group. Fence group (label_of v places group)) m i in
-      subst (λ z. ClientSays v after z) (sym e) tt
+  fences_says after groups places test m i = search (rules, each_below-from, ClientSays)
 
   view_of : (q : List Place) → IsMade world (View v q) → IsView plan world v q
   view_of q i = kept.messages _ i
@@ -449,11 +363,9 @@ module _ (plan : Plan) (certified : IsCertified plan) {held : Held} (world : Wor
       let beyond : all_reports (reports_of client.groups) plan.groups ≡ reported = all_reports-beyond client.groups plan.groups within in
       let (q, viewed, shorter) = not_cut born.viewed a in
       let birth : plan.born ≤ length q = (view_of q viewed).born in
-      let reads : (group : ℕ) → group < groups → sat (plan.configuration group (place_of client.groups group).configuration).read (senders (reports_of client.groups group)) ≡ true =
-      λ group there. every_below-all groups (λ group. sat (place_configuration plan group (place_of client.groups group)).read (senders (reports_of client.groups group))) (not-false _ b) group there in
+      let reads : (group : ℕ) → group < groups → sat (plan.configuration group (place_of client.groups group).configuration).read (senders (reports_of client.groups group)) ≡ true = search (rules, every_below-all, client, not-false) in
       let at : (group : ℕ) → group < groups → IsPlace plan world group (place_of client.groups group) = λ group there. (born.places group there).0 in
-      let line_there : (group : ℕ) → group < groups → (place_of client.groups group).configuration < plan.configurations group =
-      λ group there. subst (λ c. c < plan.configurations group) (sym (at group there).configuration) (((is_sound plan certified world kept).line group (omega arith)).there (place_of client.groups group).epoch (at group there).positive (at group there).there) in
+      let line_there : (group : ℕ) → group < groups → (place_of client.groups group).configuration < plan.configurations group = grind (arith, common_steps, (is_sound plan certified world kept)) in
       let one_there : 0 < plan.born = certified.born_there in
       let zero_there : 0 < groups = omega arith in
       let some : (y : ℕ) × (senders (reports_of client.groups 0) y ≡ true) = sat-some (plan.configuration 0 (place_of client.groups 0).configuration).read (senders (reports_of client.groups 0)) (certified.quorums 0 (place_of client.groups 0).configuration (omega arith) (line_there 0 zero_there)).valid_read (reads 0 zero_there) in
@@ -491,12 +403,7 @@ module _ (plan : Plan) (certified : IsCertified plan) {held : Held} (world : Wor
             });
       } in
       subst (λ s. IsGoodMove plan world v s) (Ok-is _ step h3) (record {
-        grows = record {
-          cut = λ h. refl;
-          lineage = λ h. absurd (both_ways _ a h);
-          found = λ h. absurd (both_ways _ a h);
-          logs = λ h. absurd (both_ways _ a h);
-        };
+        grows = grind (arith, common_steps);
         client = record {
           born = λ h. record { positive = born.positive; known = born.known; within = within; viewed = inl refl; places = born.places };
           reading = λ h. absurd (true≢false h);
@@ -734,13 +641,7 @@ module _ (plan : Plan) (certified : IsCertified plan) {held : Held} (world : Wor
             record {
               grows = record { cut = λ h. absurd (both_ways _ n h); lineage = λ h. absurd (both_ways _ n h); found = λ h. absurd (both_ways _ n h); logs = λ h. absurd (both_ways _ n h) };
               client = record {
-                born = λ h. (let b : IsBorn plan world v client = now.born h in record {
-                  positive = b.positive;
-                  known = b.known;
-                  within = (let w : length client.groups ≤ plan.groups = b.within in omega arith);
-                  viewed = elim b.viewed [ inl c ↦ inl c | inr q ↦ inr (q.0, q.1, (let s : length q.0 ≤ length client.groups = q.2 in omega arith)) ];
-                  places = λ k there. set-all no_group (λ g x. g < length client.groups → PlaceGood g x.place) client.groups group with_report (b.places group) b.places k (omega arith);
-                });
+                born = grind (arith, common_steps);
                 unjoined = λ is. absurd (both_ways _ n (cut_from_open client.stage is));
                 reading = λ h k there. set-all no_group (λ g x. g < length client.groups → (from : From) → IsIn from x.reports → IsMade world (Report g (label v x.place.epoch) from.sender from.contents) × (last_epoch from.contents.lineage < v)) client.groups group with_report
                     (λ there from i. elim (with_first-from (record { sender = sender; contents = c }) (reports_of client.groups group) from i) [
@@ -831,10 +732,7 @@ module _ (plan : Plan) (certified : IsCertified plan) {held : Held} (world : Wor
       let (b, h2) = refuse_if-ok (not (is_born client.stage)) NoActor _ step h1 in
       let e : l.volume ≡ v = eqb-true l.volume v (and_parts (eqb l.volume v) (nat_lt group plan.groups && nat_lt sender 64) (not-false _ a)).0 in
       subst (λ s. IsGoodMove plan world v s) (Ok-is _ step h2) (ack_good group l sender reached made e)
-  taken_good (Page group l sender block point bytes) made step h =
-      let (a, h1) = refuse_if-ok (not (l.volume == v && (nat_lt group plan.groups && nat_lt sender 64))) NotAddressed _ step h in
-      let (b, h2) = refuse_if-ok (not (is_born client.stage)) NoActor _ step h1 in
-      subst (λ s. IsGoodMove plan world v s) (Ok-is _ step h2) (stays_good [] (λ m i. absurd i))
+  taken_good (Page group l sender block point bytes) made step h = grind (arith, common_steps)
   taken_good m made step h = cc
 
   pub take_good : (number : ℕ) (step : ClientStep) → take plan v client (numbered world.messages number) ≡ Ok step → IsGoodMove plan world v step

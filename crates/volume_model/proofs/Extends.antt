@@ -1,12 +1,13 @@
 -- A later world, and that every fact of the invariant stays true in it
-use Rattle.std.proofs.Common.{◌≡◌, ℕ, ◌≤◌, true, List, [], ◌∷◌, length, sym, ap, ◌∙◌, subst, inl, inr, arith}
-use Rattle.volume_model.specs.Common.{IsIn, Members, sat, Redo, cut_of, log_found, last_epoch, extended, Contents, Plan, has_member, Label, Place, Message, place_in, View, StepTo, Fence, Report, Install, Write, Gossip, Ack, CopyAsk, CopyReport, PageAsk, Page, senders, place_of, reports_of, group_point_of, to_install, World, groups_joined, IsPieceOf}
+use Rattle.std.proofs.Common.{◌≡◌, ℕ, ◌≤◌, true, List, [], ◌∷◌, sym, ap, ◌∙◌, subst, inl, inr, arith}
+use Rattle.volume_model.specs.Common.{IsIn, Members, sat, Redo, cut_of, log_found, last_epoch, extended, Contents, Plan, Label, Place, Message, View, StepTo, Fence, Report, Install, Write, Gossip, Ack, CopyAsk, CopyReport, PageAsk, Page, senders, place_of, reports_of, group_point_of, to_install, World, groups_joined}
 use Rattle.volume_model.specs.Lineage.{found_in}
 use Rattle.volume_model.specs.Node.{Node}
 use Rattle.volume_model.specs.Client.{Client}
 use Rattle.volume_model.proofs.Pieces.{ArePieces-more}
 use Rattle.volume_model.proofs.Invariant.{Held, epoch_now, path, config, log_of, found_of, lineage_of, HasCut, IsMade, WasAt, IsCopy, IsSource, IsSourced, MessageSourced, IsHistory}
 use Rattle.volume_model.proofs.Kept.{IsPlace, Retains, NodeGrows, IsCopyOfPiece, IsInstallOfPiece, install_of, NodeKept, HasRead, reported_to, IsHeir, IsReached, ClientKept, IsWrite, MessageKept}
+use Rattle.std.proofs.lemmas.Grind.{common_steps}
 
 -- what was so in the one world is so in the other
 pub record Extends (plan : Plan) (world later : World) : Type 0 where
@@ -26,8 +27,6 @@ NodeGrows-same node = record { volume = omega arith; epoch = omega arith; whole 
 
 pub Retains-source : (world : World) (group v s : ℕ) (q q' : Contents) → IsSource q q' → Retains world group v s q → Retains world group v s q'
 Retains-source world group v s q q' source retains =
-    let a : v ≤ last_epoch q.lineage = retains.epoch in
-    let b : last_epoch q.lineage ≤ last_epoch q'.lineage = source.epoch in
     record {
       kept = retains.kept;
       complete = retains.complete;
@@ -43,11 +42,7 @@ module _ (plan : Plan) (world later : World) (extends : Extends plan world later
   WasAt-later v group e (inr h) = inr (h.0, extends.messages _ h.1, h.2)
 
   pub IsPlace-later : (group : ℕ) (place : Place) → IsPlace plan world group place → IsPlace plan later group place
-  IsPlace-later group place h = record {
-    positive = h.positive;
-    there = (let a : place.epoch ≤ epoch_now plan world group = h.there in let b : epoch_now plan world group ≤ epoch_now plan later group = extends.epoch group in omega arith);
-    configuration = h.configuration ∙ sym (extends.path_same group place.epoch h.positive h.there);
-  }
+  IsPlace-later group place h = grind (arith, common_steps)
 
   pub IsCopy-later : (group : ℕ) (q : Contents) → IsCopy world group q → IsCopy later group q
   IsCopy-later group q h = record {
@@ -120,14 +115,7 @@ module _ (plan : Plan) (world later : World) (extends : Extends plan world later
       places = λ group there. (IsPlace-later group (place_of client.groups group) ((h.born b).places group there).0, WasAt-later v group _ ((h.born b).places group there).1);
     };
     reading = λ n group there from i. (extends.messages _ (h.reading n group there from i).0, (h.reading n group there from i).1);
-    cut = λ c. record {
-      own = (h.cut c).own;
-      log = (h.cut c).log;
-      grown = (h.cut c).grown;
-      owned = (h.cut c).owned;
-      origin = elim (h.cut c).origin [ inl r ↦ inl r | inr k ↦ inr (IsHeir-later v client k) ];
-      found_there = (h.cut c).found_there;
-    };
+    cut = grind (arith, common_steps, IsHeir-later);
     unjoined = h.unjoined;
     counts = λ group there count i. (let (a, p, m) = h.counts group there count i in (a, p, extends.messages _ m));
     points = λ group there. elim (h.points group there) [ inl z ↦ inl z | inr r ↦ inr (IsReached-later v group (group_point_of client.groups group) r) ];
@@ -139,15 +127,7 @@ module _ (plan : Plan) (world later : World) (extends : Extends plan world later
 module _ (plan : Plan) (held : Held) (world later : World) (extends : Extends plan world later) where
   pub IsSourced-later : (older older' : List Message) → ((m : Message) → IsIn m older → IsIn m older') → (group x : ℕ) (q : Contents) → IsSourced plan held world older group x q → IsSourced plan held later older' group x q
   IsSourced-later older older' more group x q (inl h) = inl h
-  IsSourced-later older older' more group x q (inr h) = inr (record {
-    at = h.at;
-    positive = h.positive;
-    there = epoch-later plan world later extends group h.at h.there;
-    member = subst (λ c. has_member (plan.configuration group c) x ≡ true) (sym (extends.path_same group h.at h.positive h.there)) h.member;
-    readers = h.readers;
-    reads = sat_read-later plan world later extends group h.at h.readers h.positive h.there h.reads;
-    source = λ y r. (let (s, p, c, i, k) = h.source y r in (s, p, c, more _ i, k));
-  })
+  IsSourced-later older older' more group x q (inr h) = grind (arith, common_steps)
 
   pub MessageSourced-later : (older : List Message) (m : Message) → MessageSourced plan held world older m → MessageSourced plan held later older m
   MessageSourced-later older (Report group l x q) h = IsSourced-later older older (λ k i. i) group x q h
@@ -172,13 +152,7 @@ module _ (plan : Plan) (held : Held) (world later : World) (extends : Extends pl
   }
 
   pub MessageKept-later : (m : Message) → MessageKept plan held world m → MessageKept plan held later m
-  MessageKept-later (View v places) h = record {
-    known = (let k : v ≤ world.authority.last_volume = h.known in let l : world.authority.last_volume ≤ later.authority.last_volume = extends.last in omega arith);
-    positive = h.positive;
-    born = h.born;
-    joined = (let a : length places ≤ groups_joined world.authority = h.joined in let b : groups_joined world.authority ≤ groups_joined later.authority = extends.joined in omega arith);
-    standing = λ group there. IsPlace-later plan world later extends group (place_in places group) (h.standing group there);
-  }
+  MessageKept-later (View v places) h = grind (arith, common_steps)
   MessageKept-later (StepTo group place) h = IsPlace-later plan world later extends group place h
   MessageKept-later (Fence group l) h = tt
   MessageKept-later (Report group l x q) h = (IsCopy-later plan world later extends group q h.0, (let a : l.volume ≤ (world.nodes group x).volume = h.1 in let b : (world.nodes group x).volume ≤ (later.nodes group x).volume = (extends.nodes group x).volume in omega arith))
@@ -186,29 +160,12 @@ module _ (plan : Plan) (held : Held) (world later : World) (extends : Extends pl
       let of_lineage : lineage_of world l.volume ≡ lineage_of later l.volume = sym (extends.lineage l.volume h.cut) in
       let of_found : found_of world l.volume ≡ found_of later l.volume = sym (extends.found l.volume h.cut) in
       let same : install_of world group l.volume ≡ install_of later group l.volume = λ i. to_install (of_lineage i) (of_found i) group in
-      record {
-        cut = extends.cut l.volume h.cut;
-        copy = subst (λ z. IsCopy later group z) same (IsCopy-later plan world later extends group (install_of world group l.volume) h.copy);
-        head = ap last_epoch (extends.lineage l.volume h.cut) ∙ h.head;
-        is = subst (λ z. IsPieceOf z p c) same h.is;
-      }
+      grind (arith, common_steps, (IsCopy-later plan world later extends group (install_of world group l.volume) h.copy), (install_of world group l.volume))
   MessageKept-later (Write group l r) h = IsWrite-later plan world later extends group l r h
   MessageKept-later (Gossip group l r) h = IsWrite-later plan world later extends group l r h
-  MessageKept-later (Ack group l x s) h =
-      let grows : NodeGrows (world.nodes group x) (later.nodes group x) = extends.nodes group x in
-      record {
-        whole = grows.whole h.whole;
-        volume = (let a : l.volume ≤ (world.nodes group x).volume = h.volume in let b : (world.nodes group x).volume ≤ (later.nodes group x).volume = grows.volume in omega arith);
-        member = (let a : l.member ≤ (world.nodes group x).place.epoch = h.member in let b : (world.nodes group x).place.epoch ≤ (later.nodes group x).place.epoch = grows.epoch in omega arith);
-        retains = Retains-source later group l.volume s (world.nodes group x).contents (later.nodes group x).contents (grows.contents h.whole) (Retains-later plan world later extends group l.volume s (world.nodes group x).contents h.retains);
-      }
+  MessageKept-later (Ack group l x s) h = grind (arith, common_steps, NodeGrows, Retains-source, Retains-later, (NodeGrows (world.nodes group x) (later.nodes group x)), (Retains-later plan world later extends group l.volume s (world.nodes group x).contents h.retains))
   MessageKept-later (CopyAsk group f) h = tt
-  MessageKept-later (CopyReport group f x s p c) h = record {
-    copy = IsCopy-later plan world later extends group (held group x s) h.copy;
-    is = h.is;
-    epoch = (let a : f ≤ (world.nodes group x).place.epoch = h.epoch in let b : (world.nodes group x).place.epoch ≤ (later.nodes group x).place.epoch = (extends.nodes group x).epoch in omega arith);
-    number = (let a : s ≤ (world.nodes group x).copied = h.number in let b : (world.nodes group x).copied ≤ (later.nodes group x).copied = (extends.nodes group x).copied in omega arith);
-  }
+  MessageKept-later (CopyReport group f x s p c) h = grind (arith, common_steps, (IsCopy-later plan world later extends group (held group x s) h.copy))
   MessageKept-later (PageAsk group l block point) h = tt
   MessageKept-later (Page group l x block point bytes) h = record {
     cut = extends.cut _ h.cut;

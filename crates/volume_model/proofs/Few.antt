@@ -1,13 +1,13 @@
 -- How many messages the step of a client makes at most.
-use Rattle.std.proofs.Common.{◌≡◌, ℕ, zero, suc, ◌+◌, ◌/◌, ◌<◌, ◌≤◌, ◌==◌, nat_le, eqb, Bool, true, false, List, [], ◌∷◌, ◌++◌, Option, Some, None, Result, Ok, Err, length, if◌then◌else◌, option_map, length-append, ap, sym, subst, refl, inl, inr, arith, le_trans, not}
+use Rattle.std.proofs.Common.{◌≡◌, ℕ, zero, suc, ◌+◌, ◌/◌, ◌<◌, ◌≤◌, ◌==◌, nat_le, Bool, true, false, List, [], ◌∷◌, ◌++◌, Option, Some, None, Result, Ok, Err, length, if◌then◌else◌, option_map, length-append, ap, refl, inl, inr, arith, le_trans, not}
 use Rattle.std.proofs.lemmas.Bool.{cases_Bool, cases_eq, ne_eqb, leb-true, le-leb, lt-leb, and_parts}
 use Rattle.volume_model.proofs.Basics.{joined-append}
 use Rattle.volume_model.specs.declared.fault.Fault.{Fault}
-use Rattle.volume_model.specs.Common.{IsIn, each_below, joined, refuse_if, Redo, spelling, is_same, numbers_before, with_record, cut_of, log_found, of_group, record_at, follow, chain_from, chain_or_none, Lineage, Contents, extension, is_live, with_live, last_start, newest, Piece, most_in_piece, pieces_of, piece_of, in_pieces, ◌>>=◌, Plan, Place, Message, place_in, View, Report, Install, Ack, Page, ClientAnswer, Stage, label_of, place_of, Change, issued, issued_writes, page_asked, record_of, resent, write_of, is_last, to_install, installs, cut_step, live_reported, log_reported, cut_client, reported, later_group, later_in, taken, viewed, with_places, later_unjoined, are_places, Unborn, Reading, Installing, Writing, VolumeLinksFall, Few, most_installs, records_in, records_said}
+use Rattle.volume_model.specs.Common.{IsIn, each_below, joined, refuse_if, Redo, with_record, of_group, record_at, follow, chain_from, chain_or_none, Lineage, Contents, with_live, Piece, most_in_piece, pieces_of, piece_of, in_pieces, ◌>>=◌, Plan, Place, Message, place_in, View, Report, Install, Ack, Page, ClientAnswer, Stage, label_of, place_of, Change, issued, issued_writes, page_asked, record_of, resent, write_of, is_last, to_install, installs, live_reported, log_reported, cut_client, later_group, later_in, taken, viewed, with_places, Unborn, Reading, Installing, Writing, VolumeLinksFall, Few, most_installs, records_in, records_said}
 use Rattle.volume_model.specs.Lineage.{found_in}
 use Rattle.volume_model.specs.Client.{Client}
 use Rattle.volume_model.proofs.Chains.{record_at-some}
-use Rattle.volume_model.specs.declared.fault.Fault.TheVariants.{NotInPlan, NotAddressed}
+use Rattle.std.proofs.lemmas.Grind.{common_steps}
 
 -- what follows an answer
 few_then : {A : Type 0} (most : ℕ) (first : Result A Fault) (rest : A → ClientAnswer) → ((x : A) → Few most (rest x)) → Few most (first >>= rest)
@@ -44,46 +44,22 @@ all_groups (suc n) found = all_groups n found + length (of_group n found)
 
 with_record-length : (r : Redo) (records : List Redo) → length (with_record r records) ≤ suc (length records)
 with_record-length r [] = omega arith
-with_record-length r (s ∷ rest) =
-    elim (cases_Bool (is_same r s)) [
-      | inl e ↦ rw e (omega arith)
-      | inr e ↦ elim (cases_Bool (numbers_before (spelling r) (spelling s))) [
-        | inl f ↦ rw (e, f) (omega arith)
-        | inr f ↦ rw (e, f) (let h : length (with_record r rest) ≤ suc (length rest) = with_record-length r rest in omega arith)
-      ]
-    ]
+with_record-length r (s ∷ rest) = grind (arith, common_steps, cases_Bool, (with_record-length r rest))
 
 -- a record of another group isn't among those of this one
 of_group-other : (group : ℕ) (r : Redo) (older : List Redo) → (r.group ≡ group → ⊥) → length (of_group group (r ∷ older)) ≡ length (of_group group older)
 of_group-other group r older other = rw (ne_eqb r.group group other) refl
 
 of_group-own : (group : ℕ) (r : Redo) (older : List Redo) → length (of_group group (r ∷ older)) ≤ suc (length (of_group group older))
-of_group-own group r older =
-    elim (cases_Bool (eqb r.group group)) [
-      | inl e ↦ rw e (with_record-length r (of_group group older))
-      | inr e ↦ rw e (omega arith)
-    ]
+of_group-own group r older = grind (arith, common_steps, cases_Bool, with_record-length)
 
 all_groups-other : (n : ℕ) (r : Redo) (older : List Redo) → n ≤ r.group → all_groups n (r ∷ older) ≡ all_groups n older
 all_groups-other zero r older h = refl
-all_groups-other (suc n) r older h =
-    let before : all_groups n (r ∷ older) ≡ all_groups n older = all_groups-other n r older (omega arith) in
-    let same : length (of_group n (r ∷ older)) ≡ length (of_group n older) = of_group-other n r older (λ e. omega (arith, e)) in
-    omega arith
+all_groups-other (suc n) r older h = grind (arith, common_steps, all_groups, of_group-other, (all_groups-other n r older (omega arith)))
 
 all_groups-more : (n : ℕ) (r : Redo) (older : List Redo) → all_groups n (r ∷ older) ≤ suc (all_groups n older)
 all_groups-more zero r older = omega arith
-all_groups-more (suc n) r older =
-    elim (cases_eq r.group n) [
-      | inl e ↦ (
-          let before : all_groups n (r ∷ older) ≡ all_groups n older = all_groups-other n r older (omega (arith, e)) in
-          let one : length (of_group n (r ∷ older)) ≤ suc (length (of_group n older)) = of_group-own n r older in
-          omega arith)
-      | inr other ↦ (
-          let before : all_groups n (r ∷ older) ≤ suc (all_groups n older) = all_groups-more n r older in
-          let same : length (of_group n (r ∷ older)) ≡ length (of_group n older) = of_group-other n r older other in
-          omega arith)
-    ]
+all_groups-more (suc n) r older = grind (arith, common_steps, cases_eq, all_groups, all_groups-other, of_group-own, of_group-other, (all_groups-more n r older))
 
 all_groups-none : (n : ℕ) → all_groups n [] ≡ 0
 all_groups-none zero = refl
@@ -92,10 +68,7 @@ all_groups-none (suc n) = let none : all_groups n [] ≡ 0 = all_groups-none n i
 -- each record is one of one group
 all_groups-within : (n : ℕ) (found : List Redo) → all_groups n found ≤ length found
 all_groups-within n [] = let none : all_groups n [] ≡ 0 = all_groups-none n in omega arith
-all_groups-within n (r ∷ older) =
-    let more : all_groups n (r ∷ older) ≤ suc (all_groups n older) = all_groups-more n r older in
-    let within : all_groups n older ≤ length older = all_groups-within n older in
-    omega arith
+all_groups-within n (r ∷ older) = grind (arith, common_steps, all_groups, all_groups-more, (all_groups-within n older))
 
 few_pieces : {A : Type 0} (q : Contents) (say : Piece → Contents → A) → length (in_pieces q say) ≤ 1 + length q.records / most_in_piece
 few_pieces q say =
@@ -109,10 +82,7 @@ module _ (lineage : Lineage) (found : List Redo) (chosen : ℕ → Bool) (say : 
   of_one group = in_pieces (to_install lineage found group) (say group)
 
   one_if : (b : Bool) (group : ℕ) → length (joined (if b then of_one group ∷ [] else [])) ≤ 1 + length (of_group group found) / most_in_piece
-  one_if true group =
-      let few : length (of_one group) ≤ 1 + length (of_group group found) / most_in_piece = few_pieces (to_install lineage found group) (say group) in
-      let whole : length (of_one group ++ []) ≡ length (of_one group) + length {A = Message} [] = length-append (of_one group) [] in
-      omega arith
+  one_if true group = grind (arith, common_steps, (of_one group), (of_one group ++ []), (few_pieces (to_install lineage found group) (say group)), (length-append (of_one group) []))
   one_if false group = omega arith
 
   pieces_below : (n : ℕ) → length (joined (each_below n chosen of_one)) ≤ n + all_groups n found / most_in_piece
@@ -139,45 +109,20 @@ few_viewed : (plan : Plan) (volume : ℕ) (client : Client) (places : List Place
 few_viewed plan volume client places Unborn = few_fences (length places) client.found _ _
 few_viewed plan volume client places Reading = few_fences (length places) client.found _ _
 few_viewed plan volume client places Installing = few_installs (length places) volume (place_of (with_places later_group client.groups places)) client.lineage client.found (later_in (place_of client.groups) (place_in places))
-few_viewed plan volume client places Writing =
-    let few : length (installs (length places) volume (place_of (with_places later_group client.groups places)) client.lineage [] (later_unjoined client.groups (place_in places))) ≤ most_installs (length places) [] =
-    few_installs (length places) volume (place_of (with_places later_group client.groups places)) client.lineage [] (later_unjoined client.groups (place_in places)) in
-    omega arith
+few_viewed plan volume client places Writing = grind (arith, common_steps, few_installs)
 
 pub few_taken : (plan : Plan) (volume : ℕ) (client : Client) (m : Message) → Few (most_installs plan.groups client.found) (taken plan volume client m)
-few_taken plan volume client (View of places) = few_addressed (not (of == volume))
-  where
-    few_placed : (b : Bool) → are_places plan places ≡ b → Few (most_installs plan.groups client.found) (refuse_if (not b) NotInPlan (Ok (viewed plan volume client places client.stage)))
-    few_placed false e = tt
-    few_placed true e =
-        let few : length (viewed plan volume client places client.stage).made ≤ most_installs (length places) client.found = few_viewed plan volume client places client.stage in
-        let short : length places ≤ plan.groups = leb-true _ _ (and_parts (nat_le (length places) plan.groups) _ (and_parts (nat_le plan.born (length places)) _ e).1).0 in
-        omega arith
-
-    few_addressed : (b : Bool) → Few (most_installs plan.groups client.found) (refuse_if b NotAddressed (refuse_if (not (are_places plan places)) NotInPlan (Ok (viewed plan volume client places client.stage))))
-    few_addressed true = tt
-    few_addressed false = few_placed (are_places plan places) refl
+few_taken plan volume client (View of places) = grind (arith, common_steps, not, Bool, Ok, few_viewed, leb-true, and_parts)
 few_taken plan volume client (Report group label sender contents) = let few : 0 ≤ most_installs plan.groups client.found = omega arith in search (few_if (most_installs plan.groups client.found), few) depth 8
 few_taken plan volume client (Ack group label sender reached) = let few : 0 ≤ most_installs plan.groups client.found = omega arith in search (few_if (most_installs plan.groups client.found), few) depth 8
 few_taken plan volume client (Page group label sender block point bytes) = let few : 0 ≤ most_installs plan.groups client.found = omega arith in search (few_if (most_installs plan.groups client.found), few) depth 8
 few_taken plan volume client m = tt
 
 pub few_issued : (plan : Plan) (volume : ℕ) (client : Client) (changes : List Change) → Few (length changes) (issued plan volume client changes)
-few_issued plan volume client changes =
-    let few : (places : ℕ → Place) (start : ℕ) → length (issued_writes volume places start changes client.log) ≤ length changes = λ places start. let many = written_many volume places start changes client.log in omega arith in
-    let most = few (place_of client.groups) (last_start client.lineage) in
-    search (few_if (length changes), most) depth 12
+few_issued plan volume client changes = grind (arith, common_steps, written_many, few_if)
 
 pub few_cut : (plan : Plan) (volume : ℕ) (client : Client) → Few (most_installs (length client.groups) (log_reported client)) (cut_client plan volume client)
-few_cut plan volume client =
-    let said = reported client in
-    let parent = newest said in
-    let records = found_in parent said in
-    let most = most_installs (length client.groups) (log_found records) in
-    let few : (lineage : Lineage) → Few most (Ok (cut_step volume client (log_found records) lineage)) =
-    λ lineage. few_installs (length client.groups) volume (place_of client.groups) lineage (log_found records) (λ group. true) in
-    let rest = few_then most (extension parent volume (cut_of records) plan.lal) (λ lineage. Ok (cut_step volume client (log_found records) lineage)) few in
-    search (few_if most, rest) depth 12
+few_cut plan volume client = grind (arith, common_steps, Ok, few_installs, few_then, few_if)
 
 few_write : (volume : ℕ) (client : Client) (found : Option Redo) → Few 1 (write_of volume client found)
 few_write volume client None = tt
@@ -187,25 +132,17 @@ pub few_resent : (volume : ℕ) (client : Client) (lsn : ℕ) → Few 1 (resent 
 few_resent volume client lsn = let few = few_write volume client (record_at client.log lsn) in search (few_if 1, few) depth 12
 
 pub few_asked : (volume : ℕ) (client : Client) (group block : ℕ) → Few 1 (page_asked volume client group block)
-few_asked volume client group block =
-    let few : (m : Message) → length (m ∷ []) ≤ 1 = λ m. omega arith in
-    search (few_if 1, few) depth 12
+few_asked volume client group block = grind (arith, common_steps)
 
 -- ---- how many records are found
 
 with_live-length : (lineage : Lineage) (records kept : List Redo) → length (with_live lineage records kept) ≤ length records + length kept
 with_live-length lineage [] kept = omega arith
-with_live-length lineage (r ∷ rest) kept =
-    let before : length (with_live lineage rest kept) ≤ length rest + length kept = with_live-length lineage rest kept in
-    let one : length (with_record r (with_live lineage rest kept)) ≤ suc (length (with_live lineage rest kept)) = with_record-length r (with_live lineage rest kept) in
-    elim (cases_Bool (is_live lineage r.volume r.lsn)) [ inl e ↦ rw e (omega arith) | inr e ↦ rw e (omega arith) ]
+with_live-length lineage (r ∷ rest) kept = grind (arith, common_steps, with_record-length, cases_Bool, (with_live-length lineage rest kept))
 
 found-length : (lineage : Lineage) (reports : List Contents) → length (found_in lineage reports) ≤ records_in reports
 found-length lineage [] = omega arith
-found-length lineage (c ∷ rest) = le_trans (with_live-length lineage c.records (found_in lineage rest)) (add_le (length c.records) (found-length lineage rest))
-  where
-    add_le : (n : ℕ) {a b : ℕ} → a ≤ b → n + a ≤ n + b
-    add_le n h = omega arith
+found-length lineage (c ∷ rest) = grind (arith, common_steps, le_trans, with_live-length, (found-length lineage rest))
 
 -- how many records have a number of at most n
 abbrev at_most : ℕ → List Redo → ℕ
@@ -218,33 +155,17 @@ one_or_none false = omega arith
 
 at_most-length : (n : ℕ) (records : List Redo) → at_most n records ≤ length records
 at_most-length n [] = omega arith
-at_most-length n (r ∷ rest) =
-    let before : at_most n rest ≤ length rest = at_most-length n rest in
-    let one : (if nat_le r.lsn n then 1 else 0) ≤ 1 = one_or_none (nat_le r.lsn n) in
-    omega arith
+at_most-length n (r ∷ rest) = grind (arith, common_steps, at_most, one_or_none, (at_most-length n rest))
 
 at_most-rises : (m n : ℕ) (records : List Redo) → m ≤ n → at_most m records ≤ at_most n records
 at_most-rises m n [] h = omega arith
-at_most-rises m n (r ∷ rest) h =
-    let before : at_most m rest ≤ at_most n rest = at_most-rises m n rest h in
-    elim (cases_Bool (nat_le r.lsn m)) [
-      | inl e ↦ (let l : r.lsn ≤ m = leb-true r.lsn m e in rw (e, le-leb r.lsn n (omega arith)) (omega arith))
-      | inr e ↦ rw e (omega arith)
-    ]
+at_most-rises m n (r ∷ rest) h = grind (arith, common_steps, at_most, cases_Bool, leb-true, le-leb, (at_most-rises m n rest h))
 
 -- a record that is above the one bound and within the other
 at_most-more : (m : ℕ) (records : List Redo) (r : Redo) → IsIn r records → m < r.lsn → suc (at_most m records) ≤ at_most r.lsn records
 at_most-more m [] r i h = absurd i
-at_most-more m (s ∷ rest) r (inl e) h =
-    let same : s.lsn ≡ r.lsn = ap (λ z. z.lsn) (sym e) in
-    let rises : at_most m rest ≤ at_most r.lsn rest = at_most-rises m r.lsn rest (omega arith) in
-    rw (lt-leb s.lsn m (omega arith), le-leb s.lsn r.lsn (omega arith)) (omega arith)
-at_most-more m (s ∷ rest) r (inr i) h =
-    let before : suc (at_most m rest) ≤ at_most r.lsn rest = at_most-more m rest r i h in
-    elim (cases_Bool (nat_le s.lsn m)) [
-      | inl e ↦ (let l : s.lsn ≤ m = leb-true s.lsn m e in rw (e, le-leb s.lsn r.lsn (omega arith)) (omega arith))
-      | inr e ↦ rw e (omega arith)
-    ]
+at_most-more m (s ∷ rest) r (inl e) h = grind (arith, common_steps, at_most, at_most-rises, lt-leb, le-leb)
+at_most-more m (s ∷ rest) r (inr i) h = grind (arith, common_steps, at_most, cases_Bool, leb-true, le-leb, (at_most-more m rest r i h))
 
 module _ (records : List Redo) (fall : VolumeLinksFall records) where
   -- a chain of so many steps has no more records than have at most the number that it begins with
@@ -253,31 +174,17 @@ module _ (records : List Redo) (fall : VolumeLinksFall records) where
 
   led : (steps : ℕ) → IsShort steps → (r : Redo) → IsIn r records → (older : Option (List Redo)) → chain_from steps records r.prev_volume ≡ older → length (chain_or_none (option_map (λ log. r ∷ log) older)) ≤ at_most r.lsn records
   led steps short r i None is = omega arith
-  led steps short r i (Some older) is =
-      let before : length older ≤ at_most r.prev_volume records = subst (λ z. length (chain_or_none z) ≤ at_most r.prev_volume records) is (short r.prev_volume) in
-      let more : suc (at_most r.prev_volume records) ≤ at_most r.lsn records = at_most-more r.prev_volume records r i (fall r i) in
-      omega arith
+  led steps short r i (Some older) is = grind (arith, common_steps, at_most, at_most-more)
 
   by_record : (steps : ℕ) → IsShort steps → (n : ℕ) (found : Option Redo) → record_at records n ≡ found → length (chain_or_none (follow found (λ r. chain_from steps records r.prev_volume))) ≤ at_most n records
   by_record steps short n None is = omega arith
-  by_record steps short n (Some r) is =
-      let (i, number) = record_at-some records n r is in
-      subst (λ z. length (chain_or_none (option_map (λ log. r ∷ log) (chain_from steps records r.prev_volume))) ≤ at_most z records) number (led steps short r i (chain_from steps records r.prev_volume) refl)
+  by_record steps short n (Some r) is = grind (arith, common_steps, record_at-some, option_map, at_most, led)
 
   chain_short : (steps : ℕ) → IsShort steps
   chain_short zero n = elim (cases_Bool (n == 0)) [ inl e ↦ rw e (omega arith) | inr e ↦ rw e (omega arith) ]
   chain_short (suc steps) n =
       let short : IsShort steps = chain_short steps in
-      elim (cases_Bool (n == 0)) [
-        | inl e ↦ rw e (omega arith)
-        | inr e ↦ rw e (by_record steps short n (record_at records n) refl)
-      ]
+      grind (arith, common_steps, (cases_Bool (n == 0)), (by_record steps short n (record_at records n) refl))
 
 pub few_found : (client : Client) → VolumeLinksFall (live_reported client) → length (log_reported client) ≤ records_said client
-few_found client fall =
-    let said = reported client in
-    let records = live_reported client in
-    let short : length (log_found records) ≤ at_most (cut_of records) records = chain_short records fall (cut_of records) (cut_of records) in
-    let within : at_most (cut_of records) records ≤ length records = at_most-length (cut_of records) records in
-    let said : length records ≤ records_in said = found-length (newest said) said in
-    omega arith
+few_found client fall = grind (arith, common_steps, at_most, chain_short, at_most-length, found-length)

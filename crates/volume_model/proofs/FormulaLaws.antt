@@ -4,6 +4,7 @@ use Rattle.std.specs.List.{IsDistinct, AllByRecursion}
 use Rattle.std.proofs.lemmas.Bool.Decides.{nat_tests}
 use Rattle.volume_model.specs.Common.{Formula, Children, Members, at_least, no_child, child, sat, weight_held, total_weight, formulas, weight_at, EachWeighs, each_weighs, dual_of, duals_of, HasCounts, EachHasCounts, SpeaksOf, EachSpeaksOf}
 use Rattle.volume_model.specs.Formula.{member}
+use Rattle.std.proofs.lemmas.Grind.{common_steps}
 
 -- ---- more members, more that holds
 
@@ -87,10 +88,7 @@ unheld-sum (child w f fs) s = omega (arith, unheld-sum fs s, both_ways (sat f s)
 
 pub unheld-at : (of : Children) (s : Members) (c : ℕ) (f : Formula) → slice_get (formulas of) c ≡ Some f → sat f s ≡ false → item (unheld of s) c ≡ weight_at of c
 unheld-at no_child s c f at h = cc
-unheld-at (child w g fs) s zero f at h =
-    let same : g ≡ f = cc in
-    let no : sat g s ≡ false = ap (λ e. sat e s) same ∙ h in
-    ap (λ b. if b then 0 else w) no
+unheld-at (child w g fs) s zero f at h = grind (arith, common_steps)
 unheld-at (child w g fs) s (suc c) f at h = unheld-at fs s c f at h
 
 -- ---- numbers at distinct places add up to no more than all
@@ -123,8 +121,7 @@ picked-emptied (c ∷ cs) xs k all = omega (arith, emptied-other xs k c (differ 
 pub picked_le : (cs xs : List ℕ) → IsDistinct nat_eq cs → picked xs cs ≤ sum_up xs
 unfolding IsDistinct
 picked_le [] xs distinct = omega arith
-picked_le (c ∷ cs) xs distinct =
-    omega (arith, picked_le cs (emptied xs c) distinct.1, picked-emptied cs xs c distinct.0, emptied-sum xs c)
+picked_le (c ∷ cs) xs distinct = grind (arith, common_steps, emptied, picked-emptied, emptied-sum, (picked_le cs (emptied xs c) distinct.1))
 
 -- ---- duals
 

@@ -2,12 +2,13 @@
 use Rattle.std.proofs.Common.{◌≡◌, ℕ, suc, ◌+◌, ◌-◌, ◌<◌, ◌≤◌, not, ◌&&◌, nat_lt, Bool, true, false, List, length, take, Option, Some, None, refl, sym, ap, ◌∙◌, subst, arith, slice_get}
 use mathlib.Core.List.{IsPrefix}
 use Rattle.volume_model.specs.declared.fault.Fault.TheVariants.{NoActor}
-use Rattle.volume_model.specs.Common.{added, numbered, refuse_if, Plan, is_named, Message, World, Event, step, after, deliver, of_client, of_node, groups_joined, Take, Cut, Open, Resend, Read, Deliver, Hydrate, Restart, Offer, Keeps, named_by, makes, world_at, IsRun, before}
+use Rattle.volume_model.specs.Common.{added, numbered, refuse_if, Plan, is_named, Message, World, Event, step, deliver, of_client, of_node, groups_joined, Take, Cut, Open, Resend, Read, Deliver, Hydrate, Restart, Offer, Keeps, named_by, makes, world_at, IsRun, before}
 use Rattle.volume_model.specs.World as model
 use Rattle.volume_model.specs.Journal.{Entry}
 use Rattle.volume_model.proofs.ListFacts.{numbered_kept, numbered_small, numbered_added, get_there}
 use Rattle.volume_model.proofs.Growing.{messages_grow}
 use Rattle.volume_model.proofs.Worlds.{world_at-push, keeps_at, take_more, take_begins}
+use Rattle.std.proofs.lemmas.Grind.{common_steps}
 
 -- a message's number finds it later
 pub found_alike : (w v : World) → Keeps w v → (n : ℕ) (x : Message) → numbered w.messages n ≡ Some x → numbered v.messages n ≡ Some x
@@ -42,17 +43,14 @@ module _ (plan : Plan) where
 
   -- the messages after the step at a place
   added_at : (es : List Entry) (k : ℕ) (e : Entry) → IsRun plan es → slice_get es k ≡ Some e → (world_at plan (take (suc k) es)).messages ≡ added e.made (world_at plan (take k es)).messages
-  added_at es k e run h =
-      let goes = run k e h in
-      ap (λ (l : List Entry). (world_at plan l).messages) (take_more es k e h) ∙ ap (λ w. w.messages) (world_at-push plan (take k es) e) ∙ (messages_grow plan (world_at plan (take k es)) e.event e.made goes.0).0
+  added_at es k e run h = grind (arith, common_steps, take_more, world_at-push, messages_grow, (take_more es k e h), (world_at-push plan (take k es) e))
 
   -- the message at a place of the step at a place has this number
   pub made_numbered : (es : List Entry) (k index : ℕ) (x : Message) (e : Entry) → IsRun plan es → slice_get es k ≡ Some e → slice_get e.made index ≡ Some x → numbered (world_at plan es).messages (e.first + index + 1) ≡ Some x
   made_numbered es k index x e run h here =
       let goes = run k e h in
       let kept = (world_at plan (take k es)).messages in
-      let there : numbered (world_at plan (take (suc k) es)).messages (e.first + index + 1) ≡ Some x =
-      ap (λ (l : List Message). numbered l (e.first + index + 1)) (added_at es k e run h) ∙ ap (λ n. numbered (added e.made kept) (n + index + 1)) goes.1 ∙ numbered_added e.made kept index x here in
+      let there : numbered (world_at plan (take (suc k) es)).messages (e.first + index + 1) ≡ Some x = grind (arith, common_steps, (added_at es k e run h), (numbered_added e.made kept index x here)) in
       numbered_later (take (suc k) es) es (take_begins es (suc k)) (e.first + index + 1) x there
 
   -- a message that an entry names was made before it

@@ -1,17 +1,14 @@
 -- A step changes one actor.
-use Rattle.std.proofs.Common.{◌≡◌, ℕ, ◌==◌, ◌&&◌, Bool, true, false, Result, Ok, Err, refl, sym, subst, ap₂, ◌∙◌, inl, inr, true≢false, eq-eqb, ne_eqb}
-use Rattle.std.proofs.lemmas.Bool.{cases_eq}
+use Rattle.std.proofs.Common.{◌≡◌, ℕ, ◌==◌, ◌&&◌, Bool, true, false, Result, Ok, Err, refl, sym, ap₂, ◌∙◌, true≢false, eq-eqb}
 use Rattle.volume_model.specs.declared.fault.Fault.{Fault}
-use Rattle.volume_model.specs.Common.{put, put_at, Plan, World, Event, Step, after, after_step, groups_joined, Actor, Acted, Agree, acted, actor_of, in_world, same_actor, state_in, TheAuthority}
+use Rattle.volume_model.specs.Common.{put, put_at, Plan, World, Event, after, after_step, Actor, Acted, Agree, actor_of, in_world, same_actor, TheAuthority}
 use Rattle.volume_model.specs.Actor.Actor.{Client, Node}
 use Rattle.volume_model.proofs.ActorSteps.{step_of_actor}
+use Rattle.std.proofs.lemmas.Grind.{common_steps}
+use Rattle.std.proofs.Common.{arith}
 
 pub eqb-sym : (a b : ℕ) → (a == b) ≡ (b == a)
-eqb-sym a b =
-    elim (cases_eq a b) [
-      | inl e ↦ eq-eqb a b e ∙ sym (eq-eqb b a (sym e))
-      | inr ne ↦ ne_eqb a b ne ∙ sym (ne_eqb b a (λ e. ne (sym e)))
-    ]
+eqb-sym a b = grind (arith, common_steps)
 
 module _ {A : Type 0} where
   pub put_else : (f : ℕ → A) (x : ℕ) (value : A) (y : ℕ) → (x == y) ≡ false → put f x value y ≡ f y
@@ -45,9 +42,7 @@ in_world-else w (Node g m) (Ok s) (Node h n) apart = sym (put_at_else w.nodes g 
 
 -- an event leaves all actors but its own
 pub frame : (plan : Plan) (w : World) (e : Event) (actor : Actor) → same_actor (actor_of e) actor ≡ false → Agree actor w (after plan w e)
-frame plan w e actor apart =
-    let made : Result (Acted (actor_of e)) Fault = acted plan (groups_joined w.authority) w.messages e (state_in w (actor_of e)) in
-    subst (λ (r : Result Step Fault). Agree actor w (after_step w r)) (sym (step_of_actor plan w e)) (in_world-else w (actor_of e) made actor apart)
+frame plan w e actor apart = grind (arith, common_steps, step_of_actor, in_world-else)
 
 pub agree-sym : (actor : Actor) (w v : World) → Agree actor w v → Agree actor v w
 agree-sym TheAuthority w v h = sym h

@@ -1,14 +1,14 @@
 -- The headline, from what holds of a world
-use Rattle.std.proofs.Common.{◌≡◌, ℕ, zero, suc, ◌+◌, ◌-◌, ◌<◌, ◌≤◌, true, false, ◌&&◌, ◌==◌, nat_le, eqb, ◌⊎◌, List, [], ◌∷◌, ◌++◌, length, refl, sym, ap, ◌∙◌, subst, inl, inr, arith, le_refl}
+use Rattle.std.proofs.Common.{◌≡◌, ℕ, zero, suc, ◌+◌, ◌-◌, ◌<◌, ◌≤◌, true, false, ◌==◌, ◌⊎◌, List, [], ◌∷◌, ◌++◌, length, refl, sym, ap, ◌∙◌, subst, inl, inr, arith, le_refl}
 use Rattle.std.proofs.lemmas.Bool.{cases_lt, cases_eq, cases_order, and_parts, both_ways, eqb-true, leb-true}
-use Rattle.volume_model.specs.Common.{IsIn, IsBeginningOf, Members, sat, Redo, up_to, last_epoch, last_start, Contents, Plan, has_member, IsCertified, Piece, Label, Message, place_in, Report, Ack, CopyReport, From, senders, Stage, has_cut, is_open, reports_of, group_point_of, is_consistency_point, durable_point, complete_point, Unborn, Reading, Installing, Writing, World, Acknowledges, KeepsCommits}
-use Rattle.volume_model.specs.Client.{Client}
+use Rattle.volume_model.specs.Common.{IsIn, IsBeginningOf, Members, sat, Redo, up_to, last_epoch, last_start, Contents, Plan, has_member, IsCertified, Piece, Label, Message, place_in, Report, Ack, CopyReport, From, senders, Stage, has_cut, is_open, reports_of, group_point_of, Unborn, Reading, Installing, Writing, World, Acknowledges, KeepsCommits}
 use Rattle.volume_model.proofs.Basics.{any_passes, IsIn-append}
 use Rattle.volume_model.proofs.Line.{IsLate, descent}
 use Rattle.volume_model.proofs.Views.{place_in-there}
 use Rattle.volume_model.proofs.Logs.{IsChain, same_record, IsIn-up_to, from_up_to, up_to-up_to, up_to-newer, IsBeginningOf-up_to}
 use Rattle.volume_model.proofs.Chains.{complete_of-covers, consistency_point_below-at_most}
 use Rattle.volume_model.proofs.Invariant.{Held, epoch_now, path, config, log_of, found_of, lineage_of, HasCut, IsMade, label, WasAt, IsInViews, IsCopy, Covers, IsSource, IsSourced, MessageSourced, IsHistory, IsReported, HasReadGroup, HasParent, IsLogged, IsSound}
+use Rattle.std.proofs.lemmas.Grind.{common_steps}
 
 pub Covers-weaker : (world : World) (group v m n : ℕ) (q : Contents) → n ≤ m → Covers world group v m q → Covers world group v n q
 Covers-weaker world group v m n q h c = record { epoch = c.epoch; records = λ e r i g l. c.records e r i g (omega arith) }
@@ -17,8 +17,6 @@ pub Covers-source : (world : World) (group v m : ℕ) (source q : Contents) → 
 Covers-source world group v m source q s c = record {
   epoch = (let a : v ≤ last_epoch source.lineage = c.epoch in let b : last_epoch source.lineage ≤ last_epoch q.lineage = s.epoch in omega arith);
   records = λ e r i g l. (
-      let a : v ≤ last_epoch source.lineage = c.epoch in
-      let b : last_epoch source.lineage ≤ last_epoch q.lineage = s.epoch in
       let p : last_epoch source.lineage ≡ v = omega arith in
       s.records (p ∙ sym e) r (c.records p r i g l));
 }
@@ -27,9 +25,7 @@ Covers-source world group v m source q s c = record {
 pub at_message : (plan : Plan) (held : Held) (world : World) (messages : List Message) → IsHistory plan held world messages → (m : Message) → IsIn m messages → (older : List Message) × IsHistory plan held world older × ((k : Message) → IsIn k older → IsIn k messages) × MessageSourced plan held world older m
 at_message plan held world [] h m i = absurd i
 at_message plan held world (k ∷ older) h m (inl e) = (older, h.1, (λ k' i. inr i), subst (λ z. MessageSourced plan held world older z) (sym e) h.0)
-at_message plan held world (k ∷ older) h m (inr i) =
-    let (o, p, q, r) = at_message plan held world older h.1 m i in
-    (o, p, (λ k' j. inr (q k' j)), r)
+at_message plan held world (k ∷ older) h m (inr i) = grind (arith, common_steps, (at_message plan held world older h.1 m i))
 
 module _ (plan : Plan) (certified : IsCertified plan) {held : Held} (world : World) (sound : IsSound plan held world) where
   pub volume_positive : (v : ℕ) → HasCut world v → 1 ≤ v
@@ -247,23 +243,7 @@ module _ (plan : Plan) (certified : IsCertified plan) {held : Held} (world : Wor
   open_cut Writing h = refl
 
   commit : (v n : ℕ) → Acknowledges world v n → IsCommit v n
-  commit v n h =
-      let client : Client = world.clients v in
-      let parts : (is_open client.stage ≡ true) × ((is_consistency_point n client.log && nat_le n (durable_point client)) ≡ true) = and_parts _ _ h in
-      let parts' : (is_consistency_point n client.log ≡ true) × (nat_le n (durable_point client) ≡ true) = and_parts _ _ parts.1 in
-      let (r, i, p) = any_passes (λ r. eqb r.lsn n && r.point) client.log parts'.0 in
-      let q : (eqb r.lsn n ≡ true) × (r.point ≡ true) = and_parts _ _ p in
-      let cut : HasCut world v = open_cut client.stage parts.0 in
-      let a : n ≤ durable_point client = leb-true n (durable_point client) parts'.1 in
-      let b : durable_point client ≤ complete_point client = consistency_point_below-at_most (complete_point client) client.log in
-      record {
-        cut = cut;
-        r = r;
-        stands = i;
-        number = eqb-true r.lsn n q.0;
-        point = q.1;
-        covered = λ s j l. complete_of-covers (group_point_of client.groups) client.log (sound.logged v cut).chain s j (omega arith);
-      }
+  commit v n h = grind (arith, common_steps, and_parts, any_passes, HasCut, open_cut, leb-true, consistency_point_below-at_most, eqb-true, complete_of-covers)
 
   one_of : (v u n m : ℕ) (r s : Redo) → v < u → IsCommit v n → IsCommit u m → IsIn r (up_to n (log_of world v)) → IsIn s (up_to m (log_of world u)) → r.lsn ≡ s.lsn → r ≡ s
   one_of v u n m r s h a b i j e =

@@ -26,16 +26,12 @@ greatest_where-is test number (x ∷ xs) =
         | inr k ↦ elim (greatest_where-is test number xs) [
           | inl z ↦ inr (record { element = x; there = inl refl; passes = e; at_least = rw e (omega arith); exact = rw e (omega arith) })
           | inr t ↦ (
-              let a : greatest_where test number xs ≤ number t.element = t.at_least in
-              let b : number t.element ≤ greatest_where test number xs = t.exact in
               inr (record { element = t.element; there = inr t.there; passes = t.passes; at_least = rw e (omega arith); exact = rw e (omega arith) }))
         ]
       ]
       | inr e ↦ elim (greatest_where-is test number xs) [
         | inl z ↦ inl (rw e (omega arith))
         | inr t ↦ (
-            let a : greatest_where test number xs ≤ number t.element = t.at_least in
-            let b : number t.element ≤ greatest_where test number xs = t.exact in
             inr (record { element = t.element; there = inr t.there; passes = t.passes; at_least = rw e (omega arith); exact = rw e (omega arith) }))
       ]
     ]
@@ -60,13 +56,10 @@ greatest-from test number xs P holds below = record {
   is_one = elim (greatest_where-is test number xs) [
     | inl z ↦ inl z
     | inr t ↦ (
-        let a : greatest_where test number xs ≤ number t.element = t.at_least in
-        let b : number t.element ≤ greatest_where test number xs = t.exact in
         let e : number t.element ≡ greatest_where test number xs = omega arith in
         inr (subst P e (holds t.element t.there t.passes)))
   ];
   at_least_each = λ m p. (
       let (x, i, h, l) = below m p in
-      let k : number x ≤ greatest_where test number xs = greatest_where-above test number xs x i h in
-      omega arith);
+      omega (arith, (greatest_where-above test number xs x i h)));
 }

@@ -4,6 +4,7 @@ use Rattle.std.proofs.lemmas.Bool.{and_parts, and_from, or_cases, or_left, or_ri
 use Rattle.volume_model.specs.Common.{IsIn, Redo, grounded, greatest_grounded, IsGreatest, IsGrounded, IsGroundedNumber, GroupLinksFall, CompletePointIsGreatest, from_none, from_one}
 use Rattle.volume_model.proofs.Basics.{any_passes, any_from}
 use Rattle.volume_model.proofs.Greatest.{greatest_where, greatest-from}
+use Rattle.std.proofs.lemmas.Grind.{common_steps}
 
 -- a grounded record is one of the list
 grounded_in : (records : List Redo) (r : Redo) → IsGrounded records r → IsIn r records
@@ -25,14 +26,8 @@ grounded_from records (suc steps) n h =
 -- and the walk finds each such number, in as many steps
 pub grounded_to : (records : List Redo) → GroupLinksFall records → (steps : ℕ) (r : Redo) → IsGrounded records r → r.lsn ≤ steps → grounded steps records r.lsn ≡ true
 grounded_to records fall zero r g l = absurd (let k : r.prev_group < r.lsn = fall r (grounded_in records r g) in omega arith)
-grounded_to records fall (suc steps) t (from_none r i e) l =
-    any_from (λ s. eqb s.lsn r.lsn && (eqb s.prev_group 0 || grounded steps records s.prev_group)) records r i
-    (and_from _ _ (eq-eqb r.lsn r.lsn refl) (or_left _ _ (eq-eqb r.prev_group 0 e)))
-grounded_to records fall (suc steps) t (from_one r before i g e) l =
-    let k : r.prev_group < r.lsn = fall r i in
-    let ih : grounded steps records before.lsn ≡ true = grounded_to records fall steps before g (omega arith) in
-    any_from (λ s. eqb s.lsn r.lsn && (eqb s.prev_group 0 || grounded steps records s.prev_group)) records r i
-    (and_from _ _ (eq-eqb r.lsn r.lsn refl) (or_right _ _ (subst (λ n. grounded steps records n ≡ true) e ih)))
+grounded_to records fall (suc steps) t (from_none r i e) l = grind (arith, common_steps, any_from, and_from, eq-eqb, or_left)
+grounded_to records fall (suc steps) t (from_one r before i g e) l = grind (arith, common_steps, any_from, and_from, eq-eqb, or_right, (grounded_to records fall steps before g (omega arith)))
 
 pub greatest_grounded-is : (records list : List Redo) → greatest_grounded records list ≡ greatest_where (λ r. grounded r.lsn records r.lsn) (λ r. r.lsn) list
 greatest_grounded-is records [] = refl

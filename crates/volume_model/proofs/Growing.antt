@@ -1,9 +1,11 @@
 -- What a step does to the messages.
-use Rattle.std.proofs.Common.{◌≡◌, ◌+◌, List, length, Some, Result, Ok, Err, refl, sym, ap, ◌∙◌, subst}
+use Rattle.std.proofs.Common.{◌≡◌, ◌+◌, List, length, Some, Result, Ok, Err, refl, sym, ap, subst}
 use Rattle.volume_model.specs.declared.fault.Fault.{Fault}
-use Rattle.volume_model.specs.Common.{added, IsBeginningOf, Plan, Message, World, Event, Step, step, after, after_step, groups_joined, Actor, Acted, Keeps, acted, actor_of, in_world, state_in, makes}
+use Rattle.volume_model.specs.Common.{added, IsBeginningOf, Plan, Message, World, Event, Step, step, after, after_step, Actor, Acted, Keeps, in_world, makes}
 use Rattle.volume_model.proofs.ActorSteps.{step_of_actor}
 use Rattle.volume_model.proofs.ListFacts.{added_before, beginning-refl, length-added}
+use Rattle.std.proofs.lemmas.Grind.{common_steps}
+use Rattle.std.proofs.Common.{arith}
 
 -- a step that isn't refused puts what it makes before the messages
 abbrev pub Leaves : World → Result Step Fault → List Message → Type 0
@@ -11,16 +13,11 @@ Leaves w r ms = ((after_step w r).messages ≡ added ms w.messages) × (length (
 
 in_world-leaves : (w : World) (actor : Actor) (r : Result (Acted actor) Fault) (ms : List Message) → makes (in_world w actor r) ≡ Some ms → Leaves w (in_world w actor r) ms
 in_world-leaves w actor (Err fault) ms h = absurd (cc)
-in_world-leaves w actor (Ok s) ms h =
-    let made : s.made ≡ ms = cc in
-    let all : added s.made w.messages ≡ added ms w.messages = ap (λ (l : List Message). added l w.messages) made in
-    (all, ap length all ∙ length-added ms w.messages)
+in_world-leaves w actor (Ok s) ms h = grind (arith, common_steps, length-added)
 
 -- the messages that a step makes stand before the others, in the order of the model
 pub messages_grow : (plan : Plan) (w : World) (e : Event) (ms : List Message) → makes (step plan w e) ≡ Some ms → ((after plan w e).messages ≡ added ms w.messages) × (length (after plan w e).messages ≡ length w.messages + length ms)
-messages_grow plan w e ms =
-    let made : Result (Acted (actor_of e)) Fault = acted plan (groups_joined w.authority) w.messages e (state_in w (actor_of e)) in
-    subst (λ (r : Result Step Fault). makes r ≡ Some ms → Leaves w r ms) (sym (step_of_actor plan w e)) (in_world-leaves w (actor_of e) made ms)
+messages_grow plan w e ms = grind (arith, common_steps, Some, Leaves, step_of_actor, in_world-leaves)
 
 unmoved : (w : World) (r : Result Step Fault) (fault : Fault) → r ≡ Err fault → after_step w r ≡ w
 unmoved w r fault h = ap (after_step w) h

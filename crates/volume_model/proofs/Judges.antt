@@ -12,6 +12,8 @@ use Rattle.volume_model.proofs.ListFacts.{beginning-refl}
 use Rattle.volume_model.proofs.Frames.{put_here, put_at_here, agree-sym, agree-trans}
 use Rattle.volume_model.proofs.Worlds.{take_prefix, take_begins, length-take_within, agree_at_last, keeps_at}
 use Rattle.volume_model.proofs.Alike.{refusal_alike}
+use Rattle.std.proofs.lemmas.Grind.{common_steps}
+use Rattle.std.proofs.Common.{rules}
 
 -- the actor is placed as it is in w
 pub placed-agree : (actor : Actor) (w v : World) → Agree actor w (placed actor w v)
@@ -64,13 +66,7 @@ module _ (plan : Plan) where
 
   own_noted : (number : ℕ) (es : List Entry) (event : Event) (code : ℕ) → code ≢ 80 → IsOne event (world_at plan (take number es)) (world_at plan es)
       → refusal (step plan (world_at plan es) event) ≡ code → refusal (step plan (judged plan es number event) event) ≡ code
-  own_noted number es event code other agree h =
-      let w = world_at plan (take number es) in
-      let v = world_at plan es in
-      refusal_alike plan v (placed (actor_of event) w v) event code other
-      (agree-trans (actor_of event) v w (placed (actor_of event) w v) (agree-sym (actor_of event) w v agree.0) (placed-agree (actor_of event) w v))
-      (placed-joined (actor_of event) w v agree.1)
-      (placed-keeps (actor_of event) w v v (beginning-refl v.messages)) h
+  own_noted number es event code other agree h = search (rules, refusal_alike, agree-trans, agree-sym, placed-agree, placed-joined, placed-keeps, beginning-refl)
 
   last_agrees : (actor : Actor) (w v : World) → actor ≡ TheAuthority → Agree actor w v → w.authority.last_volume ≡ v.authority.last_volume
   last_agrees actor w v is h = let a : Agree TheAuthority w v = subst (λ x. Agree x w v) is h in ap (λ x. x.last_volume) a
@@ -132,10 +128,7 @@ module _ (plan : Plan) where
   result_longer slots cells number es fs event JournalFull p room le h = let l = prefix_length es fs p in omega (arith, l, h, room)
 
   pub refused_longer : (slots cells : ℕ) (es fs : List Entry) (n : Refusal) → IsPrefix es fs → length fs ≤ cells → IsRefused plan slots cells es n → IsRefused plan slots cells fs n
-  refused_longer slots cells es fs n p room h =
-      let l = prefix_length es fs p in
-      let within = h.within in
-      record { within = omega (arith, l, within); judged_so = result_longer slots cells n.number es fs n.event n.fault p room h.within h.judged_so }
+  refused_longer slots cells es fs n p room h = grind (arith, common_steps, prefix_length, result_longer)
 
   result_now : (slots cells number : ℕ) (es : List Entry) (event : Event) (fault : Fault) → IsNoted fault → IsOne event (world_at plan (take number es)) (world_at plan es)
       → Exact plan slots cells es event fault → found_in plan es number event fault ≡ wanted slots cells fault
@@ -200,6 +193,4 @@ module _ (plan : Plan) where
   -- by the actor's last number alone
   pub noted_at_last : (slots cells number : ℕ) (es : List Entry) (event : Event) (fault : Fault) → IsNoted fault → number ≤ length es → last_of (actor_of event) es ≤ number
       → JoinedAlike event (world_at plan (take number es)) (world_at plan es) → Exact plan slots cells es event fault → IsRefused plan slots cells es (record { event = event; fault = fault; number = number })
-  noted_at_last slots cells number es event fault is le last there h =
-      let seen = length-take_within es number le in
-      noted slots cells number es event fault is le (agree_at_last plan (actor_of event) (take number es) es (take_begins es number) (omega (arith, seen, last)), there) h
+  noted_at_last slots cells number es event fault is le last there h = search (rules, length-take_within, noted, agree_at_last, take_begins)

@@ -1,17 +1,16 @@
 -- What a writer has acknowledged it has acknowledged for good
-use Rattle.std.proofs.Common.{◌≡◌, ℕ, ◌+◌, ◌<◌, ◌≤◌, Bool, true, false, not, ◌&&◌, ◌==◌, nat_lt, nat_le, eqb, List, [], ◌∷◌, ◌++◌, append_assoc, Ok, length, refl, sym, ap, ◌∙◌, subst, inl, inr, arith, slice_set}
-use Rattle.std.proofs.lemmas.Bool.{cases_Bool, and_parts, and_from, both_ways, eqb-true, eq-eqb, leb-true, le-leb, not-true, cases_lt}
-use Rattle.volume_model.specs.Common.{IsIn, any, Redo, last_lsn, up_to, last_start, last_epoch, Plan, IsCertified, Label, Place, place_in, From, Stage, ClientStep, is_born, has_cut, is_open, place_of, counts_of, group_point_of, ClientGroup, no_group, group_of, complete_of, consistency_point_below, is_consistency_point, complete_point, durable_point, groups_now, with_count, raised, raised_group, Change, issued_log, record_of, is_last, issued, report_taken, cut_client, opened, viewed, ack_taken, with_places, later_group, is_later, Unborn, Reading, Installing, Writing, World, Event, run, opening, Acknowledges, part_of, AcknowledgementsLast}
+use Rattle.std.proofs.Common.{◌≡◌, ℕ, ◌<◌, ◌≤◌, Bool, true, false, ◌&&◌, nat_le, eqb, List, [], ◌∷◌, ◌++◌, append_assoc, Ok, refl, sym, ap, ◌∙◌, subst, inl, inr, arith, slice_set}
+use Rattle.std.proofs.lemmas.Bool.{cases_Bool, and_parts, and_from, both_ways, eqb-true, eq-eqb, leb-true, le-leb, cases_lt}
+use Rattle.volume_model.specs.Common.{IsIn, any, Redo, last_lsn, up_to, last_start, Plan, IsCertified, Label, Place, place_in, From, Stage, ClientStep, has_cut, is_open, counts_of, group_point_of, ClientGroup, no_group, group_of, complete_of, consistency_point_below, is_consistency_point, complete_point, durable_point, groups_now, with_count, raised, Change, issued_log, record_of, is_last, issued, report_taken, cut_client, opened, viewed, ack_taken, with_places, later_group, is_later, Unborn, Reading, Installing, Writing, World, Event, run, opening, Acknowledges, part_of, AcknowledgementsLast}
 use Rattle.volume_model.specs.Client.{Client}
 use Rattle.volume_model.proofs.Basics.{any_passes, any_from, IsIn-append_right}
 use Rattle.volume_model.proofs.Logs.{IsChain, up_to-newer}
 use Rattle.volume_model.proofs.Renewed.{IsKeptWorld}
 use Rattle.volume_model.proofs.Sound.{facts}
-use Rattle.volume_model.proofs.ClientRelations.{issued-ok, run_on}
-use Rattle.volume_model.proofs.NodeSteps.{refuse_if-ok}
+use Rattle.volume_model.proofs.ClientRelations.{run_on}
 use Rattle.volume_model.proofs.Run.{opening_kept, run_kept}
 use Rattle.volume_model.proofs.Groups.{set-all, group_of-with_places, later_group-none, group_of-beyond, group_of-raised}
-use Rattle.volume_model.specs.declared.fault.Fault.TheVariants.{AlreadyDone, NoActor}
+use Rattle.std.proofs.lemmas.Grind.{common_steps}
 
 -- what an open client has it keeps
 pub record Lasts (old new : Client) : Type 0 where
@@ -32,12 +31,6 @@ lasts_after a b c f g = record {
 closed_lasts : (old new : Client) → is_open old.stage ≡ false → Lasts old new
 closed_lasts old new n = record { open_on = λ h. absurd (both_ways _ n h); points = λ h. absurd (both_ways _ n h); log = λ h. absurd (both_ways _ n h) }
 
-closed_before_cut : (stage : Stage) → has_cut stage ≡ false → is_open stage ≡ false
-closed_before_cut Unborn h = refl
-closed_before_cut Reading h = refl
-closed_before_cut Installing h = refl
-closed_before_cut Writing h = h
-
 issued_later : (v start : ℕ) (changes : List Change) (log : List Redo) → (later : List Redo) × (later ++ log ≡ issued_log v start changes log)
 issued_later v start [] log = ([], refl)
 issued_later v start (change ∷ more) log =
@@ -51,28 +44,16 @@ module _ (plan : Plan) (v : ℕ) (client : Client) where
   IsLater step = Lasts client step.client
 
   issue_lasts : (changes : List Change) (step : ClientStep) → issued plan v client changes ≡ Ok step → IsLater step
-  issue_lasts changes step h =
-      let (open_now, transaction, is) = issued-ok plan v client changes step h in
-      subst IsLater is (record { open_on = λ h. h; points = λ h group. omega arith; log = λ h. issued_later v (last_start client.lineage) changes client.log })
+  issue_lasts changes step h = grind (arith, common_steps, (issued_later v (last_start client.lineage) changes client.log))
 
   cut_lasts : (step : ClientStep) → cut_client plan v client ≡ Ok step → IsLater step
-  cut_lasts step h =
-      let (z, h0) = refuse_if-ok (not (is_born client.stage)) NoActor _ step h in
-      let (a, h1) = refuse_if-ok (has_cut client.stage) AlreadyDone _ step h0 in
-      closed_lasts client step.client (closed_before_cut client.stage a)
+  cut_lasts step h = grind (arith, common_steps)
 
   open_lasts : (step : ClientStep) → opened plan client ≡ Ok step → IsLater step
-  open_lasts step h =
-      let (z, h0) = refuse_if-ok (not (is_born client.stage)) NoActor _ step h in
-      let (a, h1) = refuse_if-ok (is_open client.stage) AlreadyDone _ step h0 in
-      closed_lasts client step.client a
+  open_lasts step h = grind (arith, common_steps)
 
   raised_rises : (groups : List ClientGroup) (group : ℕ) → group_point_of groups group ≤ group_point_of (raised plan groups) group
-  raised_rises groups group =
-      elim (cases_lt group (length groups)) [
-        | inl there ↦ (let e : group_point_of (raised plan groups) group ≡ (raised_group plan group (group_of groups group)).group_point = ap (λ g. g.group_point) (group_of-raised plan groups group there) in omega arith)
-        | inr beyond ↦ (let e : group_point_of groups group ≡ 0 = ap (λ g. g.group_point) (group_of-beyond groups group beyond) in omega arith)
-      ]
+  raised_rises groups group = grind (arith, common_steps, cases_lt, group_of-raised, group_of-beyond)
 
   later_point : (g : ClientGroup) (place : Place) → (later_group g place).group_point ≡ g.group_point
   later_point g place = elim (cases_Bool (is_later g.place place)) [ inl e ↦ rw e refl | inr e ↦ rw e refl ]
@@ -94,11 +75,7 @@ module _ (plan : Plan) (v : ℕ) (client : Client) where
   }
 
   report_lasts : (group : ℕ) (l : Label) (from : From) → Lasts client (report_taken v client group l from)
-  report_lasts group l from =
-      elim (cases_Bool ((not (has_cut client.stage)) && (l.member == (place_of client.groups group).epoch && nat_lt (last_epoch from.contents.lineage) v))) [
-        | inr n ↦ rw n (same_lasts client)
-        | inl y ↦ closed_lasts client (report_taken v client group l from) (closed_before_cut client.stage (not-true _ (and_parts (not (has_cut client.stage)) _ y).0))
-      ]
+  report_lasts group l from = grind (arith, common_steps)
 
   now_rises : (stage : Stage) (groups : List ClientGroup) (group : ℕ) → group_point_of groups group ≤ group_point_of (groups_now plan stage groups) group
   now_rises Unborn groups group = omega arith
@@ -111,17 +88,7 @@ module _ (plan : Plan) (v : ℕ) (client : Client) where
       let with_ack : ClientGroup = record (group_of client.groups group) { counts = with_count sender reached (counts_of client.groups group) } in
       let groups : List ClientGroup = slice_set client.groups group with_ack in
       let same : (g : ℕ) → group_point_of groups g ≡ group_point_of client.groups g = set-all no_group (λ g x. x.group_point ≡ group_point_of client.groups g) client.groups group with_ack refl (λ g. refl) in
-      elim (cases_Bool (has_cut client.stage && nat_le l.member (place_of client.groups group).epoch)) [
-        | inr n ↦ rw n (same_lasts client)
-        | inl y ↦ rw y (record {
-          open_on = λ h. h;
-          points = λ h g. (
-              let e : group_point_of groups g ≡ group_point_of client.groups g = same g in
-              let rises : group_point_of groups g ≤ group_point_of (groups_now plan client.stage groups) g = now_rises client.stage groups g in
-              omega arith);
-          log = λ h. ([], refl);
-        })
-      ]
+      grind (arith, common_steps, cases_Bool, same_lasts, now_rises)
 
 all_last : (plan : Plan) (events : List Event) (world : World) (y : ℕ) → Lasts (world.clients y) ((run plan world events).clients y)
 all_last plan =
@@ -130,75 +97,29 @@ all_last plan =
 -- the complete point and the durable point don't fall
 complete_below : (points : ℕ → ℕ) (log : List Redo) → IsChain log → complete_of points log ≤ last_lsn log
 complete_below points [] c = omega arith
-complete_below points (s ∷ older) c =
-    elim (cases_Bool (eqb (complete_of points older) (last_lsn older) && nat_le s.lsn (points s.group))) [
-      | inl e ↦ rw e (omega arith)
-      | inr e ↦ rw e (let l : complete_of points older ≤ last_lsn older = complete_below points older c.1 in let k : last_lsn older < s.lsn = c.0.above in omega arith)
-    ]
+complete_below points (s ∷ older) c = grind (arith, common_steps, cases_Bool, (complete_below points older c.1))
 
 complete_rises : (points points' : ℕ → ℕ) → ((group : ℕ) → points group ≤ points' group) → (log : List Redo) → IsChain log → complete_of points log ≤ complete_of points' log
 complete_rises points points' up [] c = omega arith
-complete_rises points points' up (s ∷ older) c =
-    let ih : complete_of points older ≤ complete_of points' older = complete_rises points points' up older c.1 in
-    let below : complete_of points' older ≤ last_lsn older = complete_below points' older c.1 in
-    let link : last_lsn older < s.lsn = c.0.above in
-    elim (cases_Bool (eqb (complete_of points older) (last_lsn older) && nat_le s.lsn (points s.group))) [
-      | inl e ↦ (
-          let parts : (eqb (complete_of points older) (last_lsn older) ≡ true) × (nat_le s.lsn (points s.group) ≡ true) = and_parts _ _ e in
-          let all : complete_of points older ≡ last_lsn older = eqb-true _ _ parts.0 in
-          let reached : s.lsn ≤ points s.group = leb-true _ _ parts.1 in
-          let more : points s.group ≤ points' s.group = up s.group in
-          let e' : (eqb (complete_of points' older) (last_lsn older) && nat_le s.lsn (points' s.group)) ≡ true = and_from _ _ (eq-eqb (complete_of points' older) (last_lsn older) (omega arith)) (le-leb s.lsn (points' s.group) (omega arith)) in
-          rw (e, e') (omega arith))
-      | inr e ↦ rw e (elim (cases_Bool (eqb (complete_of points' older) (last_lsn older) && nat_le s.lsn (points' s.group))) [
-        | inl f ↦ rw f (omega arith)
-        | inr f ↦ rw f ih
-      ])
-    ]
+complete_rises points points' up (s ∷ older) c = grind (arith, common_steps, complete_below, cases_Bool, and_parts, eqb-true, leb-true, and_from, eq-eqb, le-leb, (complete_rises points points' up older c.1))
 
 point_at_most_last : (n : ℕ) (log : List Redo) → IsChain log → consistency_point_below n log ≤ last_lsn log
 point_at_most_last n [] c = omega arith
-point_at_most_last n (s ∷ older) c =
-    elim (cases_Bool (s.point && nat_le s.lsn n)) [
-      | inl e ↦ rw e (omega arith)
-      | inr e ↦ rw e (let l : consistency_point_below n older ≤ last_lsn older = point_at_most_last n older c.1 in let k : last_lsn older < s.lsn = c.0.above in omega arith)
-    ]
+point_at_most_last n (s ∷ older) c = grind (arith, common_steps, cases_Bool, (point_at_most_last n older c.1))
 
 point_rises : (n m : ℕ) → n ≤ m → (log : List Redo) → IsChain log → consistency_point_below n log ≤ consistency_point_below m log
 point_rises n m h [] c = omega arith
-point_rises n m h (s ∷ older) c =
-    let ih : consistency_point_below n older ≤ consistency_point_below m older = point_rises n m h older c.1 in
-    let below : consistency_point_below n older ≤ last_lsn older = point_at_most_last n older c.1 in
-    let link : last_lsn older < s.lsn = c.0.above in
-    elim (cases_Bool (s.point && nat_le s.lsn n)) [
-      | inl e ↦ (
-          let parts : (s.point ≡ true) × (nat_le s.lsn n ≡ true) = and_parts _ _ e in
-          let l : s.lsn ≤ n = leb-true _ _ parts.1 in
-          let e' : (s.point && nat_le s.lsn m) ≡ true = and_from _ _ parts.0 (le-leb s.lsn m (omega arith)) in
-          rw (e, e') (omega arith))
-      | inr e ↦ rw e (elim (cases_Bool (s.point && nat_le s.lsn m)) [
-        | inl f ↦ rw f (omega arith)
-        | inr f ↦ rw f ih
-      ])
-    ]
+point_rises n m h (s ∷ older) c = grind (arith, common_steps, (point_rises n m h older c.1), (point_at_most_last n older c.1), (cases_Bool (s.point && nat_le s.lsn n)), (cases_Bool (s.point && nat_le s.lsn m)))
 
 durable_rises : (points points' : ℕ → ℕ) → ((group : ℕ) → points group ≤ points' group) → (later log : List Redo) → IsChain (later ++ log) → consistency_point_below (complete_of points log) log ≤ consistency_point_below (complete_of points' (later ++ log)) (later ++ log)
 durable_rises points points' up [] log c = point_rises _ _ (complete_rises points points' up log c) log c
 durable_rises points points' up (s ∷ later) log c =
     let older : List Redo = later ++ log in
     let ih : consistency_point_below (complete_of points log) log ≤ consistency_point_below (complete_of points' older) older = durable_rises points points' up later log c.1 in
-    let grows : complete_of points' older ≤ complete_of points' (s ∷ older) =
-    elim (cases_Bool (eqb (complete_of points' older) (last_lsn older) && nat_le s.lsn (points' s.group))) [
-      | inl e ↦ rw e (let b : complete_of points' older ≤ last_lsn older = complete_below points' older c.1 in let k : last_lsn older < s.lsn = c.0.above in omega arith)
-      | inr e ↦ rw e (omega arith)
-    ] in
+    let grows : complete_of points' older ≤ complete_of points' (s ∷ older) = grind (arith, common_steps) in
     let rises : consistency_point_below (complete_of points' older) older ≤ consistency_point_below (complete_of points' (s ∷ older)) older = point_rises _ _ grows older c.1 in
     let below : consistency_point_below (complete_of points' (s ∷ older)) older ≤ last_lsn older = point_at_most_last _ older c.1 in
-    let link : last_lsn older < s.lsn = c.0.above in
-    elim (cases_Bool (s.point && nat_le s.lsn (complete_of points' (s ∷ older)))) [
-      | inl e ↦ rw e (omega arith)
-      | inr e ↦ rw e (omega arith)
-    ]
+    grind (arith, common_steps)
 
 any-later : {A : Type 0} (test : A → Bool) (later xs : List A) → any test xs ≡ true → any test (later ++ xs) ≡ true
 any-later test later xs h = let (x, i, p) = any_passes test xs h in any_from test (later ++ xs) x (IsIn-append_right later xs x i) p
@@ -207,10 +128,7 @@ any-later test later xs h = let (x, i, p) = any_passes test xs h in any_from tes
 later_above : (later log : List Redo) → IsChain (later ++ log) → (r : Redo) → IsIn r later → last_lsn log < r.lsn
 later_above [] log c r i = absurd i
 later_above (s ∷ later) log c r (inl e) =
-    let link : last_lsn (later ++ log) < s.lsn = c.0.above in
-    let q : r.lsn ≡ s.lsn = ap (λ z. z.lsn) e in
-    let l : last_lsn log ≤ last_lsn (later ++ log) = last_grows later log c.1 in
-    omega arith
+    omega (arith, (last_grows later log c.1), (ap (λ z. z.lsn) e))
   where
     last_grows : (later log : List Redo) → IsChain (later ++ log) → last_lsn log ≤ last_lsn (later ++ log)
     last_grows [] log c = omega arith

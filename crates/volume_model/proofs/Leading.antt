@@ -6,6 +6,8 @@ use Rattle.volume_model.proofs.Records.{is_same-true}
 use Rattle.volume_model.proofs.Ordered.{before-trans, before-total}
 use Rattle.volume_model.proofs.Chains.{record_at-some, record_at-there, follow-some}
 use Rattle.volume_model.proofs.Greatest.{greatest_where, greatest-from}
+use Rattle.std.proofs.lemmas.Grind.{common_steps}
+use Rattle.std.proofs.Common.{rules}
 
 Some-is : {A : Type 0} (a b : A) → ◌≡◌ {A = Option A} (Some a) (Some b) → a ≡ b
 Some-is a b h = cc
@@ -28,10 +30,7 @@ behind_both s u t not_before h =
     ]
 
 none_at : (records : List Redo) (n : ℕ) (t : Redo) → record_at records n ≡ None → IsIn t records → t.lsn ≡ n → ⊥
-none_at records n t none i e =
-    let (s, at) = record_at-there records t i in
-    let at' : record_at records n ≡ Some s = subst (λ m. record_at records m ≡ Some s) e at in
-    cc
+none_at records n t none i e = grind (arith, common_steps, record_at-there, Some)
 
 first_at : (records : List Redo) (n : ℕ) (r : Redo) → record_at records n ≡ Some r → (t : Redo) → IsIn t records → t.lsn ≡ n → IsBehind r t
 first_at [] n r h t i e = absurd i
@@ -53,12 +52,7 @@ first_at (s ∷ rest) n r h t i e =
     go ih None at is (inr k) = absurd (none_at rest n t at k e)
     go ih (Some u) at is j =
         elim (cases_Bool (numbers_before (spelling u) (spelling s))) [
-          | inl b ↦ (
-              let same : u ≡ r = rw b at is in
-              subst (λ z. IsBehind z t) same (elim j [
-                | inl p ↦ inr (subst (λ z. numbers_before (spelling u) (spelling z) ≡ true) (sym p) b)
-                | inr k ↦ ih u at k
-              ]))
+          | inl b ↦ search (rules, IsBehind)
           | inr b ↦ (
               let same : s ≡ r = rw b at is in
               subst (λ z. IsBehind z t) same (elim j [
@@ -105,10 +99,7 @@ led records (suc steps) n chain h =
 module _ (records : List Redo) (fall : VolumeLinksFall records) where
   -- a number at which a record counts isn't 0
   above_zero : (n : ℕ) (r : Redo) → record_at records n ≡ Some r → r.prev_volume < n
-  above_zero n r found =
-      let (i, e) = record_at-some records n r found in
-      let k : r.prev_volume < r.lsn = fall r i in
-      omega arith
+  above_zero n r found = grind (arith, common_steps, (record_at-some records n r found))
 
   -- where the number leads down the chain is there, in as many steps
   chain_there : (steps n : ℕ) → LeadsDown records n → n ≤ steps → (chain : List Redo) × (chain_from steps records n ≡ Some chain)
@@ -121,23 +112,13 @@ module _ (records : List Redo) (fall : VolumeLinksFall records) where
       let ne : eqb n 0 ≡ false = ne_eqb n 0 (λ z. omega arith) in
       (r ∷ older, rw (ne, found, ih) refl)
 
-  -- a chain that ends at a consistency point, and the record at its end
-  end_of : (n : ℕ) (chain : List Redo) → AreOnTheWay records n chain → ends_at_point (Some chain) ≡ true → (r : Redo) × (record_at records n ≡ Some r) × (r.point ≡ true)
-  end_of n [] way h = absurd (true≢false (sym h))
-  end_of n (r ∷ older) way h = (r, way.0, h)
-
   found_point : (n : ℕ) (got : Option (List Redo)) → chain_from n records n ≡ got → ends_at_point got ≡ true → IsFoundPoint records n
   found_point n None e h = absurd (true≢false (sym h))
-  found_point n (Some chain) e h =
-      let l : IsLed records n chain = led records n n chain e in
-      let (r, at, point) = end_of n chain l.way h in
-      (r, at, point, l.down)
+  found_point n (Some chain) e h = grind (arith, common_steps, (led records n n chain e))
 
   ends : (n : ℕ) (r : Redo) → record_at records n ≡ Some r → r.point ≡ true → (chain : List Redo) → AreOnTheWay records n chain → ends_at_point (Some chain) ≡ true
   ends n r at point [] way = absurd (let k : r.prev_volume < n = above_zero n r at in let z : n ≡ 0 = way in omega arith)
-  ends n r at point (s ∷ older) way =
-      let same : s ≡ r = Some-is s r (sym way.0 ∙ at) in
-      subst (λ z. z.point ≡ true) (sym same) point
+  ends n r at point (s ∷ older) way = grind (arith, common_steps)
 
   point_found : (n : ℕ) → IsFoundPoint records n → ends_at_point (chain_from n records n) ≡ true
   point_found n found =
@@ -156,11 +137,7 @@ module _ (records : List Redo) (fall : VolumeLinksFall records) where
       (r, i, subst (λ m. ends_at_point (chain_from m records m) ≡ true) (sym e) (point_found n found), omega arith)
 
   pub cut_greatest : IsGreatest (IsFoundPoint records) (cut_of records)
-  cut_greatest =
-      subst (IsGreatest (IsFoundPoint records)) (sym (greatest_point-where records))
-      (greatest-from (λ r. ends_at_point (chain_from r.lsn records r.lsn)) (λ r. r.lsn) records (IsFoundPoint records)
-      (λ r i h. found_point r.lsn (chain_from r.lsn records r.lsn) refl h)
-      as_element)
+  cut_greatest = search (rules, greatest_point-where, greatest-from, found_point, as_element)
 
   -- the chain from the cut is there
   cut_led : (chain : List Redo) × (chain_from (cut_of records) records (cut_of records) ≡ Some chain)

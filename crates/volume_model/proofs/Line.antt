@@ -1,8 +1,9 @@
 -- The configurations that a group goes through, one an epoch, and the descent along them
-use Rattle.std.proofs.Common.{◌≡◌, ℕ, zero, suc, ◌+◌, ◌<◌, ◌≤◌, true, false, ◌&&◌, ◌==◌, ◌⊎◌, ap, ◌∙◌, sym, subst, inl, inr, arith}
+use Rattle.std.proofs.Common.{◌≡◌, ℕ, zero, suc, ◌+◌, ◌<◌, ◌≤◌, true, false, ◌&&◌, ◌⊎◌, ap, ◌∙◌, sym, inl, inr, arith}
 use Rattle.std.proofs.lemmas.Bool.{cases_Bool, cases_lt, and_parts, and_from, both_ways, eqb-true}
-use Rattle.volume_model.specs.Common.{IsIn, any, Members, sat, Plan, has_member, parent_of, is_fresh, IsAbove, IsStep, IsCertified, by_parent, by_ancestor}
+use Rattle.volume_model.specs.Common.{any, Members, sat, Plan, has_member, parent_of, is_fresh, IsAbove, IsStep, IsCertified, by_parent, by_ancestor}
 use Rattle.volume_model.proofs.Basics.{any_passes, any_fails}
+use Rattle.std.proofs.lemmas.Grind.{common_steps}
 
 -- a run of configurations, one an epoch from 1 to the last, each but the root a child of the one before
 pub record IsLine (plan : Plan) (group : ℕ) (line : ℕ → ℕ) (last : ℕ) : Type 0 where
@@ -30,36 +31,19 @@ module _ (plan : Plan) (certified : IsCertified plan) (group : ℕ) (there : gro
   -- who is fresh at a later epoch is late
   pub late_from_fresh : (e f x : ℕ) → 1 ≤ e → e < f → f ≤ last → is_fresh plan group (line f) x ≡ true → IsLate plan group line e x
   late_from_fresh e zero x l h k fresh i li ie = absurd (omega arith)
-  late_from_fresh e (suc f) x l h k fresh i li ie =
-      let is_step : IsStep plan group (line (suc f)) = certified.step group (line (suc f)) there (is_line.there (suc f) (omega arith) k) (is_line.child f (omega arith) k) in
-      is_step.child.fresh_unused x (line i) fresh (above_line i f li (omega arith) k)
+  late_from_fresh e (suc f) x l h k fresh i li ie = grind (arith, common_steps, above_line)
 
   -- a fresh member in the set, or none
   pub fresh_or_none : (c : ℕ) (set : Members) → ((x : ℕ) × (set x ≡ true) × (is_fresh plan group c x ≡ true)) ⊎ ((x : ℕ) → set x ≡ true → is_fresh plan group c x ≡ false)
   fresh_or_none c set =
       elim (cases_Bool (any (λ x. set x && is_fresh plan group c x) (plan.configuration group c).members)) [
-        | inl h ↦ (
-            let (x, i, p) = any_passes (λ x. set x && is_fresh plan group c x) (plan.configuration group c).members h in
-            let q : (set x ≡ true) × (is_fresh plan group c x ≡ true) = and_parts (set x) (is_fresh plan group c x) p in
-            inl (x, q.0, q.1))
-        | inr h ↦ inr (λ x s. elim (cases_Bool (is_fresh plan group c x)) [
-          | inr no' ↦ no'
-          | inl fresh ↦ absurd (
-              let member : has_member (plan.configuration group c) x ≡ true = (and_parts (has_member (plan.configuration group c) x) _ fresh).0 in
-              let (y, i, e) = any_passes (λ y. y == x) (plan.configuration group c).members member in
-              let e' : y ≡ x = eqb-true y x e in
-              let i' : IsIn x (plan.configuration group c).members = subst (λ z. IsIn z (plan.configuration group c).members) e' i in
-              both_ways _ (any_fails (λ x. set x && is_fresh plan group c x) (plan.configuration group c).members h x i') (and_from (set x) (is_fresh plan group c x) s fresh))
-        ])
+        | inl h ↦ grind (arith, common_steps, any_passes, and_parts)
+        | inr h ↦ grind (arith, common_steps, cases_Bool, and_parts, any_passes, eqb-true, both_ways, any_fails, and_from)
       ]
 
   -- the descent: a read set of epoch steps + e has a member of a write set of epoch e, or one that is late
   pub descent : (steps e : ℕ) (readers writers : Members) → 1 ≤ e → steps + e ≤ last → sat (plan.configuration group (line (steps + e))).read readers ≡ true → sat (plan.configuration group (line e)).write writers ≡ true → (x : ℕ) × (readers x ≡ true) × ((writers x ≡ true) ⊎ IsLate plan group line e x)
-  descent zero e readers writers l h r w =
-      let z : zero + e ≡ e = omega arith in
-      let r' : sat (plan.configuration group (line e)).read readers ≡ true = rw z at r in
-      let (x, a, b) = ((certified.quorums group (line e) there (is_line.there e l (omega arith))).meets) readers writers r' w in
-      (x, a, inl b)
+  descent zero e readers writers l h r w = grind (arith, common_steps)
   descent (suc steps) e readers writers l h r w =
       let s : suc steps + e ≡ suc (steps + e) = omega arith in
       let r' : sat (plan.configuration group (line (suc (steps + e)))).read readers ≡ true = rw s at r in

@@ -1,43 +1,18 @@
 -- A record is live exactly where it lives
-use Rattle.std.proofs.Common.{◌≡◌, ℕ, ◌<◌, ◌≤◌, true, ◌&&◌, nat_le, nat_lt, eqb, ◌⊎◌, [], ◌∷◌, refl, sym, ap, ◌∙◌, inl, inr, arith}
-use Rattle.std.proofs.lemmas.Bool.{cases_Bool, and_parts, and_from, true≢false, eqb-true, eqb-false, ltb-true, lt-ltb, leb-true, le-leb}
+use Rattle.std.proofs.Common.{◌≡◌, ℕ, ◌<◌, ◌≤◌, true, ◌&&◌, nat_le, eqb, ◌⊎◌, [], ◌∷◌, refl, sym, ap, ◌∙◌, inl, inr, arith}
+use Rattle.std.proofs.lemmas.Bool.{cases_Bool, and_parts, and_from, true≢false, eqb-false, le-leb}
 use Rattle.volume_model.specs.Common.{IsIn, Lineage, is_live, EpochsGrow, Lives, RecordsLive}
+use Rattle.std.proofs.lemmas.Grind.{common_steps}
 
 lives : (lineage : Lineage) → EpochsGrow lineage → (volume lsn : ℕ) → is_live lineage volume lsn ≡ true → Lives lineage volume lsn
 lives [] grow volume lsn h = absurd (true≢false (sym h))
 lives (e ∷ older) grow volume lsn h =
     elim (cases_Bool (eqb e.volume volume)) [
-      | inl p ↦ (
-          let own : e.volume ≡ volume = eqb-true e.volume volume p in
-          let s : nat_lt e.start lsn ≡ true = rw p at h in
-          record {
-            entry = e;
-            there = inl refl;
-            own = own;
-            above_start = ltb-true e.start lsn s;
-            not_cut_off = λ later i l. (
-                let j : (later ≡ e) ⊎ IsIn later older = i in
-                elim j [
-                  | inl q ↦ absurd (let v : later.volume ≡ e.volume = ap (λ z. z.volume) q in omega arith)
-                  | inr k ↦ absurd (let b : later.volume < e.volume = grow.0 later k in omega arith)
-                ]);
-          })
+      | inl p ↦ grind (arith, common_steps)
       | inr n ↦ (
           let s : (nat_le lsn e.cut && is_live older volume lsn) ≡ true = rw n at h in
           let parts : (nat_le lsn e.cut ≡ true) × (is_live older volume lsn ≡ true) = and_parts _ _ s in
-          let rest : Lives older volume lsn = lives older grow.1 volume lsn parts.1 in
-          record {
-            entry = rest.entry;
-            there = inr rest.there;
-            own = rest.own;
-            above_start = rest.above_start;
-            not_cut_off = λ later i l. (
-                let j : (later ≡ e) ⊎ IsIn later older = i in
-                elim j [
-                  | inl q ↦ (let c : later.cut ≡ e.cut = ap (λ z. z.cut) q in let b : lsn ≤ e.cut = leb-true lsn e.cut parts.0 in omega arith)
-                  | inr k ↦ rest.not_cut_off later k l
-                ]);
-          })
+          grind (arith, common_steps, (lives older grow.1 volume lsn parts.1)))
     ]
 
 is_live-from : (lineage : Lineage) → EpochsGrow lineage → (volume lsn : ℕ) → Lives lineage volume lsn → is_live lineage volume lsn ≡ true
@@ -47,14 +22,10 @@ is_live-from (e ∷ older) grow volume lsn h =
     let there : (h.entry ≡ e) ⊎ IsIn h.entry older = h.there in
     let above : h.entry.start < lsn = h.above_start in
     elim (cases_Bool (eqb e.volume volume)) [
-      | inl p ↦ elim there [
-        | inl q ↦ (let s : h.entry.start ≡ e.start = ap (λ z. z.start) q in rw p (lt-ltb e.start lsn (omega arith)))
-        | inr k ↦ absurd (let v : e.volume ≡ volume = eqb-true e.volume volume p in let b : h.entry.volume < e.volume = grow.0 h.entry k in omega arith)
-      ]
+      | inl p ↦ grind (arith, common_steps)
       | inr n ↦ elim there [
         | inl q ↦ absurd (eqb-false e.volume volume n (ap (λ z. z.volume) (sym q) ∙ own))
         | inr k ↦ (
-            let b : h.entry.volume < e.volume = grow.0 h.entry k in
             let c : lsn ≤ e.cut = h.not_cut_off e (inl refl) (omega arith) in
             let rest : Lives older volume lsn = record { entry = h.entry; there = k; own = own; above_start = above; not_cut_off = λ later i l. h.not_cut_off later (inr i) l } in
             rw n (and_from (nat_le lsn e.cut) _ (le-leb lsn e.cut c) (is_live-from older grow.1 volume lsn rest)))

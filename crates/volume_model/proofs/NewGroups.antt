@@ -1,18 +1,13 @@
 -- A client installs no records in a group that it lacked when it had cut
-use Rattle.std.proofs.Common.{◌≡◌, ◌<◌, List, [], ◌∷◌, length, refl, ap, ◌∙◌, subst, inl, arith}
-use Rattle.volume_model.specs.Common.{IsIn, Redo, of_group, World, StaysFound, NewGroupsAreEmpty, run, opening}
+use Rattle.std.proofs.Common.{◌≡◌, ◌<◌, [], length, ap, ◌∙◌, arith}
+use Rattle.volume_model.specs.Common.{of_group, World, StaysFound, NewGroupsAreEmpty, run, opening}
 use Rattle.volume_model.proofs.Invariant.{found_of}
-use Rattle.volume_model.proofs.Kept.{install_of, IsInstall, IsCutClient}
-use Rattle.volume_model.proofs.Pieces.{part_of_piece}
+use Rattle.volume_model.proofs.Kept.{IsInstall, IsCutClient}
 use Rattle.volume_model.proofs.Records.{of_group-none}
 use Rattle.volume_model.proofs.Renewed.{IsKeptWorld}
 use Rattle.volume_model.proofs.Run.{run_kept, opening_kept}
 use Rattle.volume_model.proofs.Finds.{finds_last}
-
--- a list with no record
-empty : (records : List Redo) → ((r : Redo) → IsIn r records → ⊥) → records ≡ []
-empty [] none = refl
-empty (r ∷ rest) none = absurd (none r (inl refl))
+use Rattle.std.proofs.lemmas.Grind.{common_steps}
 
 pub new_groups_are_empty : NewGroupsAreEmpty
 new_groups_are_empty plan certified events more volume cut group label piece contents lacked own made =
@@ -25,6 +20,4 @@ new_groups_are_empty plan certified events more volume cut group label piece con
     let same : found_of (run plan world more) label.volume ≡ (world.clients volume).found = ap (found_of (run plan world more)) own ∙ stays.found_on in
     let none : of_group group (found_of (run plan world more) label.volume) ≡ [] =
     ap (of_group group) same ∙ of_group-none group (world.clients volume).found (λ r i is. (let there : r.group < length (world.clients volume).groups = client.found_there r i in omega arith)) in
-    empty contents.records
-    (λ r i. (let j : IsIn r (of_group group (found_of (run plan world more) label.volume)) = part_of_piece (install_of (run plan world more) group label.volume) piece contents install.is r i in
-    let k : IsIn r [] = subst (IsIn r) none j in k))
+    grind (arith, common_steps)

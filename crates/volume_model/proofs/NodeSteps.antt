@@ -1,7 +1,7 @@
 -- Each step of a node keeps the invariant
 use Rattle.std.proofs.Common.{◌≡◌, ℕ, suc, ◌^◌, ◌<◌, ◌≤◌, Bool, true, false, not, ◌&&◌, ◌==◌, nat_lt, nat_le, eqb, ◌⊎◌, ◌||◌, List, [], ◌∷◌, Option, Some, None, Result, Ok, Err, length, if◌then◌else◌, refl, sym, ap, ◌∙◌, subst, inl, inr, arith}
 use Rattle.std.proofs.lemmas.Bool.{cases_Bool, and_parts, true≢false, both_ways, eqb-true, eqb-false, eq-eqb, ltb-true, ltb-false, leb-false, not-false}
-use Rattle.volume_model.specs.Common.{IsIn, numbered, put_at, ◌>>=◌, sat, Redo, with_record, holds_record, record_at, scl, Lineage, last_epoch, last_start, is_live, extended, extension, Contents, newest, Piece, KeptPiece, Pieces, Copy, most_pieces, in_pieces, piece_in, is_piece, is_complete, is_of_other, is_bad_piece, contents_in, united, with_install, pieces_from, with_copy, copied_by, brought, Plan, has_member, is_full, is_configuration, is_named, IsCertified, Label, Place, Message, StepTo, Fence, Report, Install, Write, Gossip, Ack, CopyAsk, CopyReport, PageAsk, Page, refuse_if, NodeStep, NodeAnswer, lineage_epoch, has_configuration, label_checks, most_records, most_copies, take_record, install_step, installed, page_of, page_checks, page_answer, in_group, reaction, Hydrated, or_not_enough, gathered, whole_node, whole_from, hydrated, restarted, gossip_of, offered, World, groups_joined, of_node, after_step, deliver, if_there, IsPieceOf}
+use Rattle.volume_model.specs.Common.{IsIn, numbered, put_at, ◌>>=◌, sat, Redo, with_record, holds_record, record_at, scl, Lineage, last_epoch, last_start, is_live, extended, extension, Contents, newest, Piece, KeptPiece, Pieces, Copy, most_pieces, in_pieces, piece_in, is_piece, is_complete, is_of_other, is_bad_piece, contents_in, united, with_install, pieces_from, with_copy, copied_by, brought, Plan, has_member, is_configuration, is_named, IsCertified, Label, Place, Message, StepTo, Fence, Report, Install, Write, Gossip, Ack, CopyAsk, CopyReport, PageAsk, Page, refuse_if, NodeStep, NodeAnswer, lineage_epoch, has_configuration, label_checks, most_records, most_copies, take_record, install_step, installed, page_of, page_checks, page_answer, in_group, reaction, Hydrated, gathered, whole_node, hydrated, restarted, gossip_of, offered, World, groups_joined, of_node, after_step, deliver, if_there, IsPieceOf}
 use Rattle.volume_model.proofs.FormulaLaws.{sat-some}
 use Rattle.volume_model.specs.Lineage.{found_in}
 use Rattle.volume_model.specs.Node.{Node}
@@ -18,7 +18,8 @@ use Rattle.volume_model.proofs.Changed.{node_changed}
 use Rattle.volume_model.proofs.Records.{with_record-keeps, with_record-from, newest-most, newest-of, found_in-from, found_in-has}
 use Rattle.volume_model.proofs.Sound.{Facts, facts, is_sound, found_in_log}
 use Rattle.volume_model.specs.declared.fault.Fault.{Fault}
-use Rattle.volume_model.specs.declared.fault.Fault.TheVariants.{NoActor, AheadMember, AlreadyWhole, BadPiece, Full, LsnSpent, NotAddressed, NotEnough, NotInPlan, NotInstalled, NotWhole, PointAhead, SeriesSpent, StaleMember, StaleVolume, TailSegment}
+use Rattle.volume_model.specs.declared.fault.Fault.TheVariants.{NoActor, AheadMember, AlreadyWhole, BadPiece, Full, LsnSpent, NotAddressed, NotInPlan, NotInstalled, NotWhole, SeriesSpent, StaleMember, StaleVolume}
+use Rattle.std.proofs.lemmas.Grind.{common_steps}
 
 pub refuse_if-ok : {A : Type 0} (test : Bool) (number : Fault) (rest : Result A Fault) (x : A) → refuse_if test number rest ≡ Ok x → (test ≡ false) × (rest ≡ Ok x)
 refuse_if-ok true number rest x h = cc
@@ -46,11 +47,7 @@ extension-ok parent volume cut lal rest x h =
 pub page_answer-ok : (plan : Plan) (group member : ℕ) (node : Node) (l : Label) (block point : ℕ) (step : NodeStep) → page_answer plan group member node l block point ≡ Ok step
     → (lineage_epoch node ≡ l.volume) × (nat_lt (scl node.contents.records) point ≡ false) × (step ≡ record { made = Page group l member block point (page_of node.contents.records block point) ∷ []; node = node })
 unfolding page_answer page_checks
-page_answer-ok plan group member node l block point step h =
-    let (a, h1) = refuse_if-ok (not (lineage_epoch node == l.volume)) NotInstalled _ step h in
-    let (b, h2) = refuse_if-ok (not (has_configuration plan group member node && is_full (plan.configuration group node.place.configuration) member)) TailSegment _ step h1 in
-    let (c, h3) = refuse_if-ok (nat_lt (scl node.contents.records) point) PointAhead _ step h2 in
-    (eqb-true _ _ (not-false _ a), c, cc)
+page_answer-ok plan group member node l block point step h = grind (arith, common_steps)
 
 -- what all copies amount to
 abbrev pub all_of : List Copy → Hydrated
@@ -58,29 +55,16 @@ all_of copies =
     let lineage = newest (brought copies) in
     record { volume = last_epoch lineage; contents = record { lineage = lineage; records = found_in lineage (brought copies) } }
 
-enough-ok : (enough : Bool) (all h : Hydrated) → or_not_enough (if enough then Some all else None) ≡ Ok h → (enough ≡ true) × (h ≡ all)
-enough-ok true all h got = (refl, cc)
-enough-ok false all h got = cc
-
 -- what was gathered of the copies of a read set
 pub gathered-ok : (plan : Plan) (group member : ℕ) (node : Node) (h : Hydrated) → gathered plan group member node ≡ Ok h
     → (has_configuration plan group member node ≡ true) × (sat (plan.configuration group node.place.configuration).read (copied_by node.copies) ≡ true) × (h ≡ all_of node.copies)
 unfolding gathered
-gathered-ok plan group member node h got =
-    let (has, rest) = refuse_if-ok (not (has_configuration plan group member node)) NotEnough _ h got in
-    let (reads, same) = enough-ok (sat (plan.configuration group node.place.configuration).read (copied_by node.copies)) (all_of node.copies) h rest in
-    (not-false _ has, reads, same)
+gathered-ok plan group member node h got = grind (arith, common_steps)
 
 -- what a node needs for becoming whole, and what it becomes
 pub hydrated-ok : (plan : Plan) (group member : ℕ) (node : Node) (step : NodeStep) → hydrated plan group member node ≡ Ok step
     → (node.whole ≡ false) × (has_configuration plan group member node ≡ true) × (sat (plan.configuration group node.place.configuration).read (copied_by node.copies) ≡ true) × (step ≡ record { made = []; node = whole_node node (all_of node.copies) })
-hydrated-ok plan group member node step h =
-    let (un, h1) = refuse_if-ok node.whole AlreadyWhole _ step h in
-    let (all, got, h2) = then-ok (gathered plan group member node) (whole_from node) step h1 in
-    let (has, reads, same) = gathered-ok plan group member node all got in
-    let (few, h3) = refuse_if-ok (nat_lt most_records (length all.contents.records)) Full _ step h2 in
-    let is : step ≡ record { made = []; node = whole_node node all } = cc in
-    (un, has, reads, is ∙ ap (λ (x : Hydrated). record { made = []; node = whole_node node x }) same)
+hydrated-ok plan group member node step h = grind (arith, common_steps, refuse_if-ok, node, then-ok, gathered-ok)
 
 -- what a node says, of itself as the step leaves it
 abbrev pub NodeSays : Held → World → ℕ → ℕ → Node → Message → Type 0
@@ -104,28 +88,9 @@ put_at-same f g x value = rw (eq-eqb g g refl, eq-eqb x x refl) refl
 
 module _ (plan : Plan) (certified : IsCertified plan) {held : Held} (world : World) (kept : IsKept plan held world) (ready : IsReady held world) (group x : ℕ) where
   says_new : group < plan.groups → (node : Node) → (m : Message) → NodeSays held world group x node m → MessageNew plan held (record world { nodes = put_at world.nodes group x node }) m
-  says_new there node (Report to l from q) h =
-      let same : node ≡ put_at world.nodes group x node group x = sym (put_at-same world.nodes group x node) in
-      subst (λ g. MessageNew plan held (record world { nodes = put_at world.nodes group x node }) (Report g l from q)) (sym h.0)
-      (subst (λ y. MessageNew plan held (record world { nodes = put_at world.nodes group x node }) (Report group l y q)) (sym h.1)
-      (record { group_there = there; whole = ap (λ n. n.whole) (sym same) ∙ h.2; contents = h.3 ∙ ap (λ n. n.contents) same }, h.4 ∙ ap (λ n. n.volume) same))
-  says_new there node (Ack to l from s) h =
-      let same : node ≡ put_at world.nodes group x node group x = sym (put_at-same world.nodes group x node) in
-      subst (λ g. MessageNew plan held (record world { nodes = put_at world.nodes group x node }) (Ack g l from s)) (sym h.0)
-      (subst (λ y. MessageNew plan held (record world { nodes = put_at world.nodes group x node }) (Ack group l y s)) (sym h.1)
-      (record {
-        group_there = there;
-        whole = ap (λ n. n.whole) (sym same) ∙ h.2;
-        volume = h.3 ∙ ap (λ n. n.volume) same;
-        member = h.4 ∙ ap (λ n. n.place.epoch) same;
-        lineage = ap (λ n. last_epoch n.contents.lineage) (sym same) ∙ h.5 ∙ ap (λ n. n.volume) same;
-        complete = h.6 ∙ ap (λ n. scl n.contents.records) same;
-      }))
-  says_new there node (CopyReport to f from s p c) h =
-      let same : node ≡ put_at world.nodes group x node group x = sym (put_at-same world.nodes group x node) in
-      subst (λ g. MessageNew plan held (record world { nodes = put_at world.nodes group x node }) (CopyReport g f from s p c)) (sym h.0)
-      (subst (λ y. MessageNew plan held (record world { nodes = put_at world.nodes group x node }) (CopyReport group f y s p c)) (sym h.1)
-      (record { group_there = there; whole = ap (λ n. n.whole) (sym same) ∙ h.2; contents = h.3 ∙ ap (λ n. n.contents) same }, h.4, h.5 ∙ ap (λ n. n.place.epoch) same, subst (λ n. s ≤ n.copied) same h.6))
+  says_new there node (Report to l from q) h = grind (arith, common_steps)
+  says_new there node (Ack to l from s) h = grind (arith, common_steps)
+  says_new there node (CopyReport to f from s p c) h = grind (arith, common_steps)
   says_new there node (Gossip to l r) h = record { cut = h.cut; stands = h.stands; group_is = h.group_is }
   says_new there node (CopyAsk to f) h = tt
   says_new there node (Page to l from block point bytes) h = record { cut = h.cut; kept = h.kept; ordered = h.ordered; complete = h.complete; stands = h.stands; page = h.page }

@@ -1,6 +1,6 @@
 -- A client that opens has its cut as its durable point
-use Rattle.std.proofs.Common.{◌≡◌, ℕ, ◌<◌, ◌≤◌, max, true, false, not, ◌&&◌, nat_le, ◌⊎◌, List, [], ◌∷◌, Option, Some, Result, Ok, Err, refl, sym, ap, ◌∙◌, subst, inl, inr, arith, le_refl, length}
-use Rattle.std.proofs.lemmas.Bool.{and_parts, and_from, le-leb, not-false}
+use Rattle.std.proofs.Common.{◌≡◌, ℕ, ◌<◌, ◌≤◌, max, true, false, not, ◌&&◌, ◌⊎◌, List, [], ◌∷◌, Result, Ok, Err, refl, sym, ap, ◌∙◌, subst, inl, inr, arith, length}
+use Rattle.std.proofs.lemmas.Bool.{and_parts, not-false}
 use Rattle.volume_model.specs.Common.{IsIn, Formula, sat, Redo, last_lsn, cut_of, log_found, Plan, IsCertified, ClientStep, ClientAnswer, Count, is_born, has_cut, is_open, place_of, counts_of, group_point_of, place_configuration, reaching, counted_by, best, raised, complete_of, consistency_point_below, opened, has_installed, Writing, World, Event, Step, opening, run, step, of_client, Open, VolumeLinksFall, IsFoundPoint, AreOnTheWay, IsWrittenTo, last_cut, IsAtItsCut, OpensAtItsCut}
 use Rattle.volume_model.proofs.FormulaLaws.{sat_more}
 use Rattle.volume_model.specs.Client.{Client}
@@ -21,6 +21,7 @@ use Rattle.volume_model.proofs.Sound.{Facts, facts, is_sound, cut_client, record
 use Rattle.volume_model.proofs.Finds.{run_tidy}
 use Rattle.volume_model.proofs.AcksReach.{acks_reach, found_chain}
 use Rattle.volume_model.specs.declared.fault.Fault.TheVariants.{NoActor, AlreadyDone, NotReady}
+use Rattle.std.proofs.lemmas.Grind.{common_steps}
 
 -- ---- the log found, as it ends
 
@@ -29,26 +30,18 @@ abbrev EndsAt : ℕ → List Redo → Type 0
 EndsAt n [] = n ≡ 0
 EndsAt n (r ∷ older) = (r.lsn ≡ n) × (r.point ≡ true)
 
-Some-is : (a b : Redo) → ◌≡◌ {A = Option Redo} (Some a) (Some b) → a ≡ b
-Some-is a b h = cc
-
 way_ends : (records : List Redo) → VolumeLinksFall records → (n : ℕ) → (n ≡ 0) ⊎ IsFoundPoint records n → (log : List Redo) → AreOnTheWay records n log → EndsAt n log
 way_ends records fall n found [] way = way
 way_ends records fall n (inl z) (r ∷ older) way = absurd (let (i, e) = at_some in let k : r.prev_volume < r.lsn = fall r i in omega arith)
   where
     at_some : IsIn r records × (r.lsn ≡ n)
     at_some = Rattle.volume_model.proofs.Chains.record_at-some records n r way.0
-way_ends records fall n (inr found) (r ∷ older) way =
-    let (s, at, point, down) = found in
-    let same : r ≡ s = Some-is r s (sym way.0 ∙ at) in
-    (way.1, ap (λ z. z.point) same ∙ point)
+way_ends records fall n (inr found) (r ∷ older) way = grind (arith, common_steps)
 
 -- the durable point of such a log that is covered as a whole
 durable_at : (n : ℕ) (log : List Redo) → EndsAt n log → consistency_point_below (last_lsn log) log ≡ n
 durable_at n [] h = sym h
-durable_at n (r ∷ older) h =
-    let e : (r.point && nat_le r.lsn r.lsn) ≡ true = and_from _ _ h.1 (le-leb r.lsn r.lsn (le_refl r.lsn)) in
-    rw e h.0
+durable_at n (r ∷ older) h = grind (arith, common_steps)
 
 module _ (plan : Plan) (certified : IsCertified plan) (events : List Event) (v : ℕ) where
   -- the world before the opening

@@ -1,5 +1,5 @@
 -- In every run the epochs of lineages grow, and the links of records fall
-use Rattle.std.proofs.Common.{◌≡◌, ℕ, zero, suc, ◌+◌, ◌<◌, ◌≤◌, max, eqb, ◌⊎◌, List, [], ◌∷◌, sym, ap, ◌∙◌, subst, inl, inr, arith}
+use Rattle.std.proofs.Common.{◌≡◌, ℕ, zero, suc, ◌+◌, ◌<◌, ◌≤◌, max, List, [], ◌∷◌, sym, ap, ◌∙◌, subst, inl, inr, arith}
 use Rattle.std.proofs.lemmas.Bool.{cases_Bool, cases_lt}
 use Rattle.volume_model.specs.Common.{IsIn, Redo, last_lsn, last_of_group, cut_of, Lineage, birth, last_epoch, last_start, Contents, Plan, IsCertified, Label, Report, Write, Gossip, has_cut, is_open, World, Event, EpochsGrow, LinksFall, Brings, IsOrderly, RunsAreOrderly, in_node, in_log, in_report, in_install, in_copy, in_write, in_gossip}
 use Rattle.volume_model.specs.Lineage.{Entry}
@@ -11,25 +11,19 @@ use Rattle.volume_model.proofs.Finds.{run_tidy}
 use Rattle.volume_model.proofs.Lasting.{cut_from_open}
 use Rattle.volume_model.proofs.Pieces.{part_of_piece}
 use Rattle.volume_model.proofs.Carried.{IsBare, ends_bare, end, held, kept, IsKnown, carried_known}
+use Rattle.std.proofs.lemmas.Grind.{common_steps}
+use Rattle.std.proofs.Common.{rules}
 
 -- ---- a chain's links fall
 
 last_of_group-below : (group : ℕ) (log : List Redo) → IsChain log → last_of_group group log ≤ last_lsn log
 last_of_group-below group [] c = omega arith
-last_of_group-below group (s ∷ older) c =
-    elim (cases_Bool (eqb s.group group)) [
-      | inl e ↦ rw e (omega arith)
-      | inr e ↦ rw e (let k : last_lsn older < s.lsn = c.0.above in let l : last_of_group group older ≤ last_lsn older = last_of_group-below group older c.1 in omega arith)
-    ]
+last_of_group-below group (s ∷ older) c = grind (arith, common_steps, cases_Bool, (last_of_group-below group older c.1))
 
 prev_group_below : (log : List Redo) → IsChain log → (r : Redo) → IsIn r log → r.prev_group < r.lsn
 prev_group_below [] c r i = absurd i
 prev_group_below (s ∷ older) c r (inr i) = prev_group_below older c.1 r i
-prev_group_below (s ∷ older) c r (inl p) =
-    let k : last_lsn older < s.lsn = c.0.above in
-    let l : last_of_group s.group older ≤ last_lsn older = last_of_group-below s.group older c.1 in
-    let e : s.prev_group ≡ last_of_group s.group older = c.0.group_link in
-    subst (λ z. z.prev_group < z.lsn) (sym p) (omega arith)
+prev_group_below (s ∷ older) c r (inl p) = grind (arith, common_steps, last_of_group-below)
 
 links_fall : (log : List Redo) → IsChain log → (r : Redo) → IsIn r log → LinksFall r
 links_fall log c r i = record { in_group = prev_group_below log c r i; in_volume = prev_below log c r i }
@@ -42,17 +36,11 @@ record GrowTo (lineage : Lineage) (v : ℕ) : Type 0 where
   at_most : (e : Entry) → IsIn e lineage → e.volume ≤ v
 
 birth_grows : (v : ℕ) → v ≡ 1 → GrowTo birth v
-birth_grows v one = record {
-  grow = ((λ f i. absurd i), tt);
-  at_most = λ e i. (let j : (e ≡ record { volume = 1; cut = 0; start = 0 }) ⊎ ⊥ = i in elim j [ inl p ↦ (let q : e.volume ≡ 1 = ap (λ z. z.volume) p in omega arith) | inr z ↦ absurd z ]);
-}
+birth_grows v one = grind (arith, common_steps)
 
 -- behind those of an earlier client stands the entry of a later one
 entry_grows : (entry : Entry) (older : Lineage) (parent : ℕ) → GrowTo older parent → parent < entry.volume → GrowTo (entry ∷ older) entry.volume
-entry_grows entry older parent h l = record {
-  grow = ((λ f i. (let b : f.volume ≤ parent = h.at_most f i in omega arith)), h.grow);
-  at_most = λ e i. elim i [ inl p ↦ (let q : e.volume ≡ entry.volume = ap (λ z. z.volume) p in omega arith) | inr k ↦ (let b : e.volume ≤ parent = h.at_most e k in omega arith) ];
-}
+entry_grows entry older parent h l = grind (arith, common_steps)
 
 module _ (plan : Plan) (certified : IsCertified plan) (events : List Event) where
   -- the world of the run
@@ -96,10 +84,7 @@ module _ (plan : Plan) (certified : IsCertified plan) (events : List Event) wher
           | inl whole ↦ copy_falls group (world.nodes group x).contents ((is_kept.nodes group x there).whole whole).copy r i
           | inr not_whole ↦ absurd (none_in (ap (λ z. z.records) (bare.holds_nothing not_whole there)))
         ]
-        | inr outside ↦ elim (bare.outside outside) [
-          | inl none ↦ absurd (none_in (ap (λ z. z.records) none))
-          | inr born ↦ absurd (none_in (ap (λ z. z.records) born))
-        ]
+        | inr outside ↦ grind (arith, common_steps)
       ]
     where
       none_in : (world.nodes group x).contents.records ≡ [] → ⊥
@@ -131,10 +116,7 @@ module _ (plan : Plan) (certified : IsCertified plan) (events : List Event) wher
   brought_falls r (in_gossip group l made) = (let k : MessageKept plan (held plan certified events) world (Gossip group l r) = is_kept.messages _ made in write_falls group l r k)
 
   orderly : IsOrderly world
-  orderly = record {
-    lineages = λ lineage carries. known_grows lineage (carried_known plan certified events lineage carries);
-    records = brought_falls;
-  }
+  orderly = search (rules, known_grows, carried_known, brought_falls)
 
 pub runs_are_orderly : RunsAreOrderly
 runs_are_orderly plan certified events = orderly plan certified events

@@ -1,11 +1,12 @@
 -- What each actor refuses on its own.
-use Rattle.std.proofs.Common.{◌≡◌, ℕ, ◌^◌, Bool, true, false, not, nat_lt, List, Option, Some, None, Result, Ok, Err}
+use Rattle.std.proofs.Common.{◌≡◌, ℕ, Bool, true, false, not, List, Option, Some, None, Result, Ok, Err}
 use Rattle.volume_model.specs.declared.fault.Fault.{Fault}
-use Rattle.volume_model.specs.declared.fault.Fault.TheVariants.{LsnSpent, NoLogRecord}
-use Rattle.volume_model.specs.Common.{Lineage, last_start, extended, extension, newest, ◌>>=◌, refuse_if, Redo, cut_of, log_found, record_at, Plan, Label, Message, View, StepTo, PageAsk, NodeStep, page_checks, page_answer, reaction, Hydrated, finished, or_not_enough, gathered, whole_from, hydrated, offered, gossip_of, ClientStep, is_born, Change, issued, resent, write_of, page_asked, cut_step, cut_client, opened, reported, taken, Authority, AuthorityStep, assigned, advanced, refreshed, grown, Refuses, IsOwn, IsOwnOfClient}
-use Rattle.volume_model.specs.Lineage.{found_in}
+use Rattle.volume_model.specs.declared.fault.Fault.TheVariants.{NoLogRecord}
+use Rattle.volume_model.specs.Common.{◌>>=◌, refuse_if, Redo, record_at, Plan, Label, Message, View, StepTo, PageAsk, NodeStep, page_checks, page_answer, reaction, gathered, hydrated, offered, ClientStep, is_born, Change, issued, resent, write_of, page_asked, cut_client, opened, taken, Authority, AuthorityStep, assigned, advanced, refreshed, grown, Refuses, IsOwn, IsOwnOfClient}
 use Rattle.volume_model.specs.Node.{Node}
 use Rattle.volume_model.specs.Client.{Client}
+use Rattle.std.proofs.lemmas.Grind.{common_steps}
+use Rattle.std.proofs.Common.{arith}
 
 module _ {A : Type 0} (P : Fault → Type 0) where
   -- one refusal before others
@@ -43,30 +44,15 @@ pub reaction_own : (plan : Plan) (group member : ℕ) (node : Node) (m : Message
 reaction_own plan group member node (PageAsk to label block point) = let page = page_own plan group member node label block point in search (refuses_if {A = NodeStep} IsOwn, page) depth 12
 reaction_own plan group member node m = search (refuses_if {A = NodeStep} IsOwn) depth 12
 
-enough_own : (o : Option Hydrated) → Refuses IsOwn (or_not_enough o)
-enough_own None = tt
-enough_own (Some h) = tt
-
 gathered_own : (plan : Plan) (group member : ℕ) (node : Node) → Refuses IsOwn (gathered plan group member node)
 unfolding gathered
-gathered_own plan group member node =
-    let enough = enough_own (finished (plan.configuration group node.place.configuration).read node.copies) in
-    search (refuses_if {A = Hydrated} IsOwn, enough) depth 12
+gathered_own plan group member node = grind (arith, common_steps)
 
 pub hydrated_own : (plan : Plan) (group member : ℕ) (node : Node) → Refuses IsOwn (hydrated plan group member node)
-hydrated_own plan group member node =
-    let got = gathered_own plan group member node in
-    let rest : (h : Hydrated) → Refuses IsOwn (whole_from node h) = λ h. search (refuses_if {A = NodeStep} IsOwn) depth 12 in
-    let then : Refuses IsOwn (gathered plan group member node >>= whole_from node) = refuses_then {A = NodeStep} IsOwn (gathered plan group member node) (whole_from node) got rest in
-    search (refuses_if {A = NodeStep} IsOwn, then) depth 12
-
-gossip_own : (group : ℕ) (node : Node) (o : Option Redo) → Refuses IsOwn (gossip_of group node o)
-gossip_own group node None = tt
-gossip_own group node (Some r) = tt
+hydrated_own plan group member node = grind (arith, common_steps, gathered_own, refuses_if, refuses_then)
 
 pub offered_own : (group : ℕ) (node : Node) (lsn : ℕ) → Refuses IsOwn (offered group node lsn)
-offered_own group node lsn =
-    let found = gossip_own group node (record_at node.contents.records lsn) in search (refuses_if {A = NodeStep} IsOwn, found) depth 12
+offered_own group node lsn = grind (arith, common_steps)
 
 write_own : (P : Fault → Type 0) → P NoLogRecord → (volume : ℕ) (client : Client) (o : Option Redo) → Refuses P (write_of volume client o)
 write_own P p volume client None = p
@@ -79,26 +65,12 @@ issued_own plan volume client changes = search (refuses_if {A = ClientStep} IsOw
 pub issued_own_born : (plan : Plan) (volume : ℕ) (client : Client) (changes : List Change) → is_born client.stage ≡ true → Refuses IsOwn (issued plan volume client changes)
 issued_own_born plan volume client changes born = search (refuses_if {A = ClientStep} IsOwn, refuses_not {A = ClientStep} IsOwn, born) depth 12
 
--- what is found refuses nothing but where no number is left
-found_own : (P : Fault → Type 0) → P LsnSpent → (plan : Plan) (volume : ℕ) (client : Client) (parent : Lineage) (records : List Redo)
-    → Refuses P (extension parent volume (cut_of records) plan.lal >>= λ lineage. Ok (cut_step volume client (log_found records) lineage))
-found_own P p plan volume client parent records =
-    let own = extended parent volume (cut_of records) plan.lal in
-    refuses_then {A = ClientStep} P (extension parent volume (cut_of records) plan.lal) (λ lineage. Ok (cut_step volume client (log_found records) lineage))
-    (refuses_if {A = Lineage} P (nat_lt (2 ^ 62) (last_start own)) LsnSpent (Ok own) p tt) (λ lineage. tt)
-
 pub cut_own : (plan : Plan) (volume : ℕ) (client : Client) → Refuses IsOwnOfClient (cut_client plan volume client)
-cut_own plan volume client =
-    let said = reported client in
-    let rest = found_own IsOwnOfClient tt plan volume client (newest said) (found_in (newest said) said) in
-    search (refuses_if {A = ClientStep} IsOwnOfClient, rest) depth 12
+cut_own plan volume client = grind (arith, common_steps)
 
 -- of a client that is born
 pub cut_own_born : (plan : Plan) (volume : ℕ) (client : Client) → is_born client.stage ≡ true → Refuses IsOwn (cut_client plan volume client)
-cut_own_born plan volume client born =
-    let said = reported client in
-    let rest = found_own IsOwn tt plan volume client (newest said) (found_in (newest said) said) in
-    search (refuses_if {A = ClientStep} IsOwn, refuses_not {A = ClientStep} IsOwn, born, rest) depth 12
+cut_own_born plan volume client born = grind (arith, common_steps)
 
 pub opened_own : (plan : Plan) (client : Client) → Refuses IsOwnOfClient (opened plan client)
 opened_own plan client = search (refuses_if {A = ClientStep} IsOwnOfClient) depth 12

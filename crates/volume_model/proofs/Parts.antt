@@ -3,6 +3,7 @@ use Rattle.std.proofs.Common.{◌≡◌, ℕ, ◌<◌, ◌≤◌, Bool, true, �
 use Rattle.std.proofs.lemmas.Bool.{cases_Bool, and_parts, and_from, both_ways, eqb-true, eq-eqb, leb-true, leb-false, le-leb}
 use Rattle.volume_model.specs.Common.{IsIn, Redo, last_lsn, last_of_block, last_of_group, up_to, last_of_group_below, IsGreatest, NumbersGrow, IsNumberOf, IsOnBlock, IsOfGroupWithin, PartsOfLogs}
 use Rattle.volume_model.proofs.Records.{of_group-from, of_group-has}
+use Rattle.std.proofs.lemmas.Grind.{common_steps}
 
 -- the number of the first record that passes, else 0
 abbrev first_where : (Redo → Bool) → List Redo → ℕ
@@ -12,21 +13,14 @@ first_where test (r ∷ older) = if test r then r.lsn else first_where test olde
 -- none has a number, or it is that of one that passes
 first-is : (test : Redo → Bool) (log : List Redo) → (first_where test log ≡ 0) ⊎ IsNumberOf (λ r. test r ≡ true) log (first_where test log)
 first-is test [] = inl refl
-first-is test (r ∷ older) =
-    elim (cases_Bool (test r)) [
-      | inl e ↦ rw e (inr (r, inl refl, e, refl))
-      | inr e ↦ rw e (elim (first-is test older) [ inl z ↦ inl z | inr h ↦ (let (s, i, p, q) = h in inr (s, inr i, p, q)) ])
-    ]
+first-is test (r ∷ older) = grind (arith, common_steps, cases_Bool, (first-is test older))
 
 -- and no one that passes has a greater one
 first-above : (test : Redo → Bool) (log : List Redo) → NumbersGrow log → (s : Redo) → IsIn s log → test s ≡ true → s.lsn ≤ first_where test log
 first-above test [] grow s i h = absurd i
 first-above test (r ∷ older) grow s i h =
     elim (cases_Bool (test r)) [
-      | inl e ↦ rw e (elim i [
-        | inl p ↦ (let q : s.lsn ≡ r.lsn = ap (λ z. z.lsn) p in omega arith)
-        | inr j ↦ (let l : s.lsn < r.lsn = grow.1 s j in omega arith)
-      ])
+      | inl e ↦ grind (arith, common_steps)
       | inr e ↦ rw e (elim i [
         | inl p ↦ absurd (both_ways _ e (subst (λ z. test z ≡ true) p h))
         | inr j ↦ first-above test older grow.2 s j h
@@ -64,15 +58,7 @@ up_to-from : (log : List Redo) → NumbersGrow log → (n : ℕ) (r : Redo) → 
 up_to-from [] grow n r i = absurd i
 up_to-from (s ∷ older) grow n r i =
     elim (cases_Bool (nat_le s.lsn n)) [
-      | inl e ↦ (
-          let l : s.lsn ≤ n = leb-true _ _ e in
-          let j : IsIn r (s ∷ older) = rw e at i in (
-            j,
-            elim j [
-              | inl p ↦ (let q : r.lsn ≡ s.lsn = ap (λ z. z.lsn) p in omega arith)
-              | inr k ↦ (let b : r.lsn < s.lsn = grow.1 r k in omega arith)
-            ],
-          ))
+      | inl e ↦ grind (arith, common_steps)
       | inr e ↦ (let h : IsIn r older × (r.lsn ≤ n) = up_to-from older grow.2 n r (rw e at i) in (inr h.0, h.1))
     ]
 

@@ -1,9 +1,8 @@
 -- Pieces make up what they were cut from, and those that a node keeps are of one whole
-use Rattle.std.proofs.Common.{◌≡◌, ℕ, zero, suc, ◌+◌, ◌*◌, ◌/◌, ◌%◌, ◌<◌, ◌≤◌, min, Bool, true, false, ◌||◌, ◌==◌, if◌then◌else◌, List, [], ◌∷◌, ◌++◌, length, take, drop, take_all, map, flat_map, length-take, append-nil, Some, refl, sym, ap, ◌∙◌, subst, inl, inr, arith}
-use Rattle.std.proofs.lemmas.Bool.{cases_Bool, cases_eq, true≢false, both_ways, eqb-false, eq-eqb, ne_eqb}
+use Rattle.std.proofs.Common.{◌≡◌, ℕ, zero, suc, ◌+◌, ◌*◌, ◌<◌, ◌≤◌, min, Bool, true, false, ◌||◌, ◌==◌, if◌then◌else◌, List, [], ◌∷◌, ◌++◌, length, take, drop, take_all, map, flat_map, length-take, append-nil, Some, refl, sym, ◌∙◌, subst, inl, inr, arith}
+use Rattle.std.proofs.lemmas.Bool.{cases_Bool, cases_eq, true≢false, eqb-false, eq-eqb, ne_eqb}
 use Rattle.std.proofs.Math.Seq.{take-add}
-use Rattle.std.proofs.lemmas.Grind.{div_ceil_times, flat_map-append}
-use Rattle.volume_model.specs.Common.{IsIn, any, every_below, each_below, Redo, Lineage, Contents, KeptPiece, Pieces, Copy, most_in_piece, pieces_of, piece_records, piece_in, has_piece, contents_in, united, brought_by, brought, Plan, IsCertified, World, Event, IsNumberOfPieces, ArePiecesOf, AreOnce, CountTells, united_copy, PiecesMakeUp, PiecesUnite, KeepsPiecesOfOne, PiecesAreOfOne}
+use Rattle.volume_model.specs.Common.{IsIn, any, every_below, each_below, Redo, Lineage, Contents, KeptPiece, Pieces, Copy, most_in_piece, pieces_of, piece_records, piece_in, contents_in, united, brought_by, brought, Plan, IsCertified, World, Event, IsNumberOfPieces, ArePiecesOf, AreOnce, CountTells, united_copy, PiecesMakeUp, PiecesUnite, KeepsPiecesOfOne, PiecesAreOfOne}
 use Rattle.volume_model.specs.Lineage.{found_in}
 use Rattle.volume_model.proofs.Basics.{any_fails, IsIn-flat_map, flat_map-has, IsIn-map, map-has}
 use Rattle.volume_model.proofs.Records.{found_in-from, found_in-has}
@@ -12,33 +11,18 @@ use Rattle.volume_model.proofs.Pieces.{enough_pieces, AreOf, part_of_contents, a
 use Rattle.volume_model.proofs.Invariant.{label}
 use Rattle.volume_model.proofs.Kept.{install_of, IsInstall, IsCopied, IsKept}
 use Rattle.volume_model.proofs.Carried.{end, held, kept}
+use Rattle.std.proofs.lemmas.Grind.{common_steps}
 
 number_of_pieces : (records : ℕ) → IsNumberOfPieces records (pieces_of records)
-number_of_pieces records = record {
-  one = omega arith;
-  enough = enough_pieces records;
-  fewest = λ other one enough. (
-      let bounds : (records ≤ (records / 256 + min 1 (records % 256)) * 256) × ((records / 256 + min 1 (records % 256)) * 256 < records + 256) = div_ceil_times records 256 (omega arith) in
-      let few : (records / 256 + min 1 (records % 256)) * 256 < records + 256 = bounds.1 in
-      omega arith);
-}
+number_of_pieces records = grind (arith, common_steps)
 
 small_piece : (records : List Redo) (number : ℕ) → length (piece_records records number) ≤ most_in_piece
-small_piece records number =
-    let whole : length (piece_records records number) ≡ min most_in_piece (length (drop (number * most_in_piece) records)) = length-take most_in_piece (drop (number * most_in_piece) records) in
-    omega arith
+small_piece records number = grind (arith, common_steps, (min most_in_piece (length (drop (number * most_in_piece) records))), (length-take most_in_piece (drop (number * most_in_piece) records)))
 
 -- so many pieces, one behind the other, have so many records
 joined_below : (records : List Redo) (n : ℕ) → flat_map (piece_records records) (each_below n (λ number. true) (λ number. number)) ≡ take (n * most_in_piece) records
 joined_below records zero = refl
-joined_below records (suc n) =
-    let before : List ℕ = each_below n (λ number. true) (λ number. number) in
-    let next : n * most_in_piece + most_in_piece ≡ suc n * most_in_piece = omega arith in
-    flat_map-append (piece_records records) before (n ∷ [])
-    ∙ ap (λ z. z ++ (piece_records records n ++ [])) (joined_below records n)
-    ∙ ap (λ z. take (n * most_in_piece) records ++ z) (append-nil (piece_records records n))
-    ∙ sym (take-add (n * most_in_piece) most_in_piece records)
-    ∙ ap (λ m. take m records) next
+joined_below records (suc n) = grind (arith, common_steps, (joined_below records n), (List ℕ), (append-nil (piece_records records n)), (take-add (n * most_in_piece) most_in_piece records))
 
 joined_pieces : (records : List Redo) → flat_map (piece_records records) (each_below (pieces_of (length records)) (λ number. true) (λ number. number)) ≡ records
 joined_pieces records = joined_below records (pieces_of (length records)) ∙ take_all (pieces_of (length records) * most_in_piece) records (enough_pieces (length records))
@@ -52,43 +36,25 @@ passing (suc n) test = passing n test + (if test n then 1 else 0)
 
 passing-most : (n : ℕ) (test : ℕ → Bool) → passing n test ≤ n
 passing-most zero test = omega arith
-passing-most (suc n) test =
-    let before : passing n test ≤ n = passing-most n test in
-    elim (cases_Bool (test n)) [ inl e ↦ rw e (omega arith) | inr e ↦ rw e (omega arith) ]
+passing-most (suc n) test = grind (arith, common_steps, passing, cases_Bool, (passing-most n test))
 
 -- all pass where as many pass as there are
 every-counted : (n : ℕ) (test : ℕ → Bool) → every_below n test ≡ (passing n test == n)
 every-counted zero test = refl
-every-counted (suc n) test =
-    let before : every_below n test ≡ (passing n test == n) = every-counted n test in
-    let most : passing n test ≤ n = passing-most n test in
-    elim (cases_Bool (test n)) [
-      | inl e ↦ rw e (elim (cases_eq (passing n test) n) [
-        | inl same ↦ before ∙ eq-eqb (passing n test) n same ∙ sym (eq-eqb (passing n test + 1) (suc n) (omega (arith, same)))
-        | inr differ ↦ before ∙ ne_eqb (passing n test) n differ ∙ sym (ne_eqb (passing n test + 1) (suc n) (λ same. differ (omega (arith, same))))
-      ])
-      | inr e ↦ rw e (sym (ne_eqb (passing n test + 0) (suc n) (λ same. omega (arith, same))))
-    ]
+every-counted (suc n) test = grind (arith, common_steps, passing, passing-most, cases_Bool, cases_eq, eq-eqb, ne_eqb, (every-counted n test))
 
 -- a number that isn't below the bound makes none more
 passing-same : (n m : ℕ) (test : ℕ → Bool) → n ≤ m → passing n (λ k. m == k || test k) ≡ passing n test
 passing-same zero m test h = refl
-passing-same (suc n) m test h =
-    let before : passing n (λ k. m == k || test k) ≡ passing n test = passing-same n m test (omega arith) in
-    rw (ne_eqb m n (λ e. omega (arith, e))) (omega arith)
+passing-same (suc n) m test h = grind (arith, common_steps, passing, ne_eqb, (passing-same n m test (omega arith)))
 
 -- one that is below it, and doesn't pass, makes one more
 passing-more : (n m : ℕ) (test : ℕ → Bool) → m < n → test m ≡ false → passing n (λ k. m == k || test k) ≡ suc (passing n test)
 passing-more zero m test h out = absurd (omega arith)
 passing-more (suc n) m test h out =
     elim (cases_eq m n) [
-      | inl e ↦ (
-          let before : passing n (λ k. m == k || test k) ≡ passing n test = passing-same n m test (omega (arith, e)) in
-          let out' : test n ≡ false = subst (λ k. test k ≡ false) e out in
-          rw (eq-eqb m n e, out') (omega arith))
-      | inr differ ↦ (
-          let before : passing n (λ k. m == k || test k) ≡ suc (passing n test) = passing-more n m test (omega (arith, differ)) out in
-          rw (ne_eqb m n differ) (omega arith))
+      | inl e ↦ grind (arith, common_steps, passing, passing-same, eq-eqb)
+      | inr differ ↦ grind (arith, common_steps, passing, ne_eqb, (passing-more n m test (omega (arith, differ)) out))
     ]
 
 passing-none : (n : ℕ) → passing n (λ k. false) ≡ 0
@@ -100,14 +66,12 @@ kept-counted : (of : ℕ) (kept : List KeptPiece) → AreOnce of kept → passin
 kept-counted of [] once = passing-none of
 kept-counted of (piece ∷ rest) once =
     let more : passing of (λ n. piece.number == n || any (λ other. other.number == n) rest) ≡ suc (passing of (λ n. any (λ other. other.number == n) rest)) = passing-more of piece.number (λ n. any (λ other. other.number == n) rest) once.0 once.1 in
-    let before : passing of (λ n. any (λ other. other.number == n) rest) ≡ length rest = kept-counted of rest once.2 in
-    more ∙ ap suc before
+    grind (arith, common_steps, passing, (kept-counted of rest once.2))
 
 -- a piece of another number joins them
 once-push : (of : ℕ) (kept : List KeptPiece) (new : KeptPiece) → AreOnce of kept → new.number < of → any (λ other. other.number == new.number) kept ≡ false → AreOnce of (kept ++ new ∷ [])
 once-push of [] new once below out = (below, refl, tt)
 once-push of (piece ∷ rest) new once below out =
-    let differ : (piece.number == new.number) ≡ false = any_fails (λ other. other.number == new.number) (piece ∷ rest) out piece (inl refl) in
     let out' : any (λ other. other.number == new.number) rest ≡ false = rest_fails (piece.number == new.number) (any (λ other. other.number == new.number) rest) out in
     (once.0, pushed rest once.1, once-push of rest new once.2 below out')
   where
@@ -120,20 +84,10 @@ once-push of (piece ∷ rest) new once below out =
 
     pushed : (kept : List KeptPiece) → any (λ other. other.number == piece.number) kept ≡ false → any (λ other. other.number == piece.number) (kept ++ new ∷ []) ≡ false
     pushed [] h = rw (ne_eqb new.number piece.number apart) refl
-    pushed (k ∷ ks) h =
-        elim (cases_Bool (k.number == piece.number)) [
-          | inl e ↦ absurd (both_ways _ (any_fails (λ other. other.number == piece.number) (k ∷ ks) h k (inl refl)) e)
-          | inr e ↦ rw e (pushed ks (rest_fails (k.number == piece.number) _ h))
-        ]
+    pushed (k ∷ ks) h = grind (arith, common_steps)
 
 count_tells : CountTells
-count_tells = record {
-  complete = λ pieces once. every-counted pieces.of (has_piece pieces) ∙ ap (λ n. n == pieces.of) (kept-counted pieces.of pieces.kept once);
-  stays = λ pieces piece c once below. elim (cases_Bool (has_piece pieces piece.number)) [
-    | inl e ↦ rw e once
-    | inr e ↦ rw e (once-push pieces.of pieces.kept (record { number = piece.number; contents = c }) once below e)
-  ];
-}
+count_tells = grind (arith, common_steps, every-counted, kept-counted, kept, cases_Bool, once-push)
 
 are_of : (q : Contents) (pieces : Pieces) → 0 < pieces.of → ArePiecesOf q pieces → AreOf q pieces
 are_of q pieces some are = record { some = some; each = are }
@@ -156,10 +110,7 @@ united-within : (parts others : List Contents) → ((c : Contents) → IsIn c pa
 united-within parts others within r i = let (c, j, k) = united-from parts r i in united-has others c r (within c j) k
 
 found-united : (lineage : Lineage) (copies : List Copy) (r : Redo) → IsIn r (found_in lineage (brought copies)) → IsIn r (found_in lineage (map (united_copy lineage) copies))
-found-united lineage copies r i =
-    let (c, j, k, live) = found_in-from lineage (brought copies) r i in
-    let (copy, l, m) = IsIn-flat_map brought_by copies c j in
-    found_in-has lineage (map (united_copy lineage) copies) (united_copy lineage copy) r (map-has (united_copy lineage) copies copy l) (united-has (brought_by copy) c r m k) live
+found-united lineage copies r i = grind (arith, common_steps, found_in-from, IsIn-flat_map, found_in-has, map-has, united-has)
 
 found-brought : (lineage : Lineage) (copies : List Copy) (r : Redo) → IsIn r (found_in lineage (map (united_copy lineage) copies)) → IsIn r (found_in lineage (brought copies))
 found-brought lineage copies r i =

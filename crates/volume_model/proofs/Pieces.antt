@@ -1,11 +1,11 @@
 -- Contents that are cut into pieces, and pieces that are kept until all are there
-use Rattle.std.proofs.Common.{◌≡◌, ℕ, zero, suc, ◌+◌, ◌-◌, ◌*◌, ◌/◌, ◌%◌, ◌<◌, ◌≤◌, min, true, false, not, ◌&&◌, ◌==◌, nat_lt, eqb, ◌⊎◌, List, [], ◌∷◌, Option, Some, None, length, take, drop, drop-drop, length-drop, refl, sym, ap, ◌∙◌, subst, inl, inr, arith}
-use Rattle.std.proofs.lemmas.Bool.{cases_Bool, and_parts, eqb-true, not-false}
-use Rattle.std.proofs.lemmas.Grind.{div_ceil_times}
+use Rattle.std.proofs.Common.{◌≡◌, ℕ, zero, suc, ◌+◌, ◌-◌, ◌*◌, ◌<◌, ◌≤◌, true, false, eqb, ◌⊎◌, List, [], ◌∷◌, Option, Some, None, length, take, drop, drop-drop, length-drop, refl, sym, ap, ◌∙◌, subst, inl, inr, arith}
+use Rattle.std.proofs.lemmas.Bool.{cases_Bool, and_parts, eqb-true}
 use Rattle.volume_model.specs.Common.{IsIn, Redo, with_record, with_records, Contents, Piece, KeptPiece, Pieces, Copy, most_in_piece, pieces_of, piece_records, piece_of, piece_in, in_pieces, has_piece, is_complete, first_piece, with_piece, is_of_other, contents_in, united, with_install, with_series, pieces_from, with_copy, copied_by, brought_by, brought, IsPieceOf}
 use Rattle.volume_model.proofs.Basics.{any_passes, IsIn-append, every_below-all, each_below-from, IsIn-flat_map, flat_map-has, IsIn-map, map-has, IsIn-take, IsIn-drop, take-or-drop}
 use Rattle.volume_model.proofs.Records.{with_record-has, with_record-keeps, with_record-from}
 use Rattle.volume_model.proofs.Ordered.{IsOrdered, with_record-ordered}
+use Rattle.std.proofs.lemmas.Grind.{common_steps}
 
 -- ---- how contents are cut
 
@@ -28,10 +28,7 @@ covered (suc pieces) records few r i =
     ]
 
 pub enough_pieces : (n : ℕ) → n ≤ pieces_of n * most_in_piece
-enough_pieces n =
-    let bounds : (n ≤ (n / 256 + min 1 (n % 256)) * 256) × ((n / 256 + min 1 (n % 256)) * 256 < n + 256) = div_ceil_times n 256 (omega arith) in
-    let enough : n ≤ (n / 256 + min 1 (n % 256)) * 256 = bounds.0 in
-    omega arith
+enough_pieces n = grind (arith, common_steps)
 
 -- what is said of the pieces of contents is said of each of them
 pub in_pieces-from : {A : Type 0} (q : Contents) (say : Piece → Contents → A) (a : A) → IsIn a (in_pieces q say) → (piece : Piece) × (c : Contents) × IsPieceOf q piece c × (a ≡ say piece c)
@@ -56,13 +53,7 @@ ArePieces-more Is Is' more pieces are = record { some = are.some; each = λ kept
 
 module _ (Is : ℕ → Piece → Contents → Type 0) where
   first_piece-are : (series : ℕ) (piece : Piece) (c : Contents) → 0 < piece.of → Is series piece c → ArePieces Is (first_piece series piece c)
-  first_piece-are series piece c some is = record {
-    some = some;
-    each = λ kept i. (
-        let new : KeptPiece = record { number = piece.number; contents = c } in
-        let j : (kept ≡ new) ⊎ ⊥ = i in
-        elim j [ inl e ↦ subst (λ z. Is series (record { number = z.number; of = piece.of }) z.contents) (sym e) is | inr z ↦ absurd z ]);
-  }
+  first_piece-are series piece c some is = grind (arith, common_steps)
 
   with_piece-are : (pieces : Pieces) (piece : Piece) (c : Contents) → ArePieces Is pieces → pieces.of ≡ piece.of → Is pieces.series piece c → ArePieces Is (with_piece pieces piece c)
   with_piece-are pieces piece c are same is =
@@ -81,13 +72,10 @@ module _ (Is : ℕ → Piece → Contents → Type 0) where
 
   -- of the series that is kept: another number of pieces was refused
   same_number : (pieces : Pieces) (series : ℕ) (piece : Piece) → is_of_other (Some pieces) series piece ≡ false → eqb pieces.series series ≡ true → pieces.of ≡ piece.of
-  same_number pieces series piece other e =
-      let n : not (eqb pieces.of piece.of) ≡ false = rw e at other in
-      eqb-true pieces.of piece.of (not-false _ n)
+  same_number pieces series piece other e = grind (arith, common_steps)
 
   joined-are : (pieces : Pieces) (series : ℕ) (piece : Piece) (c : Contents) → ArePieces Is pieces → is_of_other (Some pieces) series piece ≡ false → Is series piece c → eqb pieces.series series ≡ true → ArePieces Is (with_piece pieces piece c)
-  joined-are pieces series piece c are other is e =
-      with_piece-are pieces piece c are (same_number pieces series piece other e) (subst (λ s. Is s piece c) (sym (eqb-true pieces.series series e)) is)
+  joined-are pieces series piece c are other is e = grind (arith, common_steps, with_piece-are, same_number, eqb-true)
 
   pub with_install-are : (old : Option Pieces) (volume : ℕ) (piece : Piece) (c : Contents) → ((pieces : Pieces) → old ≡ Some pieces → ArePieces Is pieces) → is_of_other old volume piece ≡ false → 0 < piece.of → Is volume piece c → ArePieces Is (with_install old volume piece c)
   with_install-are None volume piece c are other some is = first_piece-are volume piece c some is
@@ -98,36 +86,16 @@ module _ (Is : ℕ → Piece → Contents → Type 0) where
       ]
 
   pub with_series-are : (pieces : Pieces) (series : ℕ) (piece : Piece) (c : Contents) → ArePieces Is pieces → is_of_other (Some pieces) series piece ≡ false → 0 < piece.of → Is series piece c → ArePieces Is (with_series pieces series piece c)
-  with_series-are pieces series piece c are other some is =
-      elim (cases_Bool (is_complete pieces)) [
-        | inl e ↦ rw e are
-        | inr e ↦ elim (cases_Bool (eqb pieces.series series)) [
-          | inl f ↦ rw (e, f) (joined-are pieces series piece c are other is f)
-          | inr f ↦ elim (cases_Bool (nat_lt series pieces.series)) [
-            | inl g ↦ rw (e, f, g) are
-            | inr g ↦ rw (e, f, g) (first_piece-are series piece c some is)
-          ]
-        ]
-      ]
+  with_series-are pieces series piece c are other some is = grind (arith, common_steps, cases_Bool, joined-are, first_piece-are)
 
 -- what is kept of an install is of the volume epoch of the piece that came last
 pub with_install-series : (old : Option Pieces) (volume : ℕ) (piece : Piece) (c : Contents) → (with_install old volume piece c).series ≡ volume
 with_install-series None volume piece c = refl
-with_install-series (Some pieces) volume piece c =
-    elim (cases_Bool (eqb pieces.series volume)) [
-      | inl e ↦ elim (cases_Bool (has_piece pieces piece.number)) [
-        | inl f ↦ rw (e, f) (eqb-true pieces.series volume e)
-        | inr f ↦ rw (e, f) (eqb-true pieces.series volume e)
-      ]
-      | inr e ↦ rw e refl
-    ]
+with_install-series (Some pieces) volume piece c = grind (arith, common_steps)
 
 module _ (Is : ℕ → ℕ → Piece → Contents → Type 0) (sender series : ℕ) (piece : Piece) (c : Contents) where
   pub with_copy-are : (copies : List Copy) → ((copy : Copy) → IsIn copy copies → ArePieces (Is copy.sender) copy.pieces) → is_of_other (pieces_from copies sender) series piece ≡ false → 0 < piece.of → Is sender series piece c → (copy : Copy) → IsIn copy (with_copy sender series piece c copies) → ArePieces (Is copy.sender) copy.pieces
-  with_copy-are [] are other some is copy i =
-      let new : Copy = record { sender = sender; pieces = first_piece series piece c } in
-      let j : (copy ≡ new) ⊎ ⊥ = i in
-      elim j [ inl e ↦ subst (λ z. ArePieces (Is z.sender) z.pieces) (sym e) (first_piece-are (Is sender) series piece c some is) | inr z ↦ absurd z ]
+  with_copy-are [] are other some is copy i = grind (arith, common_steps)
   with_copy-are (old ∷ rest) are other some is copy i =
       elim (cases_Bool (eqb old.sender sender)) [
         | inl e ↦ (
@@ -135,10 +103,7 @@ module _ (Is : ℕ → ℕ → Piece → Contents → Type 0) (sender series : �
             let j : (copy ≡ new) ⊎ IsIn copy rest = rw e at i in
             let other' : is_of_other (Some old.pieces) series piece ≡ false = rw e at other in
             let before : ArePieces (Is sender) old.pieces = subst (λ s. ArePieces (Is s) old.pieces) (eqb-true old.sender sender e) (are old (inl refl)) in
-            elim j [
-              | inl p ↦ subst (λ z. ArePieces (Is z.sender) z.pieces) (sym p) (with_series-are (Is sender) old.pieces series piece c before other' some is)
-              | inr k ↦ are copy (inr k)
-            ])
+            grind (arith, common_steps, (with_series-are (Is sender) old.pieces series piece c before other' some is)))
         | inr e ↦ (
             let j : (copy ≡ old) ⊎ IsIn copy (with_copy sender series piece c rest) = rw e at i in
             let other' : is_of_other (pieces_from rest sender) series piece ≡ false = rw e at other in
@@ -163,9 +128,7 @@ part_of_contents q pieces are c i =
 
 -- the piece of each number is there once all are kept
 complete_has : (pieces : Pieces) → is_complete pieces ≡ true → (k : ℕ) → k < pieces.of → (kept : KeptPiece) × IsIn kept pieces.kept × (kept.number ≡ k)
-complete_has pieces complete k below =
-    let (kept, i, e) = any_passes (λ (kept : KeptPiece). kept.number == k) pieces.kept (every_below-all pieces.of (has_piece pieces) complete k below) in
-    (kept, i, eqb-true kept.number k e)
+complete_has pieces complete k below = grind (arith, common_steps, any_passes, every_below-all, eqb-true, (every_below-all pieces.of (has_piece pieces) complete k below))
 
 -- one piece at least is kept of a complete series
 pub complete_some : (Is : ℕ → Piece → Contents → Type 0) (pieces : Pieces) → ArePieces Is pieces → is_complete pieces ≡ true → (kept : KeptPiece) × IsIn kept pieces.kept
@@ -222,24 +185,11 @@ united-ordered (part ∷ rest) = with_records-ordered part.records (united rest)
 
 -- what complete copies brought
 pub brought-from : (copies : List Copy) (c : Contents) → IsIn c (brought copies) → (copy : Copy) × IsIn copy copies × (is_complete copy.pieces ≡ true) × IsIn c (contents_in copy.pieces)
-brought-from copies c i =
-    let (copy, j, k) = IsIn-flat_map brought_by copies c i in
-    let h : (is_complete copy.pieces ≡ true) × IsIn c (contents_in copy.pieces) = by_complete copy k in
-    (copy, j, h.0, h.1)
-  where
-    by_complete : (copy : Copy) → IsIn c (brought_by copy) → (is_complete copy.pieces ≡ true) × IsIn c (contents_in copy.pieces)
-    by_complete copy k =
-        elim (cases_Bool (is_complete copy.pieces)) [
-          | inl e ↦ (e, rw e at k)
-          | inr e ↦ (let z : IsIn c [] = rw e at k in absurd z)
-        ]
+brought-from copies c i = grind (arith, common_steps, IsIn-flat_map, cases_Bool)
 
 pub brought-has : (copies : List Copy) (copy : Copy) (c : Contents) → IsIn copy copies → is_complete copy.pieces ≡ true → IsIn c (contents_in copy.pieces) → IsIn c (brought copies)
 brought-has copies copy c i complete j = flat_map-has brought_by copies copy c i (rw complete j)
 
 -- a member whose copy is complete has one
 pub copied_by-has : (copies : List Copy) (x : ℕ) → copied_by copies x ≡ true → (copy : Copy) × IsIn copy copies × (copy.sender ≡ x) × (is_complete copy.pieces ≡ true)
-copied_by-has copies x h =
-    let (copy, i, p) = any_passes (λ copy. copy.sender == x && is_complete copy.pieces) copies h in
-    let parts : (eqb copy.sender x ≡ true) × (is_complete copy.pieces ≡ true) = and_parts (eqb copy.sender x) (is_complete copy.pieces) p in
-    (copy, i, eqb-true copy.sender x parts.0, parts.1)
+copied_by-has copies x h = grind (arith, common_steps, any_passes, and_parts, eqb-true)

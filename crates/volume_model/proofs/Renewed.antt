@@ -1,10 +1,11 @@
 -- What a member held when it made its copies: of those that it has not told yet, what it holds now
 use Rattle.std.proofs.Common.{◌≡◌, ℕ, suc, ◌≤◌, nat_le, List, [], ◌∷◌, if◌then◌else◌, refl, subst, inl, inr, arith}
 use Rattle.std.proofs.lemmas.Bool.{lt-leb, le-leb}
-use Rattle.volume_model.specs.Common.{IsIn, Contents, Piece, Plan, Message, View, StepTo, Fence, Report, CopyAsk, CopyReport, PageAsk, Page, World, IsPieceOf}
+use Rattle.volume_model.specs.Common.{IsIn, Contents, Piece, Plan, Message, View, StepTo, Fence, Report, CopyAsk, CopyReport, PageAsk, Page, World}
 use Rattle.volume_model.specs.Node.{Node}
-use Rattle.volume_model.proofs.Invariant.{Held, IsMade, IsCopy, IsSource, IsSourced, MessageSourced, IsHistory}
+use Rattle.volume_model.proofs.Invariant.{Held, IsMade, IsSource, IsSourced, MessageSourced, IsHistory}
 use Rattle.volume_model.proofs.Kept.{Retains, NodeKept, IsCopied, MessageKept, IsKept}
+use Rattle.std.proofs.lemmas.Grind.{common_steps}
 
 -- the copies that were made, and what each member holds now as its next ones
 abbrev pub renewed : Held → World → Held
@@ -43,8 +44,7 @@ module _ (plan : Plan) {held : Held} (world : World) (kept : IsKept plan held wo
 
   message_again : (older : List Message) → ((m : Message) → IsIn m older → IsMade world m) → (m : Message) → IsMade world m → MessageSourced plan held world older m → MessageSourced plan (renewed held world) world older m
   message_again older within (Report group l x q) i h = sourced_again older within group x q h
-  message_again older within (CopyReport group f x s p c) i h =
-      subst (λ z. IsSourced plan (renewed held world) world older group x z) (made_same group f x s p c i) (sourced_again older within group x (held group x s) h)
+  message_again older within (CopyReport group f x s p c) i h = grind (arith, common_steps, (renewed held world), (made_same group f x s p c i), (sourced_again older within group x (held group x s) h))
   message_again older within m i h = tt
 
   history_again : (messages : List Message) → ((m : Message) → IsIn m messages → IsMade world m) → IsHistory plan held world messages → IsHistory plan (renewed held world) world messages
@@ -52,26 +52,14 @@ module _ (plan : Plan) {held : Held} (world : World) (kept : IsKept plan held wo
   history_again (m ∷ older) within h = (message_again older (λ k i. within k (inr i)) m (within m (inl refl)) h.0, history_again older (λ k i. within k (inr i)) h.1)
 
   node_again : (group x : ℕ) (node : Node) → NodeKept plan held world group x node → NodeKept plan (renewed held world) world group x node
-  node_again group x node h = record {
-    place = h.place;
-    copies = h.copies;
-    install = h.install;
-    whole = λ w. record {
-      copy = (h.whole w).copy;
-      below = (h.whole w).below;
-      sourced = sourced_again world.messages (λ m i. i) group x node.contents (h.whole w).sourced;
-      ordered = (h.whole w).ordered;
-    };
-  }
+  node_again group x node h = grind (arith, common_steps, sourced_again)
 
   kept_again : (m : Message) → IsMade world m → MessageKept plan held world m → MessageKept plan (renewed held world) world m
   kept_again (View v places) i h = h
   kept_again (StepTo group place) i h = h
   kept_again (Fence group l) i h = tt
   kept_again (CopyAsk group f) i h = tt
-  kept_again (CopyReport group f x s p c) i h =
-      let same : held group x s ≡ renewed held world group x s = made_same group f x s p c i in
-      record { copy = subst (λ z. IsCopy world group z) same h.copy; is = subst (λ z. IsPieceOf z p c) same h.is; epoch = h.epoch; number = h.number }
+  kept_again (CopyReport group f x s p c) i h = grind (arith, common_steps)
   kept_again (PageAsk group l block point) i h = tt
   kept_again (Page group l x block point bytes) i h = h
   kept_again m i h = h

@@ -1,5 +1,5 @@
 -- Worked runs, computed
-use Rattle.std.proofs.Common.{◌≡◌, ℕ, zero, suc, Bool, true, false, List, [], ◌∷◌, ◌++◌, Ok, Err, map, refl, ◌<◌, ap, ◌∙◌, arith, ◌||◌, nat_eq}
+use Rattle.std.proofs.Common.{◌≡◌, ℕ, zero, suc, Bool, true, false, List, [], ◌∷◌, ◌++◌, Ok, Err, map, refl, ◌<◌, ◌∙◌, arith, ◌||◌, nat_eq}
 use Rattle.std.specs.Ordering.{nat_cmp}
 use Rattle.std.specs.FinSet.{FinSet, empty, insert, contains, contains-empty}
 use Rattle.std.proofs.lemmas.Bool.Decides.{nat_tests}
@@ -8,6 +8,8 @@ use Rattle.volume_model.proofs.Sets.{contains-put}
 use Rattle.volume_model.proofs.Above.{above_first}
 use Rattle.volume_model.specs.Formula.{member}
 use Rattle.volume_model.specs.declared.fault.Fault.TheVariants.{NotEnough, NotWhole, Superseded}
+use Rattle.std.proofs.lemmas.Grind.{common_steps}
+use Rattle.std.proofs.Common.{rules}
 
 -- the root, and then the step
 abbrev one_or_two : ℕ → Configuration
@@ -137,11 +139,7 @@ fresh_one x none h = grind (arith, nat_tests)
 lone_step_claim : (group c : ℕ) → c < 2 → 0 < c → KeepsStepClaim lone_plan group c
 lone_step_claim group zero below positive = absurd (omega arith)
 lone_step_claim group (suc zero) below positive = record {
-  child = record {
-    parent_below = omega arith;
-    epoch_next = refl;
-    fresh_unused = λ x a fresh up. ap (λ c. has_member (lone_one c) x) (above_first lone_plan group a 1 up refl) ∙ fresh_out x fresh;
-  };
+  child = grind (arith, common_steps, lone_one, above_first, lone_plan, fresh_out);
   fresh = insert empty 1;
   fresh_is = λ x. contains-put empty 1 x ∙ fresh_one x (contains (empty {R = nat_cmp}) x) (contains-empty nat_cmp x);
   meets = zero_meets _;
@@ -149,12 +147,4 @@ lone_step_claim group (suc zero) below positive = record {
 lone_step_claim group (suc (suc c)) below positive = absurd (omega arith)
 
 lone_claims : KeepsClaims lone_plan
-lone_claims = record {
-  lal_positive = omega arith;
-  born_there = omega arith;
-  born_within = omega arith;
-  root_there = λ group there. omega arith;
-  root_epoch = λ group there. refl;
-  quorums = λ group c there below. lone_claim c;
-  step = λ group c there below positive. lone_step_claim group c below positive;
-}
+lone_claims = search (rules, lone_claim, lone_step_claim)

@@ -1,14 +1,12 @@
 -- The invariant holds of the opening world and of every world that a list of events leads to; so does the headline
-use Rattle.std.proofs.Common.{◌≡◌, ℕ, suc, ◌-◌, ◌<◌, ◌≤◌, true, not, ◌&&◌, ◌==◌, nat_lt, List, [], ◌∷◌, ◌++◌, length, replicate, Result, Ok, Err, refl, sym, ap, ◌∙◌, subst, inl, inr, arith, ◌⊎◌, slice_set}
-use Rattle.std.proofs.lemmas.Bool.{cases_Bool, cases_lt, and_parts, true≢false, eqb-true, ltb-true, not-false}
-use Rattle.volume_model.specs.Common.{IsIn, put, Plan, has_member, parent_of, epoch_of, IsCertified, Message, View, StepTo, Ack, born_node, first_writer, unborn, Count, born_group, no_group, Authority, World, Event, opening, place_now, places_now, AuthorityStep, assigned, advanced, refreshed, grown, groups_joined, of_authority, after_step, after, run, configuration_of, Assign, Advance, Refresh, Grow, Issue, Take, Cut, Open, Resend, Read, Deliver, Hydrate, Restart, Offer, KeepsCommits, VolumeKeepsCommits, SaysTruePages, PagesAreTrue, Redo, of_group, scl}
-use Rattle.volume_model.proofs.Above.{ancestor}
+use Rattle.std.proofs.Common.{◌≡◌, ℕ, suc, ◌<◌, ◌≤◌, true, not, ◌&&◌, ◌==◌, nat_lt, List, [], ◌∷◌, ◌++◌, Result, Ok, Err, refl, sym, ◌∙◌, subst, inl, inr, arith, slice_set}
+use Rattle.std.proofs.lemmas.Bool.{and_parts, eqb-true, ltb-true, not-false}
+use Rattle.volume_model.specs.Common.{IsIn, Plan, parent_of, IsCertified, Message, View, StepTo, Authority, World, Event, opening, place_now, places_now, AuthorityStep, assigned, advanced, refreshed, grown, groups_joined, of_authority, after_step, after, run, configuration_of, Assign, Advance, Refresh, Grow, Issue, Take, Cut, Open, Resend, Read, Deliver, Hydrate, Restart, Offer, KeepsCommits, VolumeKeepsCommits, SaysTruePages, PagesAreTrue, Redo, of_group, scl}
 use Rattle.volume_model.proofs.Chains.{scl-all}
 use Rattle.volume_model.proofs.Records.{of_group-has, of_group-from}
 use Rattle.volume_model.proofs.Ordered.{page_of-same, of_group-ordered}
-use Rattle.volume_model.proofs.Basics.{put-all}
-use Rattle.volume_model.proofs.Invariant.{Held, IsMade, label, WasAt}
-use Rattle.volume_model.proofs.Kept.{IsPage, IsPlace, IsReached, NodeKept, ClientKept, IsKept}
+use Rattle.volume_model.proofs.Invariant.{Held}
+use Rattle.volume_model.proofs.Kept.{IsPage, IsKept}
 use Rattle.volume_model.proofs.Added.{MessageNew, messages_added}
 use Rattle.volume_model.proofs.Changed.{volume_assigned, step_taken, group_joined}
 use Rattle.volume_model.proofs.Sound.{is_sound, facts}
@@ -16,10 +14,9 @@ use Rattle.volume_model.proofs.FromInvariant.{keeps_commits}
 use Rattle.volume_model.proofs.Renewed.{IsKeptWorld, renewed, renewed_kept, renewed_ready}
 use Rattle.volume_model.proofs.NodeSteps.{refuse_if-ok, deliver_kept, hydrate_kept, restart_kept, offer_kept}
 use Rattle.volume_model.proofs.ClientSteps.{issue_kept, take_kept, cut_kept, open_kept, resend_kept, read_kept}
-use Rattle.std.proofs.lemmas.List.{length-replicate}
-use Rattle.volume_model.proofs.Groups.{replicate-all, index-beyond}
 use Rattle.volume_model.specs.declared.fault.Fault.{Fault}
-use Rattle.volume_model.specs.declared.fault.Fault.TheVariants.{AllGrown, EpochsSpent, NoGroup, NotInPlan, Superseded}
+use Rattle.volume_model.specs.declared.fault.Fault.TheVariants.{AllGrown, EpochsSpent, NoGroup, NotInPlan}
+use Rattle.std.proofs.lemmas.Grind.{common_steps}
 
 Ok-is : (a b : AuthorityStep) → ◌≡◌ {A = Result AuthorityStep Fault} (Ok a) (Ok b) → a ≡ b
 Ok-is a b h = cc
@@ -66,10 +63,7 @@ module _ (plan : Plan) (certified : IsCertified plan) {held : Held} (world : Wor
       (step_taken plan world kept certified group c there (ltb-true _ _ parts.0) (ltb-true _ _ both.0) (eqb-true _ _ both.1), one_new (record world { authority = next }) (StepTo group (place_now plan next group)) (there, refl))
 
   refreshed_good : (volume : ℕ) (s : AuthorityStep) → refreshed plan world.authority volume ≡ Ok s → IsGood s
-  refreshed_good volume s h =
-      let (a, h1) = refuse_if-ok (not (volume == world.authority.last_volume)) Superseded _ s h in
-      as_answered (record { made = View volume (places_now plan world.authority) ∷ []; authority = world.authority }) s h1
-      (kept, one_new world (View volume (places_now plan world.authority)) (eqb-true volume world.authority.last_volume (not-false _ a), refl))
+  refreshed_good volume s h = grind (arith, common_steps)
 
   grown_good : (s : AuthorityStep) → grown plan world.authority ≡ Ok s → IsGood s
   grown_good s h =
@@ -121,91 +115,12 @@ module _ (plan : Plan) (certified : IsCertified plan) where
   abbrev pub start : World
   start = opening plan
 
-  at_first : (group : ℕ) → configuration_of start.authority group ≡ 0
-  at_first group = elim (cases_lt group plan.born) [
-    | inl there ↦ replicate-all 0 (λ c. c ≡ 0) plan.born 0 refl group there
-    | inr beyond ↦ index-beyond (replicate {A = ℕ} plan.born 0) group (let l : length (replicate {A = ℕ} plan.born 0) ≡ plan.born = length-replicate plan.born 0 in omega arith)
-  ]
-
-  root_place : (group : ℕ) → group < plan.groups → IsPlace plan start group (record { configuration = 0; epoch = 1 })
-  root_place group there =
-      let e : epoch_of plan group 0 ≡ 1 = certified.root_epoch group there in
-      let d : 0 ≡ epoch_of plan group 0 - 1 = omega arith in
-      let zero_there : 1 ≤ epoch_of plan group 0 = omega arith in
-      record {
-        positive = omega arith;
-        there = subst (λ c. 1 ≤ epoch_of plan group c) (sym (at_first group)) zero_there;
-        configuration = subst (λ c. 0 ≡ ancestor plan group (epoch_of plan group c - 1) c) (sym (at_first group)) (ap (λ n. ancestor plan group n 0) d);
-      }
-
   -- nothing was reported yet
   abbrev none_held : Held
   none_held group x s = record { lineage = []; records = [] }
 
-  opening_node : (group x : ℕ) → group < plan.groups → NodeKept plan none_held start group x (born_node plan group x)
-  opening_node group x there =
-      elim (cases_Bool (has_member (plan.configuration group 0) x)) [
-        | inl e ↦ rw e (record {
-          place = inr (root_place group there);
-          copies = λ copy i. absurd i;
-          install = λ pieces e. cc;
-          whole = λ h. record {
-            copy = record { cut = refl; lineage = refl; records = λ r i. absurd i; found = λ r i g. absurd i };
-            below = omega arith;
-            sourced = inl e;
-            ordered = tt;
-          };
-        })
-        | inr e ↦ rw e (record { place = inl refl; copies = λ copy i. absurd i; install = λ pieces e. cc; whole = λ h. absurd (true≢false (sym h)) })
-      ]
-
-  at_birth : (group : ℕ) → group < length (replicate plan.born born_group) → group < plan.born
-  at_birth group there = let l : length (replicate plan.born born_group) ≡ plan.born = length-replicate plan.born born_group in omega arith
-
-  opening_client : (v : ℕ) → ClientKept plan start v (put (λ volume. unborn) 1 (first_writer plan) v)
-  opening_client = put-all (λ v c. ClientKept plan start v c) (λ volume. unborn) 1 (first_writer plan)
-      (record {
-        born = λ h. record {
-          positive = omega arith;
-          known = omega arith;
-          within = (let l : length (replicate plan.born born_group) ≡ plan.born = length-replicate plan.born born_group in let w : plan.born ≤ plan.groups = certified.born_within in omega arith);
-          viewed = inl refl;
-          places = λ group there. (
-              let b : group < plan.born = at_birth group there in
-              let w : plan.born ≤ plan.groups = certified.born_within in
-              replicate-all no_group (λ g. IsPlace plan start group g.place × WasAt plan start 1 group g.place.epoch) plan.born born_group (root_place group (omega arith), inl (refl, refl, b)) group b);
-        };
-        reading = λ h. absurd (true≢false h);
-        cut = λ h. record { own = []; log = refl; grown = tt; owned = λ r i. absurd i; origin = inl (record { one = refl; lineage = refl; found = refl }); found_there = λ r i. absurd i };
-        unjoined = λ is group there not_yet r i. absurd i;
-        counts = λ group there. replicate-all no_group (λ g. (count : Count) → IsIn count g.counts → (a : ℕ) × (a ≤ g.place.epoch) × IsMade start (Ack group (label 1 a) count.sender count.reached)) plan.born born_group (λ count i. absurd i) group (at_birth group there);
-        points = λ group there. replicate-all no_group (λ g. (g.group_point ≡ 0) ⊎ IsReached plan start 1 group g.group_point) plan.born born_group (inl refl) group (at_birth group there);
-      })
-      (λ v. record {
-        born = λ h. absurd (true≢false (sym h));
-        reading = λ h group there from i. absurd i;
-        cut = λ h. absurd (true≢false (sym h));
-        unjoined = λ h. absurd (true≢false (sym h));
-        counts = λ group there count i. absurd i;
-        points = λ group there. inl refl;
-      })
-
   first_kept : IsKept plan none_held start
-  first_kept = record {
-    authority = record {
-      positive = omega arith;
-      born = (let l : length (replicate {A = ℕ} plan.born 0) ≡ plan.born = length-replicate plan.born 0 in omega arith);
-      within = (let l : length (replicate {A = ℕ} plan.born 0) ≡ plan.born = length-replicate plan.born 0 in let w : plan.born ≤ plan.groups = certified.born_within in omega arith);
-      there = λ group there. subst (λ c. c < plan.configurations group) (sym (at_first group)) (certified.root_there group there);
-    };
-    nodes = opening_node;
-    clients = opening_client;
-    messages = λ m i. absurd i;
-    views_ordered = λ u v p q h i. absurd i;
-    acks_copies = λ group v a x m f s p c i. absurd i;
-    acks_reports = λ group v a x s l q i. absurd i;
-    history = tt;
-  }
+  first_kept = grind (arith, common_steps)
 
   pub opening_kept : IsKeptWorld plan start
   opening_kept = record { held = none_held; kept = first_kept }

@@ -1,7 +1,8 @@
 -- The places that a View lists.
-use Rattle.std.proofs.Common.{◌≡◌, ℕ, zero, suc, ◌<◌, ◌≤◌, true, List, [], ◌∷◌, ◌++◌, length, length-append, refl, sym, ap, ◌∙◌, inl, inr, arith}
+use Rattle.std.proofs.Common.{◌≡◌, ℕ, zero, suc, ◌<◌, ◌≤◌, true, List, [], ◌∷◌, ◌++◌, length, length-append, refl, ◌∙◌, inl, inr, arith}
 use Rattle.std.proofs.lemmas.Bool.{cases_lt}
 use Rattle.volume_model.specs.Common.{each_below, Plan, Place, place_in, Authority, groups_joined, place_now, places_now}
+use Rattle.std.proofs.lemmas.Grind.{common_steps}
 
 place_in-append : (xs : List Place) (k : ℕ) (ys : List Place) → k < length xs → place_in (xs ++ ys) k ≡ place_in xs k
 place_in-append [] k ys h = absurd (omega arith)
@@ -23,10 +24,7 @@ place_in-each (suc n) f k h =
     let l : length (each_below n (λ k. true) f) ≡ n = length-each n f in
     elim (cases_lt k n) [
       | inl b ↦ place_in-append (each_below n (λ k. true) f) k (f n ∷ []) (omega arith) ∙ place_in-each n f k b
-      | inr b ↦ (
-          let e : k ≡ length (each_below n (λ k. true) f) = omega arith in
-          let e' : k ≡ n = omega arith in
-          ap (place_in (each_below n (λ k. true) f ++ f n ∷ [])) e ∙ place_in-last (each_below n (λ k. true) f) (f n) ∙ ap f (sym e'))
+      | inr b ↦ grind (arith, common_steps, place_in-last)
     ]
 
 -- a View lists as many places as groups have joined

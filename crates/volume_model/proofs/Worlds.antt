@@ -7,6 +7,7 @@ use Rattle.volume_model.proofs.ListFacts.{by_test, get_within, beginning-refl, b
 use Rattle.volume_model.proofs.Frames.{frame, agree-refl, agree-trans}
 use Rattle.volume_model.proofs.Growing.{messages_grow, keeps_after}
 use Rattle.volume_model.proofs.Fronts.{prefix_get, prefix_shorter}
+use Rattle.std.proofs.lemmas.Grind.{common_steps}
 
 pub last_from-append : (actor : Actor) (n at : ℕ) (es fs : List Entry) → last_from actor n at (es ++ fs) ≡ last_from actor (last_from actor n at es) (at + length es) fs
 last_from-append actor n at [] fs = ap (λ k. last_from actor n k fs) (omega arith)
@@ -19,45 +20,29 @@ last_of-push actor es e = last_from-append actor 0 0 es (e ∷ []) ∙ ap (λ k.
 
 pub last_at_most : (actor : Actor) (n at : ℕ) (es : List Entry) → n ≤ at → last_from actor n at es ≤ at + length es
 last_at_most actor n at [] le = omega arith
-last_at_most actor n at (e ∷ es) le = ⊎_elim
-    (λ (same : same_actor (actor_of e.event) actor ≡ true). rw same (let l = last_at_most actor (suc at) (suc at) es (omega arith) in omega arith))
-    (λ (apart : same_actor (actor_of e.event) actor ≡ false). rw apart (let l = last_at_most actor n (suc at) es (omega arith) in omega arith))
-    (by_test (same_actor (actor_of e.event) actor))
+last_at_most actor n at (e ∷ es) le = grind (arith, common_steps, by_test, (last_at_most actor (suc at) (suc at) es (omega arith)), (last_at_most actor n (suc at) es (omega arith)))
 
 pub last_at_least : (actor : Actor) (n at : ℕ) (es : List Entry) → n ≤ at → n ≤ last_from actor n at es
 last_at_least actor n at [] le = omega arith
-last_at_least actor n at (e ∷ es) le = ⊎_elim
-    (λ (same : same_actor (actor_of e.event) actor ≡ true). rw same (let l = last_at_least actor (suc at) (suc at) es (omega arith) in omega arith))
-    (λ (apart : same_actor (actor_of e.event) actor ≡ false). rw apart (last_at_least actor n (suc at) es (omega arith)))
-    (by_test (same_actor (actor_of e.event) actor))
+last_at_least actor n at (e ∷ es) le = grind (arith, common_steps, by_test, (last_at_least actor (suc at) (suc at) es (omega arith)), (last_at_least actor n (suc at) es (omega arith)))
 
 -- an entry of the actor is not after its last one
 pub last_covers : (actor : Actor) (n at : ℕ) (es : List Entry) (k : ℕ) (e : Entry) → n ≤ at → slice_get es k ≡ Some e → same_actor (actor_of e.event) actor ≡ true → suc (at + k) ≤ last_from actor n at es
 last_covers actor n at [] k e le at_k same = absurd (cc)
-last_covers actor n at (x ∷ es) zero e le at_k same =
-    let is : x ≡ e = cc in
-    let here : same_actor (actor_of x.event) actor ≡ true = ap (λ (y : Entry). same_actor (actor_of y.event) actor) is ∙ same in
-    rw here (let l = last_at_least actor (suc at) (suc at) es (omega arith) in omega arith)
-last_covers actor n at (x ∷ es) (suc k) e le at_k same = ⊎_elim
-    (λ (here : same_actor (actor_of x.event) actor ≡ true). rw here (let l = last_covers actor (suc at) (suc at) es k e (omega arith) at_k same in omega arith))
-    (λ (apart : same_actor (actor_of x.event) actor ≡ false). rw apart (let l = last_covers actor n (suc at) es k e (omega arith) at_k same in omega arith))
-    (by_test (same_actor (actor_of x.event) actor))
+last_covers actor n at (x ∷ es) zero e le at_k same = grind (arith, common_steps, last_at_least)
+last_covers actor n at (x ∷ es) (suc k) e le at_k same = grind (arith, common_steps, by_test, (last_covers actor (suc at) (suc at) es k e (omega arith) at_k same), (last_covers actor n (suc at) es k e (omega arith) at_k same))
 
 module _ {A : Type 0} where
   pub take_prefix : (xs ys : List A) (k : ℕ) → IsPrefix xs ys → k ≤ length xs → take k xs ≡ take k ys
   take_prefix xs ys zero p le = refl
   take_prefix [] ys (suc k) p le = absurd (omega arith)
   take_prefix (x ∷ xs) [] (suc k) p le = absurd (cc (p.1))
-  take_prefix (x ∷ xs) (y ∷ ys) (suc k) p le =
-      let heads : x ≡ y = cc (p.1) in
-      let rest = take_prefix xs ys k (p.0, cc (p.1)) (omega arith) in cc (heads, rest)
+  take_prefix (x ∷ xs) (y ∷ ys) (suc k) p le = grind (arith, common_steps)
 
   pub take_long : (xs ys : List A) → IsPrefix xs ys → take (length xs) ys ≡ xs
   take_long [] ys p = refl
   take_long (x ∷ xs) [] p = absurd (cc (p.1))
-  take_long (x ∷ xs) (y ∷ ys) p =
-      let heads : x ≡ y = cc (p.1) in
-      let rest = take_long xs ys (p.0, cc (p.1)) in cc (heads, rest)
+  take_long (x ∷ xs) (y ∷ ys) p = grind (arith, common_steps)
 
   pub get_last : (xs : List A) (y : A) → slice_get (xs ++ y ∷ []) (length xs) ≡ Some y
   get_last [] y = refl
@@ -120,11 +105,7 @@ module _ (plan : Plan) where
 
   -- a beginning of the entries that has the actor's last one has the actor as it is
   pub agree_at_last : (actor : Actor) (seen es : List Entry) → IsPrefix seen es → last_of actor es ≤ length seen → Agree actor (world_at plan seen) (world_at plan es)
-  agree_at_last actor seen es p low =
-      let low' : last_from actor (last_of actor seen) (length seen) p.0 ≤ length seen =
-      subst (λ n. n ≤ length seen) (ap (last_of actor) (sym p.1) ∙ last_from-append actor 0 0 seen p.0 ∙ ap (λ k. last_from actor (last_of actor seen) k p.0) (omega arith)) low in
-      subst (λ w. Agree actor (world_at plan seen) w) (sym (run-append (opening plan) seen p.0) ∙ ap (world_at plan) p.1)
-      (still actor (last_of actor seen) (length seen) (length seen) (world_at plan seen) p.0 (omega arith) low')
+  agree_at_last actor seen es p low = grind (arith, common_steps, last_from-append, run-append, still)
 
   -- the last number of an actor is the length of what it has seen, so what it has seen gives its state
   pub known : (actor : Actor) (number : ℕ) (seen es both : List Entry) → number ≡ last_of actor es → length seen ≡ number → IsPrefix seen both → IsPrefix es both
@@ -155,10 +136,7 @@ module _ (plan : Plan) where
 
   -- the messages after one entry more
   pub messages_push : (es : List Entry) (e : Entry) → Goes plan (world_at plan es) e → length (world_at plan (es ++ e ∷ [])).messages ≡ e.first + length e.made
-  messages_push es e goes =
-      let first = goes.1 in
-      let more = (messages_grow plan (world_at plan es) e.event e.made goes.0).1 in
-      ap (λ w. length w.messages) (world_at-push es e) ∙ omega (arith, first, more)
+  messages_push es e goes = grind (arith, common_steps, (messages_grow plan (world_at plan es) e.event e.made goes.0), (world_at-push es e))
 
   -- the first number of an entry is how many messages were made before it
   pub first_is : (es : List Entry) (k : ℕ) (e : Entry) → IsRun plan es → slice_get es k ≡ Some e → e.first ≡ before plan es k
@@ -172,11 +150,7 @@ module _ (plan : Plan) where
 
   -- the next entry's first number
   pub first_next : (es : List Entry) (k : ℕ) (e f : Entry) → IsRun plan es → slice_get es k ≡ Some e → slice_get es (suc k) ≡ Some f → f.first ≡ e.first + length e.made
-  first_next es k e f run at next =
-      let a = first_is es k e run at in
-      let b = first_is es (suc k) f run next in
-      let c = before_more es k e run at in
-      omega (arith, a, b, c)
+  first_next es k e f run at next = grind (arith, common_steps, first_is, before_more)
 
   -- messages stay, whatever happens
   pub keeps_run : (w : World) (es : List Entry) → Keeps w (run plan w (events es))
