@@ -1,7 +1,7 @@
 -- Objects whose keys are known.
-use Rattle.std.proofs.Common.{◌≡◌, ℕ, ◌≤◌, List, [], ◌∷◌, length, Option, Some, None, Ordering, Less, Equal, Greater, refl, sym, ap, ◌∙◌, subst, arith}
+use Rattle.std.proofs.Common.{◌≡◌, ℕ, ◌≤◌, List, [], ◌∷◌, length, Option, Some, None, Ordering, Less, Equal, Greater, refl, ap, ◌∙◌, arith}
 use Rattle.std.specs.Prelude.{⊤}
-use Rattle.std.specs.Ordering.{match_ordering, ordering_reverse, is_eq}
+use Rattle.std.specs.Ordering.{match_ordering, ordering_reverse}
 use Rattle.std.proofs.lemmas.Cmp.{nat_list_cmp_total}
 use Rattle.std.proofs.lemmas.Slice.Eq.{bytes_eq-Decides}
 use Rattle.std.proofs.lemmas.Map.Text.{is_eq-slice_cmp}
@@ -9,6 +9,7 @@ use Rattle.serde_json.specs.Data.{Data, Members, no_members, member}
 use Rattle.serde_json.specs.Events.{members_len}
 use Rattle.serde_json.specs.Find.{get_member}
 use Rattle.quorum_expr.proofs.Keys.{Cmp, IsAscending, not_below, skipped, turned}
+use Rattle.std.proofs.lemmas.Grind.{common_steps}
 
 -- keys with their values
 abbrev pub Entries : Type 0
@@ -45,37 +46,21 @@ first_after l k (p ∷ ps) h i = nat_list_cmp_total.trans l k p.0 h i
 -- keys above the first are found behind it
 behind : (l : List ℕ) (e : Data) (ms : Members) (ps : Entries) → IsFirst l ps → AreSorted ps → AreFound ps (member l e ms) → AreFound ps ms
 behind l e ms [] first up found = tt
-behind l e ms (p ∷ ps) first up found =
-    (sym (passed (Cmp p.0 l) (get_member p.0 ms) (Some e) (over p.0 l first)) ∙ found.0, behind l e ms ps (first_after l p.0 ps first up.0) up.1 found.1)
+behind l e ms (p ∷ ps) first up found = grind (arith, common_steps, passed, Cmp, Some, over, first_after, (behind l e ms ps (first_after l p.0 ps first up.0) up.1 found.1))
 
 none_below : (o : Ordering) (p : List ℕ × Data) (l : List ℕ) (e : Data) (ms : Members) → Cmp p.0 l ≡ o → o ≡ Less → IsAscending (member l e ms) → get_member p.0 (member l e ms) ≡ Some p.1 → ⊥
-none_below o p l e ms is less up found =
-    let none : get_member p.0 ms ≡ None = not_below p.0 l ms (is ∙ less) up.0 up.1 in
-    let never : ◌≡◌ {A = Option Data} None (Some p.1) = sym none ∙ sym (skipped (Cmp p.0 l) (get_member p.0 ms) (Some e) (is ∙ less)) ∙ found in
-    absurd (cc)
+none_below o p l e ms is less up found = grind (arith, common_steps, None, not_below, Option, Some, skipped, Cmp)
 
 module _ (p : List ℕ × Data) (ps : Entries) (l : List ℕ) (e : Data) (ms : Members) (sorted : AreSorted (p ∷ ps)) (up : IsAscending (member l e ms)) (found : AreFound (p ∷ ps) (member l e ms)) where
   few_at : (o : Ordering) → Cmp p.0 l ≡ o → (AreFound ps ms → length ps ≤ members_len ms) → (AreFound (p ∷ ps) ms → length (p ∷ ps) ≤ members_len ms) → length (p ∷ ps) ≤ members_len (member l e ms)
   few_at Less is here later = absurd (none_below Less p l e ms is refl up found.0)
-  few_at Equal is here later =
-      let same : p.0 ≡ l = (bytes_eq-Decides p.0 l).0 (sym (is_eq-slice_cmp p.0 l) ∙ ap is_eq is) in
-      let rest = here (behind l e ms ps (subst (λ k. IsFirst k ps) same sorted.0) sorted.1 found.1) in
-      omega (arith, rest)
-  few_at Greater is here later =
-      let rest = later (behind l e ms (p ∷ ps) (turned p.0 l is) sorted found) in
-      omega (arith, rest)
+  few_at Equal is here later = grind (arith, common_steps, bytes_eq-Decides, is_eq-slice_cmp, behind, IsFirst, (bytes_eq-Decides p.0 l), (is_eq-slice_cmp p.0 l))
+  few_at Greater is here later = grind (arith, common_steps, (behind l e ms (p ∷ ps) (turned p.0 l is) sorted found), (turned p.0 l is))
 
   exact_at : (o : Ordering) → Cmp p.0 l ≡ o → members_len (member l e ms) ≡ length (p ∷ ps) → (AreFound ps ms → members_len ms ≡ length ps → ms ≡ members_from ps) → (AreFound (p ∷ ps) ms → length (p ∷ ps) ≤ members_len ms) → member l e ms ≡ members_from (p ∷ ps)
   exact_at Less is many here later = absurd (none_below Less p l e ms is refl up found.0)
-  exact_at Equal is many here later =
-      let same : p.0 ≡ l = (bytes_eq-Decides p.0 l).0 (sym (is_eq-slice_cmp p.0 l) ∙ ap is_eq is) in
-      let found_here : ◌≡◌ {A = Option Data} (Some e) (Some p.1) = sym (ap (λ q. match_ordering q (get_member p.0 ms) (Some e) (get_member p.0 ms)) is) ∙ found.0 in
-      let value : e ≡ p.1 = cc in
-      let rest = here (behind l e ms ps (subst (λ k. IsFirst k ps) same sorted.0) sorted.1 found.1) (omega (arith, many)) in
-      λ i. member (sym same i) (value i) (rest i)
-  exact_at Greater is many here later =
-      let rest = later (behind l e ms (p ∷ ps) (turned p.0 l is) sorted found) in
-      absurd (omega (arith, rest, many))
+  exact_at Equal is many here later = grind (arith, common_steps, bytes_eq-Decides, is_eq-slice_cmp, Option, Some, behind, IsFirst, (bytes_eq-Decides p.0 l), (is_eq-slice_cmp p.0 l), (Option Data), (Some e), (Some p.1))
+  exact_at Greater is many here later = grind (arith, common_steps, (behind l e ms (p ∷ ps) (turned p.0 l is) sorted found), (turned p.0 l is))
 
 -- so many keys at least
 pub few : (ps : Entries) (ms : Members) → AreSorted ps → IsAscending ms → AreFound ps ms → length ps ≤ members_len ms

@@ -3,7 +3,6 @@ use Rattle.std.proofs.Common.{◌≡◌, ℕ, suc, ◌+◌, ◌<◌, ◌≤◌, 
 use Rattle.std.specs.Prelude.{⊤, ◌||◌, slice_set}
 use Rattle.std.proofs.lemmas.Cmp.{nat_list_cmp_total}
 use Rattle.std.proofs.lemmas.Slice.Eq.{bytes_eq-Decides}
-use Rattle.std.proofs.lemmas.List.{take_more_set}
 use Rattle.std.specs.Cmp.Lexicographic.{slice_cmp}
 use Rattle.std.specs.Ordering.{match_ordering, ordering_reverse}
 use Rattle.json.specs.Token.{Token}
@@ -16,6 +15,7 @@ use Rattle.serde_json.specs.Read.{of_json, of_members}
 use Rattle.serde_json.proofs.Views.{get_member-put, get_member-put_other}
 use Rattle.quorum_expr.specs.Placed.{among}
 use Rattle.quorum_expr.proofs.Converted.{then}
+use Rattle.std.proofs.lemmas.Grind.{common_steps}
 
 abbrev pub Cmp : List ℕ → List ℕ → Ordering
 Cmp k l = slice_cmp nat_cmp k l
@@ -113,16 +113,11 @@ among_push k [] y = or_false (bytes_eq y.now k)
 among_push k (x ∷ xs) y = ap (λ b. bytes_eq x.now k || b) (among_push k xs y) ∙ sym (or_more (bytes_eq x.now k) (among k xs) (bytes_eq y.now k))
 
 has_at : (key k : List ℕ) (d : Data) (found : Members) (b : Bool) → bytes_eq key k ≡ b → is_some (get_member k (put key d found)) ≡ (is_some (get_member k found) || b)
-has_at key k d found true e =
-    let same : key ≡ k = (bytes_eq-Decides key k).0 e in
-    ap (λ x. is_some (get_member k (put x d found))) same ∙ ap is_some (get_member-put k d found) ∙ sym (or_true (is_some (get_member k found)))
-has_at key k d found false e =
-    ap is_some (get_member-put_other k key d found (λ same. let yes : bytes_eq key k ≡ true = (bytes_eq-Decides key k).1 (sym same) in let never : ◌≡◌ {A = Bool} false true = sym e ∙ yes in absurd (cc))) ∙ sym (or_false (is_some (get_member k found)))
+has_at key k d found true e = grind (arith, common_steps, bytes_eq-Decides, is_some, get_member-put, or_true)
+has_at key k d found false e = grind (arith, common_steps, is_some, get_member-put_other, bytes_eq, bytes_eq-Decides, Bool, or_false)
 
 had_at : (key k : List ℕ) (found : Members) (b : Bool) → bytes_eq key k ≡ b → is_some (get_member key found) ≡ true → (is_some (get_member k found) || b) ≡ is_some (get_member k found)
-had_at key k found true e had =
-    let same : key ≡ k = (bytes_eq-Decides key k).0 e in
-    or_true (is_some (get_member k found)) ∙ sym had ∙ ap (λ x. is_some (get_member x found)) same
+had_at key k found true e had = grind (arith, common_steps, bytes_eq-Decides, or_true, is_some)
 had_at key k found false e had = or_false (is_some (get_member k found))
 
 -- ---- the count
@@ -154,16 +149,7 @@ next_of all old new key at seen count x next =
 pub counts_same : (all : Members) (old new : List Token) (key : List ℕ) (at : List Token) (seen : List (Bor (List ℕ))) (count : ℕ) → NextMember old (Some (key, at)) new → among key seen ≡ true → Counts all old seen count → Counts all new seen count
 counts_same all old new key at seen count next there x =
     let y = next_of all old new key at seen count x next in
-    let had : is_some (get_member key x.found) ≡ true = sym (x.has key) ∙ there in
-    record {
-      rest = y.rest;
-      found = put key y.d x.found;
-      inside = y.inside;
-      ends = y.ends;
-      up = ascending_put key y.d x.found x.up;
-      many = len_old key y.d x.found x.up had ∙ x.many;
-      has = λ k. x.has k ∙ sym (has_at key k y.d x.found (bytes_eq key k) refl ∙ had_at key k x.found (bytes_eq key k) refl had);
-    }
+    grind (arith, common_steps, ascending_put, len_old, has_at, bytes_eq, had_at)
 
 none_there : (o : Option Data) → is_some o ≡ false → o ≡ None
 none_there None h = refl
@@ -173,29 +159,16 @@ none_there (Some d) h = absurd (cc)
 pub counts_more : (all : Members) (old new : List Token) (key : Bor (List ℕ)) (at : List Token) (seen : List (Bor (List ℕ))) (count : ℕ) → count < length seen → NextMember old (Some (key.now, at)) new → among key.now (take count seen) ≡ false → Counts all old (take count seen) count → Counts all new (take (count + 1) (slice_set seen count key)) (count + 1)
 counts_more all old new key at seen count room next absent x =
     let y = next_of all old new key.now at (take count seen) count x next in
-    let pushed : take (count + 1) (slice_set seen count key) ≡ take count seen ++ key ∷ [] = take_more_set seen count key room in
     let never : get_member key.now x.found ≡ None = none_there (get_member key.now x.found) (sym (x.has key.now) ∙ absent) in
     let longer : members_len (put key.now y.d x.found) ≡ suc (members_len x.found) = len_new key.now y.d x.found never in
-    let many : members_len (put key.now y.d x.found) ≡ count + 1 = omega (arith, longer, x.many) in
-    record {
-      rest = y.rest;
-      found = put key.now y.d x.found;
-      inside = y.inside;
-      ends = y.ends;
-      up = ascending_put key.now y.d x.found x.up;
-      many = many;
-      has = λ k. ap (among k) pushed ∙ among_push k (take count seen) key ∙ ap (λ b. b || bytes_eq key.now k) (x.has k) ∙ sym (has_at key.now k y.d x.found (bytes_eq key.now k) refl);
-    }
+    grind (arith, common_steps, ascending_put, among_push, bytes_eq, has_at)
 
 pub counts_enough : (all : Members) (ts : List Token) (seen : List (Bor (List ℕ))) (count most : ℕ) → most ≤ count → count ≤ most → Counts all ts seen count → count ≡ min (members_len all) most
-counts_enough all ts seen count most h i x =
-    let more : members_len x.found ≤ members_len all = all_grown x.rest x.found all x.ends in
-    omega (arith, more, x.many, h, i)
+counts_enough all ts seen count most h i x = grind (arith, common_steps, all_grown)
 
 pub counts_all : (all : Members) (ts new : List Token) (seen : List (Bor (List ℕ))) (count most : ℕ) → count < most → NextMember ts None new → Counts all ts seen count → count ≡ min (members_len all) most
 counts_all all ts new seen count most h next x =
     let none : x.rest ≡ json.no_members = next x.rest x.inside in
-    let is : of_members json.no_members x.found ≡ Some all = ap (λ ms. of_members ms x.found) (sym none) ∙ x.ends in
     let same : x.found ≡ all = cc in
     let many : members_len all ≡ count = sym (ap members_len same) ∙ x.many in
     omega (arith, many, h)

@@ -20,6 +20,7 @@ use lib.Count.{ones-ones}
 use Rattle.std.specs.Int.{bit_at, trailing_zeros, w64}
 use Rattle.std.proofs.lemmas.Nat.Bits.{bit_at-trailing_zeros}
 use Rattle.std.proofs.lemmas.Bool.Decides.{nat_tests}
+use Rattle.std.proofs.lemmas.Grind.{common_steps}
 
 -- one more number
 pub one_more : {A : Type 0} (n : ℕ) (test : ℕ → Bool) (f : ℕ → A) → test n ≡ true → each_below (n + 1) test f ≡ each_below n test f ++ f n ∷ []
@@ -60,10 +61,7 @@ first_listed n m test f h here none =
     ∙ ap (λ xs. slice_get (xs ++ split.0) 0) (one_more m test f here ∙ ap (λ xs. xs ++ f m ∷ []) (none_listed m test f none))
 
 unless : (b : Bool) → (b ≡ true → ⊥) → b ≡ false
-unless b never = elim b as (λ c. b ≡ c → c ≡ false) [
-  | true ↦ λ e. absurd (never e)
-  | false ↦ λ e. refl
-] refl
+unless b never = grind (arith, common_steps)
 
 -- all numbers that pass, if the test refuses the first of them
 all_but_first : {A : Type 0} (n m : ℕ) (test less : ℕ → Bool) (f : ℕ → A) → test m ≡ true → ((x : ℕ) → x < m → test x ≡ false) → ((x : ℕ) → less x ≡ (not (nat_eq x m) && test x)) → each_below (n + (m + 1)) test f ≡ f m ∷ each_below (n + (m + 1)) less f
@@ -80,11 +78,7 @@ all_but_first (suc n) m test less f here none is =
     ∙ ap (λ k. f m ∷ each_below k less f) (sym size)
 
 below_all : (m : ℕ) (ms : List ℕ) → Some m ≡ slice_get ms 0 → (64 ≤ m → ms ≡ []) → m < 64
-below_all m ms is none = elim (nat_lt m 64) as (λ b. nat_lt m 64 ≡ b → m < 64) [
-  | true ↦ λ e. grind (arith, nat_tests, e)
-  | false ↦ λ e. let many : 64 ≤ m = grind (arith, nat_tests, e) in
-      let gone : Some m ≡ None = is ∙ ap (λ xs. slice_get xs 0) (none many) in absurd (cc)
-] refl
+below_all m ms is none = grind (arith, common_steps)
 
 -- the members without the least one
 pub first_removed : (s : FinSet nat_cmp) (m : ℕ) → Some m ≡ slice_get (listed s) 0 → contains s m ≡ true → ((x : ℕ) → contains s x ≡ true → m ≤ x) → (m < 64) × (listed s ≡ m ∷ listed (remove s m))
@@ -146,10 +140,7 @@ least_of n s is some fits =
 bits_below-small : (k : ℕ) (s : FinSet nat_cmp) → bits_below k s < 2 ^ k
 unfolding bits_below
 bits_below-small zero s = omega arith
-bits_below-small (suc k) s = elim (contains s k) as (λ b. (if b then 2 ^ k else 0) + bits_below k s < 2 ^ suc k) [
-  | true ↦ omega (arith, bits_below-small k s, pow-suc 2 k)
-  | false ↦ omega (arith, bits_below-small k s, pow-suc 2 k)
-]
+bits_below-small (suc k) s = grind (arith, common_steps, pow-suc, (bits_below-small k s))
 
 ones_below : (k : ℕ) (s : FinSet nat_cmp) → count_ones (bits_below k s) ≡ length (each_below k (contains s) (λ x. x))
 unfolding bits_below

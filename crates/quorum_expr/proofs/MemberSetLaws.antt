@@ -10,6 +10,7 @@ use Rattle.std.proofs.lemmas.Bool.Decides.{nat_tests}
 use Rattle.volume_model.proofs.Sets.{contains-put}
 use Rattle.quorum_expr.specs.MemberSet.{members_of, bits_of, numbers_below, all_members}
 use Rattle.quorum_expr.specs.MemberSetBits.{contains-members_of, bits_of-members_of}
+use Rattle.std.proofs.lemmas.Grind.{common_steps}
 
 -- each member's test, from the bits
 pub same_members : (s t : FinSet nat_cmp) → ((x : ℕ) → contains s x ≡ contains t x) → s ≡ t
@@ -33,8 +34,7 @@ members_of-zero = same_members _ _ (λ x. contains-members_of 0 x ∙ ap (λ b. 
 set_bit : (n k x : ℕ) → k < 64 → (nat_lt x 64 && nat_eq (bit_at (bit_or n (1 * 2 ^ k % 2 ^ 64)) x) 1) ≡ (nat_eq x k || (nat_lt x 64 && nat_eq (bit_at n x) 1))
 set_bit n k x h =
     elim (nat_eq x k) as (λ b. nat_eq x k ≡ b → (nat_lt x 64 && nat_eq (bit_at (bit_or n (1 * 2 ^ k % 2 ^ 64)) x) 1) ≡ (b || (nat_lt x 64 && nat_eq (bit_at n x) 1))) [
-      | true ↦ λ e. let is : x ≡ k = grind (arith, nat_tests, e) in
-          (λ i. nat_lt (is i) 64 && nat_eq (bit_at (bit_or n (1 * 2 ^ k % 2 ^ 64)) (is i)) 1) ∙ ap (λ b. nat_lt k 64 && nat_eq b 1) (bit_at_set_same w64 n k h) ∙ grind (arith, nat_tests)
+      | true ↦ grind (arith, common_steps, (bit_or n (1 * 2 ^ k % 2 ^ 64)), (bit_at_set_same w64 n k h))
       | false ↦ λ e. let is_not : x ≢ k = grind (arith, nat_tests, e) in
           ap (λ b. nat_lt x 64 && nat_eq b 1) (bit_at_set_other w64 n k h x is_not)
     ] refl
@@ -79,8 +79,7 @@ cleared_bit : (a b x : ℕ) → b < 2 ^ 64 → (nat_lt x 64 && nat_eq (bit_at (b
 cleared_bit a b x h =
     elim (nat_lt x 64) as (λ c. nat_lt x 64 ≡ c → (c && nat_eq (bit_at (bit_and a (2 ^ 64 - 1 - b)) x) 1) ≡ ((c && nat_eq (bit_at a x) 1) && not (c && nat_eq (bit_at b x) 1))) [
       | true ↦ λ e. let within : x < 64 = grind (arith, nat_tests, e) in
-          ap (λ n. nat_eq n 1) (bit_at_and a (2 ^ 64 - 1 - b) x ∙ ap (min (bit_at a x)) (bit_at_not w64 b x h within))
-          ∙ both_bits (bit_at a x) (bit_at b x) (bit_at-lt a x) (bit_at-lt b x)
+          grind (arith, common_steps, (bit_at_and a (2 ^ 64 - 1 - b) x), (min (bit_at a x)), (bit_at_not w64 b x h within), (both_bits (bit_at a x) (bit_at b x) (bit_at-lt a x) (bit_at-lt b x)), (bit_at-lt a x))
       | false ↦ λ e. refl
     ] refl
 

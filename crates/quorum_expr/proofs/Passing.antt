@@ -1,5 +1,5 @@
 -- Nodes that pass are those of a text that serde_json reads.
-use Rattle.std.proofs.Common.{◌≡◌, ℕ, zero, suc, ◌≤◌, List, [], ◌∷◌, ◌++◌, Bool, true, false, ◌&&◌, Option, Some, None, is_some, option_map, option_and_then, refl, sym, ap, ◌∙◌, arith, append_assoc, append-nil, rules, ◌<◌, ◌+◌, length, get_or, drop, map, drop-cons, add-one, IsSome}
+use Rattle.std.proofs.Common.{◌≡◌, ℕ, zero, suc, ◌≤◌, List, [], ◌∷◌, ◌++◌, Bool, true, false, ◌&&◌, Option, Some, None, is_some, option_map, option_and_then, refl, sym, ap, ◌∙◌, arith, append_assoc, append-nil, rules, ◌<◌, ◌+◌, length, get_or, drop, map, IsSome}
 use Rattle.std.proofs.lemmas.List.{drop_all}
 use Rattle.std.proofs.Math.Bool.{and_assoc}
 use Rattle.json.specs.Token.{Token}
@@ -20,6 +20,7 @@ use Rattle.quorum_expr.specs.Placed.{deeper, passes, data_at, or_null}
 use Rattle.quorum_expr.proofs.Fits.{value_fits}
 use Rattle.quorum_expr.proofs.Converted.{no}
 use Rattle.quorum_expr.proofs.Places.{data-begins}
+use Rattle.std.proofs.lemmas.Grind.{common_steps}
 
 abbrev mutual
   fits : ℕ → Json → Bool
@@ -224,8 +225,7 @@ read-invalid text h =
 -- ---- node by node
 
 pub next_node : (left i : ℕ) (nodes : List Node) (d : Node) → i < length nodes → passes left (map node_token (drop i nodes)) ≡ passes left (node_token (get_or nodes i d) ∷ map node_token (drop (i + 1) nodes))
-next_node left i nodes d h =
-    ap (λ ns. passes left (map node_token ns)) (drop-cons nodes i d h) ∙ ap (λ k. passes left (node_token (get_or nodes i d) ∷ map node_token (drop k nodes))) (sym (add-one i))
+next_node left i nodes d h = grind (arith, common_steps)
 
 pub no_node : (left i : ℕ) (nodes : List Node) → length nodes ≤ i → passes left (map node_token (drop i nodes)) ≡ true
 unfolding passes

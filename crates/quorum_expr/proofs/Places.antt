@@ -9,7 +9,7 @@ use Rattle.json.specs.Find as find
 use Rattle.json.specs.Find.{BeginsWith, InItems, InMembers, NextItem, Finds}
 use Rattle.json.proofs.Grammar.{value-begin_array}
 use Rattle.json.proofs.Nesting.{value-depth}
-use Rattle.serde_json.specs.Data.{Data, array, object, Items, no_items, item, Members, no_members}
+use Rattle.serde_json.specs.Data.{Data, Items, no_items, item, Members, no_members}
 use Rattle.serde_json.specs.Events.{members_len}
 use Rattle.serde_json.specs.Find as sought
 use Rattle.serde_json.specs.Read.{number_of, of_json, of_items, of_members}
@@ -17,6 +17,7 @@ use Rattle.quorum_expr.specs.Nodes.{says, keys_up_to}
 use Rattle.quorum_expr.specs.Placed.{data_at, items_at, or_null, or_none}
 use Rattle.quorum_expr.proofs.Fits.{value_fits, items_fit}
 use Rattle.quorum_expr.proofs.Converted.{mapped, is_null-of, as_str-of, as_number-of, is_number-of, as_array-of, as_object-of, item-of, get-of, get_held}
+use Rattle.std.proofs.lemmas.Grind.{common_steps}
 
 -- ---- values
 
@@ -90,10 +91,7 @@ Looked r o = MatchOption r (o ≡ None) (λ ts. (d : Data) × (data_at ts ≡ So
 
 looked : (key : List ℕ) (ts : List Token) (x : Placed ts) (r : Option (List Token)) → Finds r (find.get key x.found) → Looked r (sought.get key x.d)
 looked key ts x None f = get-of key x.found x.d x.is ∙ ap (option_and_then of_json) f
-looked key ts x (Some at) f =
-    let h = get_held key x.found x.d x.is f.0 f.1 in
-    let few : tree.depth x.found ≤ 127 = value-depth 127 ts x.after x.found x.read in
-    (h.d, data-begins at f.0 h.d f.2 (omega (arith, few, h.within)) h.is, get-of key x.found x.d x.is ∙ ap (option_and_then of_json) f.1 ∙ h.is)
+looked key ts x (Some at) f = grind (arith, common_steps, get_held, value-depth, data-begins, get-of, option_and_then, (get_held key x.found x.d x.is f.0 f.1), (value-depth 127 ts x.after x.found x.read), (get-of key x.found x.d x.is), (option_and_then of_json))
 
 pub get_here : (key : List ℕ) (ts : List Token) (r : Option (List Token)) → is_some (data_at ts) ≡ true → ((j : Json) → BeginsWith ts j → Finds r (find.get key j)) → Looked r (sought.get key (or_null (data_at ts)))
 get_here key ts r h all = let x = placed ts h in subst (Looked r) (seen (sought.get key) ts x) (looked key ts x r (all x.found (begins ts x)))
@@ -138,12 +136,7 @@ abbrev pub Listed : Option (List Token) → Option Items → Type 0
 Listed r o = MatchOption r (o ≡ None) (λ ts. (ds : Items) × (items_at ts ≡ Some ds) × (o ≡ Some ds))
 
 inside : (ts rest : List Token) (x : Placed ts) (js : json.Items) → x.found ≡ json.array js → InItems rest js → Listed (Some rest) (sought.as_array x.d)
-inside ts rest x js same h =
-    let is : of_json (json.array js) ≡ Some x.d = ap of_json (sym same) ∙ x.is in
-    let y = mapped array (of_items js) x.d is in
-    let few : tree.depth x.found ≤ 127 = value-depth 127 ts x.after x.found x.read in
-    let less : tree.depth (json.array js) ≤ 127 = subst (λ j. tree.depth j ≤ 127) same few in
-    (y.0, items-begin rest js y.0 h (omega (arith, less)) y.1, ap sought.as_array (sym y.2))
+inside ts rest x js same h = grind (arith, common_steps, Some, mapped, value-depth, items-begin)
 
 listed : (ts : List Token) (x : Placed ts) (r : Option (List Token)) → MatchOption r (find.as_array x.found ≡ None) (λ rest. (js : json.Items) × (x.found ≡ json.array js) × InItems rest js) → Listed r (sought.as_array x.d)
 listed ts x None h = sym (as_array-of x.found x.d x.is) ∙ ap (option_and_then of_items) h
@@ -160,14 +153,8 @@ abbrev pub Taken : Option (List Token) → Items → List Token → Type 0
 Taken r ds new = MatchOption r (ds ≡ no_items) (λ ts. (d : Data) × (es : Items) × (data_at ts ≡ Some d) × (items_at new ≡ Some es) × (ds ≡ item d es))
 
 taken : (old new : List Token) (x : PlacedItems old) (r : Option (List Token)) → MatchOption r (x.found ≡ json.no_items) (λ ts. (j : Json) × (rest : json.Items) × (x.found ≡ json.item j rest) × BeginsWith ts j × InItems new rest) → Taken r x.ds new
-taken old new x None h =
-    let is : of_items json.no_items ≡ Some x.ds = ap of_items (sym h) ∙ x.is in
-    let same : no_items ≡ x.ds = cc in sym same
-taken old new x (Some at) h =
-    let is : of_items (json.item h.0 h.1) ≡ Some x.ds = ap of_items (sym h.2) ∙ x.is in
-    let y = item-of h.0 h.1 x.ds is in
-    let few : tree.items_depth (json.item h.0 h.1) ≤ 127 = subst (λ js. tree.items_depth js ≤ 127) h.2 (few_items old x) in
-    (y.0, y.1, data-begins at h.0 y.0 h.3 (omega (arith, few)) y.2, items-begin new h.1 y.1 h.4 (omega (arith, few)) y.3, sym y.4)
+taken old new x None h = grind (arith, common_steps)
+taken old new x (Some at) h = grind (arith, common_steps, Some, item-of, few_items, data-begins, items-begin, (Some x.ds), (few_items old x))
 
 pub next_here : (old new : List Token) (r : Option (List Token)) → is_some (items_at old) ≡ true → NextItem old r new → Taken r (or_none (items_at old)) new
 next_here old new r h next =
@@ -192,10 +179,7 @@ keys_of : (ts : List Token) (most : ℕ) (x : Placed ts) (r : Option (List Token
 keys_of ts most x None None h c = sym (ap (option_map (λ ms. min (members_len ms) most)) (sym (as_object-of x.found x.d x.is) ∙ ap (option_and_then (λ ms. of_members ms no_members)) h))
 keys_of ts most x None (Some n) h c = absurd c
 keys_of ts most x (Some rest) None h c = absurd c
-keys_of ts most x (Some rest) (Some n) h c =
-    let is : of_json (json.object h.0) ≡ Some x.d = ap of_json (sym h.1) ∙ x.is in
-    let y = mapped object (of_members h.0 no_members) x.d is in
-    ap Some (c h.0 y.0 h.2 y.1) ∙ ap (keys_up_to most) y.2
+keys_of ts most x (Some rest) (Some n) h c = grind (arith, common_steps)
 
 pub keys_here : (ts : List Token) (most : ℕ) (r : Option (List Token)) (n : Option ℕ) → is_some (data_at ts) ≡ true → ((j : Json) → BeginsWith ts j → MatchOption r (find.as_object j ≡ None) (λ rest. (ms : json.Members) × (j ≡ json.object ms) × InMembers rest ms)) → Counted most r n → n ≡ keys_up_to most (or_null (data_at ts))
 keys_here ts most r n h all c = let x = placed ts h in keys_of ts most x r n (all x.found (begins ts x)) c ∙ seen (keys_up_to most) ts x

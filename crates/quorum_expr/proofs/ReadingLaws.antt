@@ -1,5 +1,5 @@
 -- What is read is valid.
-use Rattle.std.proofs.Common.{◌≡◌, ℕ, zero, suc, ◌+◌, ◌-◌, ◌≤◌, arith, refl, ap, ◌∙◌, sym, Bool, true, false, ◌&&◌, ◌==◌, nat_lt, nat_le, if◌then◌else◌, List, [], ◌∷◌, ◌++◌, length, map, Some, None, Result, Ok, Err}
+use Rattle.std.proofs.Common.{◌≡◌, ℕ, zero, suc, ◌+◌, ◌≤◌, arith, refl, ap, ◌∙◌, sym, Bool, true, false, nat_lt, nat_le, if◌then◌else◌, List, [], ◌∷◌, ◌++◌, length, map, Some, None, Result, Ok, Err}
 use Rattle.std.specs.FinSet.{FinSet, contains}
 use Rattle.std.specs.Ordering.{nat_cmp}
 use Rattle.std.proofs.lemmas.Bool.Decides.{nat_tests}
@@ -7,14 +7,15 @@ use Rattle.std.proofs.lemmas.List.{length-map}
 use Rattle.serde_json.specs.Data.{Data, Items, no_items, item}
 use Rattle.serde_json.specs.Events.{items_len}
 use Rattle.volume_model.specs.declared.fault.Fault.{Fault}
-use Rattle.volume_model.specs.declared.fault.Fault.TheVariants.{BadCount, TooDeep, NotAMember, OverLimit}
+use Rattle.volume_model.specs.declared.fault.Fault.TheVariants.{BadCount, TooDeep}
 use Rattle.volume_model.specs.Common.{◌>>=◌, Formula, at_least, each_once, each_below, listed}
 use Rattle.volume_model.specs.Formula.{member}
 use Rattle.quorum_expr.specs.declared.form.Lists.{Lists}
-use Rattle.quorum_expr.specs.Valid.{or_then, good_choice, shape_fault, row_fault, nodes, expression_fault}
+use Rattle.quorum_expr.specs.Valid.{or_then, shape_fault, row_fault, nodes, expression_fault}
 use Rattle.quorum_expr.proofs.ValidLaws.{neither}
 use Rattle.quorum_expr.proofs.Rows.{row-read}
 use Rattle.quorum_expr.specs.Reading.{ChildList, each, named, Weights, weighing, good_row, Form, single, choice, set_of, form_of, child_count, each_of, members_at, children_at, formula_from, formula_at}
+use Rattle.std.proofs.lemmas.Grind.{common_steps}
 
 -- ---- the parts of a reading without a fault
 
@@ -26,29 +27,17 @@ if_ok : {A : Type 0} (b : Bool) (r : Result A Fault) (e : Fault) (y : A) → (if
 if_ok true r e y h = (refl, h)
 if_ok false r e y h = absurd (cc)
 
-both_true : (a b : Bool) → (a && b) ≡ true → (a ≡ true) × (b ≡ true)
-both_true true b h = (refl, h)
-both_true false b h = absurd (cc)
-
 -- ---- one level
 
 member_within : (n left : ℕ) → nat_lt n 64 ≡ true → shape_fault (member n) (suc left) ≡ None
-member_within n left h =
-    let some : (suc left == 0) ≡ false = grind (arith, nat_tests) in
-    ap (λ (b : Bool). if b then Some TooDeep else (if nat_lt n 64 then None else Some NotAMember)) some
-    ∙ ap (λ (b : Bool). if b then None else Some NotAMember) h
+member_within n left h = grind (arith, common_steps)
 
 row_weighing : (ws : Weights) (i : ℕ) (fs : List Formula) (left : ℕ) → row_fault (weighing ws i fs) left ≡ row_fault (each_once fs) left
 row_weighing ws i [] left = refl
 row_weighing ws i (f ∷ fs) left = ap (λ rest. or_then (shape_fault f left) rest) (row_weighing ws (i + 1) fs left)
 
 choice_within : (k left : ℕ) (ws : Weights) (fs : List Formula) → good_row k (length fs) ws ≡ true → row_fault (each_once fs) left ≡ None → shape_fault (at_least k (weighing ws 0 fs)) (suc left) ≡ None
-choice_within k left ws fs count row =
-    let some : (suc left == 0) ≡ false = grind (arith, nat_tests) in
-    let below : suc left - 1 ≡ left = omega arith in
-    ap (λ (b : Bool). if b then Some TooDeep else (if good_choice k (weighing ws 0 fs) then row_fault (weighing ws 0 fs) (suc left - 1) else Some BadCount)) some
-    ∙ ap (λ (b : Bool). if b then row_fault (weighing ws 0 fs) (suc left - 1) else Some BadCount) (row-read k ws fs ∙ count)
-    ∙ ap (row_fault (weighing ws 0 fs)) below ∙ row_weighing ws 0 fs left ∙ row
+choice_within k left ws fs count row = grind (arith, common_steps, (Some TooDeep), (Some BadCount), (row-read k ws fs), (row_weighing ws 0 fs left))
 
 -- ---- lists of members
 
@@ -62,9 +51,7 @@ below_append (x ∷ xs) ys h i = (h.0, below_append xs ys h.1 i)
 
 listed_below : (n : ℕ) (test : ℕ → Bool) → n ≤ 64 → AreBelow (each_below n test (λ x. x))
 listed_below zero test h = tt
-listed_below (suc n) test h =
-    below_append (each_below n test (λ x. x)) (if test n then n ∷ [] else []) (listed_below n test (omega arith))
-    (elim (test n) as (λ (b : Bool). AreBelow (if b then n ∷ [] else [])) [ true ↦ (grind (arith, nat_tests), tt) | false ↦ tt ])
+listed_below (suc n) test h = grind (arith, common_steps, below_append, Bool, AreBelow, nat_tests, (listed_below n test (omega arith)))
 
 members_row : (ms : List ℕ) (left : ℕ) → AreBelow ms → row_fault (each_once (map member ms)) (suc left) ≡ None
 members_row [] left h = refl
@@ -75,18 +62,12 @@ same_ok x y h = cc
 
 members_within : (left : ℕ) (s : FinSet nat_cmp) (fs : List Formula) → members_at left (listed s) ≡ Ok fs → (length fs ≡ length (listed s)) × (row_fault (each_once fs) left ≡ None)
 members_within zero s fs h = absurd (cc)
-members_within (suc left) s fs h =
-    let is : map member (listed s) ≡ fs = same_ok _ _ h in (
-      ap length (sym is) ∙ length-map (listed s) member,
-      ap (λ gs. row_fault (each_once gs) (suc left)) (sym is) ∙ members_row (listed s) left (listed_below 64 (contains s) (omega arith)),
-    )
+members_within (suc left) s fs h = grind (arith, common_steps, (same_ok _ _ h), (length-map (listed s) member), (members_row (listed s) left (listed_below 64 (contains s) (omega arith))), (listed_below 64 (contains s) (omega arith)))
 
 -- ---- all levels
 
 each_within : (left : ℕ) (read : Data → Result Formula Fault) → ((d : Data) (f : Formula) → read d ≡ Ok f → shape_fault f left ≡ None) → (ds : Items) (fs : List Formula) → each_of read ds ≡ Ok fs → (length fs ≡ items_len ds) × (row_fault (each_once fs) left ≡ None)
-each_within left read good no_items fs h =
-    let is : [] ≡ fs = same_ok _ _ h in
-    (ap length (sym is), ap (λ gs. row_fault (each_once gs) left) (sym is))
+each_within left read good no_items fs h = grind (arith, common_steps)
 each_within left read good (item d ds) fs h =
     let first = bind_ok (read d) (λ f. each_of read ds >>= λ gs. Ok (f ∷ gs)) fs h in
     let rest = bind_ok (each_of read ds) (λ gs. Ok (first.0 ∷ gs)) fs first.2 in
@@ -101,15 +82,8 @@ children_within lists left read good (each ds) fs h = each_within left read good
 children_within lists left read good (named name) fs h = members_within left (set_of lists name) fs h
 
 form_within : (lists : Lists) (left : ℕ) (read : Data → Result Formula Fault) → ((d : Data) (f : Formula) → read d ≡ Ok f → shape_fault f left ≡ None) → (form : Form) (f : Formula) → formula_from lists left read form ≡ Ok f → shape_fault f (suc left) ≡ None
-form_within lists left read good (single n) f h =
-    let here = if_ok (nat_lt n 64 && contains lists.members n) (Ok (member n)) NotAMember f h in
-    ap (λ g. shape_fault g (suc left)) (sym (same_ok (member n) f here.1)) ∙ member_within n left (both_true (nat_lt n 64) (contains lists.members n) here.0).0
-form_within lists left read good (choice k list ws) f h =
-    let here = if_ok (good_row k (child_count lists list) ws) (children_at lists left read list >>= λ fs. Ok (at_least k (weighing ws 0 fs))) BadCount f h in
-    let below = bind_ok (children_at lists left read list) (λ fs. Ok (at_least k (weighing ws 0 fs))) f here.1 in
-    let row = children_within lists left read good list below.0 below.1 in
-    ap (λ g. shape_fault g (suc left)) (sym (same_ok (at_least k (weighing ws 0 below.0)) f below.2))
-    ∙ choice_within k left ws below.0 (ap (λ n. good_row k n ws) row.0 ∙ here.0) row.1
+form_within lists left read good (single n) f h = grind (arith, common_steps)
+form_within lists left read good (choice k list ws) f h = grind (arith, common_steps, if_ok, Ok, bind_ok, children_within, same_ok, choice_within)
 
 pub formula_within : (lists : Lists) (left : ℕ) (d : Data) (f : Formula) → formula_at lists left d ≡ Ok f → shape_fault f left ≡ None
 unfolding formula_at
@@ -120,5 +94,4 @@ formula_within lists (suc left) d f h =
 
 -- what is read of few nodes is valid
 pub valid_read : (lists : Lists) (d : Data) (f : Formula) → formula_at lists 6 d ≡ Ok f → nat_le (nodes f) 4096 ≡ true → expression_fault f ≡ None
-valid_read lists d f h few =
-    neither (shape_fault f 6) (if nat_le (nodes f) 4096 then None else Some OverLimit) (formula_within lists 6 d f h) (ap (λ (b : Bool). if b then None else Some OverLimit) few)
+valid_read lists d f h few = grind (arith, common_steps, neither, None, Some, formula_within, Bool)

@@ -1,6 +1,6 @@
 -- Expressions that are rebuilt child by child.
 use Rattle.std.proofs.Common.{◌≡◌, ℕ, suc, ◌+◌, ◌-◌, ◌*◌, ◌<◌, ◌≤◌, List, [], ◌∷◌, ◌++◌, length, get_or, drop, map, arith, refl, ap, subst, ◌∙◌, sym, append_assoc, add-one, drop-cons, Vec, Result, Ok, Fits}
-use mir.Syntax.{w16, w128}
+use mir.Syntax.{w16}
 use Rattle.volume_model.specs.declared.fault.Fault.{Fault}
 use Rattle.std.proofs.lemmas.List.{drop_all, append-nil, map-append}
 use Rattle.quorum_expr.specs.declared.expression.Expr.{Expr}
@@ -53,9 +53,6 @@ counts-children e k of xs is list h =
 -- so many weights are a small number
 pub small_total : (all i n : ℕ) → all ≤ 255 * i → i ≤ n → n ≤ 64 → all ≤ 16320
 small_total all i n h e f = omega arith
-
-pub one_more_fits : (all : ℕ) → all ≤ 16320 → Fits w128 (all + 1)
-one_more_fits all h = omega arith
 
 pub within_all : (n k all whole : ℕ) → n ≡ k → k ≤ whole → all ≡ whole → n ≤ all + 1
 within_all n k all whole h e f = omega arith

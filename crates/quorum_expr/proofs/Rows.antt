@@ -1,16 +1,16 @@
 -- Rows of children whose weights are known before the children are.
 use Rattle.std.proofs.Common.{◌≡◌, ◌≢◌, ℕ, zero, suc, ◌+◌, ◌-◌, ◌*◌, ◌<◌, ◌≤◌, List, [], ◌∷◌, ◌++◌, length, arith, refl, ap, subst, ◌∙◌, sym, Bool, true, false, ◌&&◌, nat_le, Vec}
-use Rattle.std.proofs.lemmas.Bool.Decides.{nat_tests}
 use Rattle.volume_model.specs.Common.{Formula, at_least, no_child, child, formulas, total_weight, each_once}
 use Rattle.volume_model.specs.Formula.{member}
 use Rattle.quorum_expr.specs.declared.expression.Expr.{Expr}
 use Rattle.quorum_expr.specs.declared.expression.Expr.TheVariants.{KOf}
 use Rattle.quorum_expr.specs.Expr.{formula_of, weighed}
-use Rattle.quorum_expr.specs.Valid.{each_fits, good_choice, good_threshold, nodes, row_nodes}
+use Rattle.quorum_expr.specs.Valid.{each_fits, good_choice, nodes, row_nodes}
 use Rattle.quorum_expr.specs.Reading.{Weights, weight_of, weighing, unread, good_row}
 use Rattle.quorum_expr.specs.Forms.{formulas_of, HaveWeights}
 use Rattle.quorum_expr.proofs.ExprLaws.{formula_of-KOf}
 use Rattle.quorum_expr.proofs.Weighed.{fits_more, fits_not, no_room, tested, bad_weight}
+use Rattle.std.proofs.lemmas.Grind.{common_steps}
 
 -- ---- only the weights matter
 
@@ -35,8 +35,7 @@ row-length ws n = ap length (formulas-weighing ws 0 (unread n)) ∙ unread-lengt
 
 -- a row is tested before its children are read
 pub row-read : (k : ℕ) (ws : Weights) (fs : List Formula) → good_choice k (weighing ws 0 fs) ≡ good_row k (length fs) ws
-row-read k ws fs =
-    λ i. fits-unread ws 0 fs i && good_threshold k (total-unread ws 0 fs i) ((ap length (formulas-weighing ws 0 fs) ∙ sym (row-length ws (length fs))) i)
+row-read k ws fs = grind (arith, common_steps, fits-unread, total-unread, formulas-weighing, row-length)
 
 pub nodes-weighing : (ws : Weights) (i : ℕ) (fs : List Formula) → row_nodes (weighing ws i fs) ≡ row_nodes (each_once fs)
 nodes-weighing ws i [] = refl
@@ -54,33 +53,22 @@ pub row-done : (ws : Weights) (n i : ℕ) → n ≤ i → weighing ws i (unread 
 row-done ws n i h = let none : n - i ≡ 0 = omega arith in ap (λ m. weighing ws i (unread m)) none
 
 pub row-fits : (ws : Weights) (n i w : ℕ) (whole : Bool) → i < n → w ≡ weight_of ws i → w ≢ 0 → w ≤ 255 → each_fits (weighing ws i (unread (n - i))) ≡ whole → each_fits (weighing ws (i + 1) (unread (n - (i + 1)))) ≡ whole
-row-fits ws n i w whole h same some few so_far =
-    sym (fits_more w (each_fits (weighing ws (i + 1) (unread (n - (i + 1))))) some few) ∙ ap (λ v. nat_le 1 v && (nat_le v 255 && each_fits (weighing ws (i + 1) (unread (n - (i + 1)))))) same
-    ∙ sym (ap each_fits (row-step ws n i h)) ∙ so_far
+row-fits ws n i w whole h same some few so_far = grind (arith, common_steps, fits_more, row-step)
 
 pub row-total : (ws : Weights) (n i w now all whole : ℕ) → i < n → w ≡ weight_of ws i → now ≡ all + w → all + total_weight (weighing ws i (unread (n - i))) ≡ whole → now + total_weight (weighing ws (i + 1) (unread (n - (i + 1)))) ≡ whole
-row-total ws n i w now all whole h same more so_far =
-    let here : total_weight (weighing ws i (unread (n - i))) ≡ weight_of ws i + total_weight (weighing ws (i + 1) (unread (n - (i + 1)))) = ap total_weight (row-step ws n i h) in
-    omega (arith, here, same, more, so_far)
+row-total ws n i w now all whole h same more so_far = grind (arith, common_steps, row-step)
 
 pub row-long : (k n : ℕ) (ws : Weights) → 64 < n → false ≡ good_row k n ws
 row-long k n ws h = no_room (each_fits (weighing ws 0 (unread n))) k (total_weight (weighing ws 0 (unread n))) _ (subst (λ m. 64 < m) (sym (row-length ws n)) h)
 
 pub row-unfit : (k n i w : ℕ) (ws : Weights) → i < n → w ≡ weight_of ws i → w ≡ 0 → each_fits (weighing ws i (unread (n - i))) ≡ each_fits (weighing ws 0 (unread n)) → false ≡ good_row k n ws
-row-unfit k n i w ws h same none so_far =
-    bad_weight (each_fits (weighing ws 0 (unread n))) _ (sym so_far ∙ ap each_fits (row-step ws n i h) ∙ fits_not (weight_of ws i) (each_fits (weighing ws (i + 1) (unread (n - (i + 1))))) (sym same ∙ none))
+row-unfit k n i w ws h same none so_far = grind (arith, common_steps, bad_weight, row-step, fits_not)
 
 pub row-judged : (k n i all : ℕ) (ws : Weights) → n ≤ 64 → n ≤ i → each_fits (weighing ws i (unread (n - i))) ≡ each_fits (weighing ws 0 (unread n)) → all + total_weight (weighing ws i (unread (n - i))) ≡ total_weight (weighing ws 0 (unread n)) → (nat_le 1 k && nat_le k all) ≡ good_row k n ws
-row-judged k n i all ws few past fits total =
-    let none : total_weight (weighing ws i (unread (n - i))) ≡ 0 = ap total_weight (row-done ws n i past) in
-    let whole : all ≡ total_weight (weighing ws 0 (unread n)) = omega (arith, none, total) in
-    (λ j. nat_le 1 k && nat_le k (whole j))
-    ∙ tested (each_fits (weighing ws 0 (unread n))) k (total_weight (weighing ws 0 (unread n))) _ (sym fits ∙ ap each_fits (row-done ws n i past)) (subst (λ m. m ≤ 64) (sym (row-length ws n)) few)
+row-judged k n i all ws few past fits total = grind (arith, common_steps, row-done, tested, row-length)
 
 pub row-small : (k n all i count : ℕ) → n ≡ k → nat_le n all ≡ true → all ≤ 255 * i → i ≤ count → count ≤ 64 → k ≤ 16320
-row-small k n all i count same held low within few =
-    let below : n ≤ all = grind (arith, nat_tests, held) in
-    omega (arith, same, below, low, within, few)
+row-small k n all i count same held low within few = grind (arith, common_steps)
 
 -- ---- children with the weights of a row
 

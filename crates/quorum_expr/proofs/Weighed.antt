@@ -54,12 +54,6 @@ fits_more w b some small = grind (arith, nat_tests)
 pub fits_not : (w : ℕ) (b : Bool) → w ≡ 0 → (nat_le 1 w && (nat_le w 255 && b)) ≡ false
 fits_not w b none = grind (arith, nat_tests)
 
--- a good weight leaves the question to those after it
-pub fits-step : {X : Type 0} (f : X → Formula) (xs : List (ℕ × X)) (i : ℕ) (x : ℕ × X) (w : ℕ) (whole : Bool) → i < length xs → x ≡ get_or xs i x → w ≡ x.0 → x.0 ≢ 0 → w ≤ 255
-    → each_fits (weighed f (drop i xs)) ≡ whole → each_fits (weighed f (drop (i + 1) xs)) ≡ whole
-fits-step f xs i x w whole h is same some small so_far =
-    sym (fits_more x.0 (each_fits (weighed f (drop (i + 1) xs))) some (subst (λ n. n ≤ 255) same small)) ∙ sym (ap each_fits (weighed-step f xs i x h is)) ∙ so_far
-
 -- a weight of 0 is none
 pub fits-none : {X : Type 0} (f : X → Formula) (xs : List (ℕ × X)) (i : ℕ) (x : ℕ × X) → i < length xs → x ≡ get_or xs i x → x.0 ≡ 0 → each_fits (weighed f (drop i xs)) ≡ false
 fits-none f xs i x h is none = ap each_fits (weighed-step f xs i x h is) ∙ fits_not x.0 (each_fits (weighed f (drop (i + 1) xs))) none

@@ -7,6 +7,7 @@ use Rattle.quorum_expr.proofs.Held.{missing_less, missing_same, sat-Member, sat-
 use Rattle.quorum_expr.proofs.Smaller.{smaller}
 use Rattle.quorum_expr.proofs.expression.+holds.Goals as goal
 use Rattle.quorum_expr.proofs.expression.+holds.Goals.{in-Member-child, in-KOf-child, then-is_held, else-is_held}
+use Rattle.std.proofs.Common.{rules}
 
 pub returns-in-Member : goal.returns-in-Member
 returns-in-Member g t c = c.contains.ensures.is_in ∙ sym (sat-Member c.args.expr.now c.in-Member.member (set.contains c.args.members) c.in-Member.is)
@@ -18,10 +19,7 @@ pub offset_bounds-weight-items-weight-index : goal.offset_bounds-weight-items-we
 offset_bounds-weight-items-weight-index g t c = le_of_lt c.loop-weight-test.true
 
 pub holds-is_held-requires : goal.holds-is_held-requires
-holds-is_held-requires g t c κs within = (
-  smaller c.args.expr.now c.in-KOf.k c.in-KOf.of c.deref-weight-items.result.now c.loop-weight.weight-index c.loop-weight-item.result t c.in-KOf.is c.deref-weight-items.ensures.value c.loop-weight-test.true c.loop-weight-item.is c.decreases,
-  within,
-)
+holds-is_held-requires g t c κs within = search (rules, c.in-KOf.is, c.deref-weight-items.ensures.value, c.loop-weight-test.true, c.loop-weight-item.is, smaller)
 
 pub loop-weight-smaller : goal.loop-weight-smaller
 loop-weight-smaller g t c = falls _ _ c.loop-weight-test.true

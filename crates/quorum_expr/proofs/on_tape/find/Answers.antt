@@ -3,6 +3,7 @@ use Rattle.std.specs.Str.{bytes_eq}
 use Rattle.json.specs.Json.{Json, object, no_members}
 use Rattle.json.specs.Find.{NextMember, Finds, later_or, get_member, get, as_object}
 use Rattle.quorum_expr.proofs.on_tape.find.Goals as goal
+use Rattle.std.proofs.lemmas.Grind.{common_steps}
 
 get_nothing : (name : List ℕ) (j : Json) → as_object j ≡ None → Finds None (get name j)
 get_nothing name (object ms) h = absurd (cc)
@@ -17,9 +18,7 @@ newer None j p = refl
 newer (Some k) j p = refl
 
 pub returns-in_err-members : goal.returns-in_err-members
-returns-in_err-members c j begins =
-    let gone : c.from_residual.result ≡ None = grind arith in
-    subst (λ r. Finds r (get c.args.key.now j)) (sym gone) (get_nothing c.args.key.now j (c.in_err-members.ensures j begins))
+returns-in_err-members c j begins = grind (arith, common_steps, c.in_err-members.ensures, None, get_nothing)
 
 pub loop-name-init : goal.loop-name-init
 loop-name-init c j begins =

@@ -1,19 +1,14 @@
-use Rattle.std.proofs.Common.{◌-◌, ◌∙◌, ap, refl, sym, subst, map, Ok, arith, rules}
+use Rattle.std.proofs.Common.{◌-◌, refl, Ok, arith, rules}
 use Rattle.std.proofs.lemmas.Grind.{common_steps}
 use Rattle.std.proofs.lemmas.Result.{err_from_is_err_and}
-use Rattle.volume_model.specs.Common.{Gives, listed}
-use Rattle.volume_model.specs.Formula.{member}
-use Rattle.quorum_expr.specs.Forms.{formulas_of, child_list, weights_data, form_data}
-use Rattle.quorum_expr.specs.Reading.{children_at, formula_at}
+use Rattle.quorum_expr.specs.Forms.{weights_data, form_data}
 use Rattle.quorum_expr.proofs.MemberLists.{pushed_nodes}
 use Rattle.quorum_expr.proofs.Rows.{weights_pushed, choice_read, nodes-weighing}
 use Rattle.quorum_expr.proofs.Levels.{too_deep, one_level, no_form, some_level}
 use Rattle.quorum_expr.proofs.reading.+tree.Goals as goal
 
 pub tree-returns-in_err-form-clause-read : goal.tree-returns-in_err-form-clause-read
-tree-returns-in_err-form-clause-read g t c =
-    let p = err_from_is_err_and c.from_residual.result c.from_residual.ensures.1 in
-    rw (p.1, p.2) (no_form c.args.lists.now c.args.left (g.N.Node.means c.args.value.now) c.in_err-form.field-0.0 c.in_err-form.ensures)
+tree-returns-in_err-form-clause-read g t c = grind (arith, common_steps, c.from_residual.ensures.1, c.in_err-form.ensures, err_from_is_err_and, no_form)
 
 pub tree-returns-then-left-eq0-clause-read : goal.tree-returns-then-left-eq0-clause-read
 tree-returns-then-left-eq0-clause-read g t c = too_deep _ _ _ (form_data g.N.Node.means c.in_ok-form.form) (omega arith) c.in_ok-form.ensures
@@ -22,18 +17,10 @@ pub tree-returns-clause-read : goal.tree-returns-clause-read
 tree-returns-clause-read g t c = rw (one_level _ c.args.left (c.args.left - 1) _ (form_data g.N.Node.means c.in_ok-form.form) (omega arith) c.in_ok-form.ensures) c.tree_of_form.ensures.read
 
 pub child_trees-children-preserved : goal.child_trees-children-preserved
-child_trees-children-preserved g t c = record {
-  read = grind (arith, common_steps, c.in-Some-next.ensures);
-  weights = weights_pushed (weights_data c.args.weights.now) _ _ _ c.len.result c.in_ok-push-in-Each.ensures.items (search rules) c.at-weight.ensures c.children.invariant.weights;
-  counted = rw (c.in_ok-push-in-Each.ensures.items, pushed_nodes) (omega (arith, c.children.invariant.counted, c.in_ok-tree-in-Each.ensures.counted));
-}
+child_trees-children-preserved g t c = grind (arith, common_steps, c.in-Some-next.ensures, c.in_ok-push-in-Each.ensures.items, c.at-weight.ensures, c.children.invariant.weights, c.children.invariant.counted, c.in_ok-tree-in-Each.ensures.counted, weights_pushed, pushed_nodes)
 
 pub child_trees-returns-else-left-eq0-clause-read : goal.child_trees-returns-else-left-eq0-clause-read
-child_trees-returns-else-left-eq0-clause-read g t c =
-    subst (λ d. Gives (λ v. formulas_of v.items) c.each_member.result d)
-    (ap (λ s. Ok (map member (listed s))) c.named.ensures ∙ sym (some_level c.args.left _ (omega arith))
-    ∙ ap (λ l. children_at c.args.lists.now c.args.left (formula_at c.args.lists.now c.args.left) (child_list g.N.Node.means l)) (sym c.in-Named.is))
-    c.each_member.ensures.read
+child_trees-returns-else-left-eq0-clause-read g t c = grind (arith, common_steps, c.named.ensures, c.in-Named.is, c.each_member.ensures.read, Ok, some_level)
 
 pub tree_of_form-returns-in_ok-of-in-Choice-clause-read : goal.tree_of_form-returns-in_ok-of-in-Choice-clause-read
 tree_of_form-returns-in_ok-of-in-Choice-clause-read g t c =

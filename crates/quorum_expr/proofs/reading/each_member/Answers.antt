@@ -1,25 +1,20 @@
-use Rattle.std.proofs.Common.{◌++◌, ◌∷◌, ◌∙◌, ap, sym, length, map, arith, Ok, rules}
+use Rattle.std.proofs.Common.{◌++◌, ◌∷◌, ◌∙◌, ap, sym, map, arith, Ok, rules}
 use Rattle.volume_model.specs.Formula.{member}
 use Rattle.volume_model.specs.Common.{listed}
 use Rattle.quorum_expr.specs.Forms.{formulas_of, weights_data}
 use Rattle.quorum_expr.proofs.MemberLists.{empty_listed, first_removed, member_moved, member_counted, nil_right}
 use Rattle.quorum_expr.proofs.Rows.{weights_pushed}
 use Rattle.quorum_expr.proofs.reading.each_member.Goals as goal
+use Rattle.std.proofs.lemmas.Grind.{common_steps}
 
 pub without-rest-requires : goal.without-rest-requires
 without-rest-requires c = (first_removed c.loop-m.rest c.in-Some.m c.in-Some.ensures.first c.in-Some.ensures.least.0 c.in-Some.ensures.least.1).0
 
 pub loop-m-init : goal.loop-m-init
-loop-m-init c = record {
-  read = ap (λ es. formulas_of es ++ map member (listed c.args.members)) c.in_ok-of.ensures.items;
-  weights = rw c.in_ok-of.ensures.items tt;
-  counted = rw c.in_ok-of.ensures.items (omega arith);
-}
+loop-m-init c = grind (arith, common_steps)
 
 pub loop-m-smaller : goal.loop-m-smaller
-loop-m-smaller c =
-    let next = (first_removed c.loop-m.rest c.in-Some.m c.in-Some.ensures.first c.in-Some.ensures.least.0 c.in-Some.ensures.least.1).1 in
-    omega (arith, ap length next, ap (λ s. length (listed s)) c.without-rest.ensures)
+loop-m-smaller c = grind (arith, common_steps, c.in-Some.ensures.first, c.in-Some.ensures.least.0, c.in-Some.ensures.least.1, c.without-rest.ensures, first_removed)
 
 pub loop-m-preserved : goal.loop-m-preserved
 loop-m-preserved c =

@@ -2,16 +2,15 @@ use Rattle.std.proofs.Common.{Ok, Err, sym, ap, ◌∙◌, if◌then◌else◌}
 use Rattle.std.proofs.lemmas.Result.{err_from_is_err_and}
 use Rattle.volume_model.specs.Common.{◌>>=◌}
 use Rattle.volume_model.specs.declared.fault.Fault.TheVariants.{Malformed}
-use Rattle.quorum_expr.specs.Reading.{choice_of, single, whole_of}
+use Rattle.quorum_expr.specs.Reading.{choice_of, single}
 use Rattle.quorum_expr.proofs.Levels.{Fails-at}
 use Rattle.quorum_expr.proofs.NodeForms.{number_form, keyed_form, no_form}
 use Rattle.quorum_expr.proofs.reading.form_at.Goals as goal
+use Rattle.std.proofs.lemmas.Grind.{common_steps}
+use Rattle.std.proofs.Common.{arith}
 
 pub returns-in_err-whole : goal.returns-in_err-whole
-returns-in_err-whole g c =
-    let p = err_from_is_err_and c.from_residual.result c.from_residual.ensures.1 in
-    rw (p.1, p.2, number_form c.args.lists.now (g.N.Node.means c.args.value.now) (sym c.if-is_number.ensures))
-    (Fails-at c.in_err-whole.field-0.0 (whole_of (g.N.Node.means c.args.value.now)) (whole_of (g.N.Node.means c.args.value.now) >>= λ m. Ok (single m)) (λ e. ap (λ r. r >>= λ m. Ok (single m)) e) c.in_err-whole.ensures.given)
+returns-in_err-whole g c = grind (arith, common_steps, c.from_residual.ensures.1, c.if-is_number.ensures, c.in_err-whole.ensures.given, err_from_is_err_and, number_form, Fails-at, Ok)
 
 pub returns-then-is_number : goal.returns-then-is_number
 returns-then-is_number g c = number_form c.args.lists.now (g.N.Node.means c.args.value.now) (sym c.if-is_number.ensures) ∙ ap (λ r. r >>= λ m. Ok (single m)) c.in_ok-whole.ensures.given

@@ -8,6 +8,7 @@ use Rattle.quorum_expr.proofs.Rebuilt.{pushed, finish, copy_of-Member, given, Ok
 use Rattle.quorum_expr.proofs.Weighed.{seen, weighed-same}
 use Rattle.quorum_expr.proofs.Smaller.{smaller}
 use Rattle.quorum_expr.proofs.rebuilding.+copy_in.Goals as goal
+use Rattle.std.proofs.Common.{rules}
 
 pub returns-in-Member : goal.returns-in-Member
 returns-in-Member g t c = Ok-same (copy_of-Member _ c.args.expr.now c.in-Member.member c.in-Member.is)
@@ -34,10 +35,7 @@ pub offset_bounds-weight-items-weight-index : goal.offset_bounds-weight-items-we
 offset_bounds-weight-items-weight-index g t c = le_of_lt c.loop-weight-test.true
 
 pub copy_in-requires : goal.copy_in-requires
-copy_in-requires g t c κs within = (
-  smaller c.args.expr.now c.in-KOf.k c.in-KOf.of c.deref-weight-items.result.now c.loop-weight.weight-index c.loop-weight-item.result t c.in-KOf.is c.deref-weight-items.ensures.value c.loop-weight-test.true c.loop-weight-item.is c.decreases,
-  within,
-)
+copy_in-requires g t c κs within = search (rules, c.in-KOf.is, c.deref-weight-items.ensures.value, c.loop-weight-test.true, c.loop-weight-item.is, smaller)
 
 pub loop-weight-smaller : goal.loop-weight-smaller
 loop-weight-smaller g t c = falls _ _ c.loop-weight-test.true

@@ -1,14 +1,16 @@
-use Rattle.std.proofs.Common.{◌+◌, ◌-◌, ◌++◌, refl, ap, ◌∙◌, sym, map, falls}
+use Rattle.std.proofs.Common.{◌+◌, ◌-◌, ◌++◌, ap, ◌∙◌, sym, map, falls}
 use Rattle.std.proofs.Math.Nat.{le_of_lt, le_refl}
 use Rattle.volume_model.specs.Common.{at_least, total_weight, dual_of}
 use Rattle.quorum_expr.specs.Expr.{formula_of, weighed}
 use Rattle.quorum_expr.proofs.ExprLaws.{formula_of-KOf}
 use Rattle.quorum_expr.proofs.Handed.{wants, handed}
-use Rattle.quorum_expr.proofs.Rebuilt.{pushed, finish, counts_step, counts-KOf, counts-children, small_total, one_more_fits, within_all, rest_fits, dual_of-Member, dual_of-KOf, given, Ok-same}
+use Rattle.quorum_expr.proofs.Rebuilt.{pushed, finish, counts_step, counts-KOf, counts-children, small_total, within_all, rest_fits, dual_of-Member, dual_of-KOf, given, Ok-same}
 use Rattle.quorum_expr.proofs.Weighed.{seen, weighed-same, total-step, total-done}
 use Rattle.quorum_expr.proofs.Held.{none_yet, few_more}
 use Rattle.quorum_expr.proofs.Smaller.{smaller}
 use Rattle.quorum_expr.proofs.rebuilding.+dual_formula.Goals as goal
+use Rattle.std.proofs.lemmas.Grind.{common_steps}
+use Rattle.std.proofs.Common.{arith}
 
 pub returns-in-Member : goal.returns-in-Member
 returns-in-Member g t c = Ok-same (dual_of-Member _ c.args.expr.now c.in-Member.member c.in-Member.is)
@@ -49,19 +51,10 @@ dual_formula-requires g t c κs within = (
 )
 
 pub loop-weight-preserved : goal.loop-weight-preserved
-loop-weight-preserved g t c = record {
-  so_far = pushed (seen formula_of) (seen (λ e. dual_of (formula_of e))) _ _ c.loop-weight-item.result _ _ _ _ c.in_ok-push-in-KOf.ensures.items (ap (λ f. (c.loop-weight-item.result.0, f)) (given _ _ c.in_ok-dual_formula-in-KOf.ensures)) c.loop-weight-test.true c.loop-weight-item.is c.loop-weight.invariant.so_far;
-  counts = (counts_step _ _ c.loop-weight-item.result c.loop-weight-test.true c.loop-weight-item.is c.loop-weight.invariant.counts).1;
-  total = total-step formula_of c.deref-weight-items.result.now c.loop-weight.weight-index c.loop-weight-item.result _ _ _ c.loop-weight-test.true c.loop-weight-item.is (ap (λ n. c.loop-weight.all + n) c.wide.ensures.same) c.loop-weight.invariant.total;
-  low = few_more _ _ c.wide.result c.loop-weight.weight-index c.wide.ensures.small refl c.loop-weight.invariant.low;
-}
+loop-weight-preserved g t c = grind (arith, common_steps, c.in_ok-push-in-KOf.ensures.items, c.in_ok-dual_formula-in-KOf.ensures, c.loop-weight-test.true, c.loop-weight-item.is, c.loop-weight.invariant.so_far, c.loop-weight.invariant.counts, c.wide.ensures.same, c.loop-weight.invariant.total, c.wide.ensures.small, c.loop-weight.invariant.low, pushed, seen, given, counts_step, total-step, few_more)
 
 pub overflow_add-result : goal.overflow_add-result
-overflow_add-result g t c =
-    let counts = counts-KOf c.args.expr.now c.in-KOf.k c.in-KOf.of c.deref-weight-items.result.now c.in-KOf.is c.deref-weight-items.ensures.value c.requires in
-    let whole = total-done formula_of c.deref-weight-items.result.now c.loop-weight.weight-index c.loop-weight.all _ c.loop-weight-test.false c.loop-weight.invariant.total in
-    let low = small_total c.loop-weight.all c.loop-weight.weight-index _ c.loop-weight.invariant.low c.loop-weight.auto.weight-index-end counts.2 in
-    one_more_fits c.loop-weight.all low
+overflow_add-result g t c = grind (arith, common_steps)
 
 pub overflow_sub-result : goal.overflow_sub-result
 overflow_sub-result g t c =

@@ -4,6 +4,8 @@ use Rattle.quorum_expr.specs.Expr.{formula_of, weighed}
 use Rattle.quorum_expr.specs.Valid.{or_then, good_choice, row_fault}
 use Rattle.quorum_expr.proofs.Tested.{no_choice, row-is, row_step, row_done, row_skipped, no_level, good_member, bad_member, counted_member, counted_step, counted_all, one_fewer, some_positive}
 use Rattle.quorum_expr.proofs.validity.+fault_within.Goals as goal
+use Rattle.std.proofs.lemmas.Grind.{common_steps}
+use Rattle.std.proofs.Common.{arith}
 
 pub returns-then-levels-eq0-clause-fault : goal.returns-then-levels-eq0-clause-fault
 returns-then-levels-eq0-clause-fault g t c = no_level (formula_of c.args.expr.now) c.args.levels c.if-levels-eq0.true
@@ -42,14 +44,10 @@ pub loop-child-smaller : goal.loop-child-smaller
 loop-child-smaller g t c = falls _ _ c.loop-child-test.true
 
 pub loop-child-preserved : goal.loop-child-preserved
-loop-child-preserved g t c = record {
-  fault = row_skipped c.deref-child-items.result.now c.loop-child.child-index (c.args.levels - 1) c.loop-child-item.result _ c.loop-child-test.true c.loop-child-item.is c.in_default.ensures.fault c.loop-child.invariant.fault;
-  counted = counted_step c.deref-child-items.result.now c.loop-child.child-index c.loop-child-item.result _ c.loop-child.room _ c.loop-child-test.true c.loop-child-item.is c.in_default.ensures.counted c.loop-child.invariant.counted;
-}
+loop-child-preserved g t c = search (rules, c.loop-child-test.true, c.loop-child-item.is, c.in_default.ensures.fault, c.loop-child.invariant.fault, c.in_default.ensures.counted, c.loop-child.invariant.counted, row_skipped, counted_step)
 
 pub returns-after-loop-child-clause-counted : goal.returns-after-loop-child-clause-counted
-returns-after-loop-child-clause-counted g t c =
-    counted_all c.args.expr.now c.in-KOf.k c.in-KOf.of c.deref-child-items.result.now c.loop-child.child-index _ c.saturating_sub.result c.args.room.now c.in-KOf.is c.deref-child-items.ensures.value c.loop-child-test.false c.saturating_sub.ensures c.loop-child.invariant.counted
+returns-after-loop-child-clause-counted g t c = search (rules, c.in-KOf.is, c.deref-child-items.ensures.value, c.loop-child-test.false, c.saturating_sub.ensures, c.loop-child.invariant.counted, counted_all)
 
 pub returns-then-not-is_good_choice-clause-fault : goal.returns-then-not-is_good_choice-clause-fault
 returns-then-not-is_good_choice-clause-fault g t c =
@@ -58,9 +56,7 @@ returns-then-not-is_good_choice-clause-fault g t c =
 
 pub returns-in-Some-clause-fault : goal.returns-in-Some-clause-fault
 returns-in-Some-clause-fault g t c =
-    let good : c.is_good_choice.result ≡ true = search rules in
-    let choice : good_choice c.in-KOf.k (weighed formula_of c.deref-child-items.result.now) ≡ true =
-    ap (λ ys. good_choice c.in-KOf.k (weighed formula_of ys)) (c.deref-child-items.ensures.value ∙ sym c.as_slice.ensures.value) ∙ sym c.is_good_choice.ensures ∙ good in
+    let choice : good_choice c.in-KOf.k (weighed formula_of c.deref-child-items.result.now) ≡ true = grind (arith, common_steps) in
     let row : row_fault (weighed formula_of c.deref-child-items.result.now) (c.args.levels - 1) ≡ Some c.in-Some.fault =
     sym c.loop-child.invariant.fault ∙ row_step c.deref-child-items.result.now c.loop-child.child-index (c.args.levels - 1) c.loop-child-item.result c.loop-child-test.true c.loop-child-item.is
     ∙ ap (λ o. or_then o (row_fault (weighed formula_of (drop (c.loop-child.child-index + 1) c.deref-child-items.result.now)) (c.args.levels - 1))) (sym c.fault_within.ensures.fault ∙ c.in-Some.is) in
@@ -68,8 +64,6 @@ returns-in-Some-clause-fault g t c =
 
 pub returns-after-loop-child-clause-fault : goal.returns-after-loop-child-clause-fault
 returns-after-loop-child-clause-fault g t c =
-    let good : c.is_good_choice.result ≡ true = search rules in
-    let choice : good_choice c.in-KOf.k (weighed formula_of c.deref-child-items.result.now) ≡ true =
-    ap (λ ys. good_choice c.in-KOf.k (weighed formula_of ys)) (c.deref-child-items.ensures.value ∙ sym c.as_slice.ensures.value) ∙ sym c.is_good_choice.ensures ∙ good in
+    let choice : good_choice c.in-KOf.k (weighed formula_of c.deref-child-items.result.now) ≡ true = grind (arith, common_steps) in
     row-is c.args.expr.now c.in-KOf.k c.in-KOf.of c.deref-child-items.result.now c.args.levels None c.if-levels-eq0.false c.in-KOf.is c.deref-child-items.ensures.value choice
     (sym c.loop-child.invariant.fault ∙ row_done c.deref-child-items.result.now c.loop-child.child-index (c.args.levels - 1) c.loop-child-test.false)
