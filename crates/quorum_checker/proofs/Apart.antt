@@ -1,5 +1,5 @@
 -- Two sets that are left of a claim's named members are a witness.
-use Rattle.std.proofs.Common.{◌≡◌, ◌∙◌, ℕ, zero, suc, ◌<◌, ◌≤◌, Bool, true, false, List, [], ◌∷◌, ◌++◌, refl, sym, ap, subst, inl, inr, arith, not, ◌&&◌, nat_lt, if◌then◌else◌, lt-ltb}
+use Rattle.std.proofs.Common.{◌≡◌, ◌∙◌, ℕ, zero, suc, ◌<◌, ◌≤◌, Bool, true, false, List, [], ◌∷◌, ◌++◌, refl, sym, ap, inl, inr, arith, not, ◌&&◌, nat_lt, if◌then◌else◌, lt-ltb}
 use Rattle.std.specs.Ordering.{nat_cmp}
 use Rattle.std.specs.Cmp.{nat_cmp_total}
 use Rattle.std.specs.FinSet.{FinSet, empty, contains, difference, contains-difference, contains-intersection}
@@ -15,6 +15,7 @@ use Rattle.quorum_checker.specs.Cases.{present, AreSmall}
 use Rattle.quorum_checker.specs.Decision.{AreApart, common}
 use Rattle.quorum_checker.proofs.Named.{sat-named, named-below}
 use Rattle.quorum_checker.proofs.Complete.{AreLeft}
+use Rattle.std.proofs.lemmas.Grind.{common_steps}
 
 parts_of : (p q : Bool) → (p && not q) ≡ true → (p ≡ true) × (q ≡ false)
 parts_of true true e = absurd cc
@@ -46,10 +47,7 @@ still_satisfies f a h =
     ∙ h
   where
     outside : (x : ℕ) → nat_lt x 64 ≡ false → contains (named f) x ≡ false
-    outside x high = elim (contains (named f) x) as (λ b. contains (named f) x ≡ b → b ≡ false) [
-      | true ↦ λ is. absurd (never (nat_lt x 64) (lt-ltb x 64 (named-below f x is)) high)
-      | false ↦ λ is. refl
-    ] refl
+    outside x high = grind (arith, common_steps, never, lt-ltb, named-below)
 
 pub in_common : {A : Type 0} (claim : Claim A) (x : ℕ) → contains (named (formula_of claim.left)) x ≡ true → contains claim.clear x ≡ false → contains (named (formula_of claim.right)) x ≡ true → contains (common claim) x ≡ true
 in_common claim x left free right =
@@ -86,11 +84,7 @@ small_append (x ∷ xs) ys h i = (h.0, small_append xs ys h.1 i)
 
 small_below : (n : ℕ) (test : ℕ → Bool) → n ≤ 64 → AreSmall (each_below n test (λ x. x))
 small_below zero test h = tt
-small_below (suc n) test h = small_append (each_below n test (λ x. x)) (if test n then n ∷ [] else []) (small_below n test (omega arith)) (one (test n))
-  where
-    one : (b : Bool) → AreSmall (if b then n ∷ [] else [])
-    one true = (omega arith, tt)
-    one false = tt
+small_below (suc n) test h = grind (arith, common_steps, small_append, Bool, (small_below n test (omega arith)))
 
 pub listed_small : (s : FinSet nat_cmp) → AreSmall (listed s)
 listed_small s = small_below 64 (contains s) (omega arith)
@@ -111,9 +105,7 @@ in_below zero x test h i = absurd (omega arith)
 in_below (suc n) x test h i =
     elim (nat_lt x n) as (λ b. nat_lt x n ≡ b → IsIn x (each_below n test (λ y. y) ++ (if test n then n ∷ [] else []))) [
       | true ↦ λ e. in_append_left x (each_below n test (λ y. y)) (if test n then n ∷ [] else []) (in_below n x test (grind (arith, nat_tests, e)) i)
-      | false ↦ λ e.
-          let is : x ≡ n = grind (arith, nat_tests, e, h) in
-          in_append_right x (each_below n test (λ y. y)) (if test n then n ∷ [] else []) (subst (λ (b : Bool). IsIn x (if b then n ∷ [] else [])) (sym (ap test (sym is) ∙ i)) (inl is))
+      | false ↦ grind (arith, common_steps, nat_tests, in_append_right)
     ] refl
 
 pub in_listed : (s : FinSet nat_cmp) (x : ℕ) → x < 64 → contains s x ≡ true → IsIn x (listed s)

@@ -1,5 +1,5 @@
 -- The cases of members refute a claim, or leave two sets that satisfy both sides.
-use Rattle.std.proofs.Common.{◌≡◌, ◌∙◌, ℕ, zero, suc, ◌+◌, ◌*◌, ◌^◌, ◌≤◌, Bool, true, false, List, [], ◌∷◌, refl, ap, subst, inl, inr, arith, length, lit≤, ◌⊎◌, ◌&&◌, ◌||◌, max, nat_lt, nat_eq, if◌then◌else◌, lt-ltb}
+use Rattle.std.proofs.Common.{◌≡◌, ◌∙◌, ℕ, zero, suc, ◌+◌, ◌*◌, ◌^◌, ◌≤◌, Bool, true, false, List, [], ◌∷◌, refl, ap, subst, inl, inr, arith, length, lit≤, ◌⊎◌, ◌&&◌, max, nat_lt, nat_eq, if◌then◌else◌, lt-ltb}
 use Rattle.std.proofs.Math.Nat.{pow-suc}
 use Rattle.std.specs.Ordering.{nat_cmp}
 use Rattle.std.specs.FinSet.{FinSet, contains, insert}
@@ -10,6 +10,7 @@ use Rattle.refutation.specs.Common.{Rule, dead, split, depth_of, nodes_of, keeps
 use Rattle.refutation.specs.declared.Side.TheVariants.{Left, Right}
 use Rattle.quorum_checker.specs.Refutes.{Refutes}
 use Rattle.quorum_checker.specs.Cases.{Cases, refuted, apart, present, ends, both, cases, state_of, AreSmall}
+use Rattle.std.proofs.lemmas.Grind.{common_steps}
 
 -- ---- what they find refutes
 
@@ -30,8 +31,7 @@ both_in x (refuted s) (refuted t) rule e = (s, t, refl, refl, cc)
 
 pub refutes : (ms : List ℕ) (f g : Formula) (a b : FinSet nat_cmp) (rule : Rule) → cases ms f g a b ≡ refuted rule → Refutes rule (state_of f g a b)
 unfolding cases
-refutes [] f g a b rule e =
-    ends_in (λ r. Refutes r (state_of f g a b)) f g a b (apart a b) rule (λ none. (f, refl, none)) (λ none. (g, refl, none)) (λ h. absurd cc) e
+refutes [] f g a b rule e = grind (arith, common_steps)
 refutes (x ∷ xs) f g a b rule e =
     ends_in (λ r. Refutes r (state_of f g a b)) f g a b (both x (cases xs f g (insert a x) b) (cases xs f g a (insert b x))) rule (λ none. (f, refl, none)) (λ none. (g, refl, none)) (λ h.
     let parts = both_in x (cases xs f g (insert a x) b) (cases xs f g a (insert b x)) rule h in
@@ -68,8 +68,7 @@ leaf rule n one fine single = record { levels = omega (arith, one); lists = fine
 
 pub within : (ms : List ℕ) (f g : Formula) (a b : FinSet nat_cmp) (rule : Rule) → AreSmall ms → cases ms f g a b ≡ refuted rule → IsWithin (length ms) rule
 unfolding cases
-within [] f g a b rule small e =
-    ends_in (IsWithin 0) f g a b (apart a b) rule (λ _. leaf (dead Left 0) 0 refl refl refl) (λ _. leaf (dead Right 0) 0 refl refl refl) (λ h. absurd cc) e
+within [] f g a b rule small e = grind (arith, common_steps)
 within (x ∷ xs) f g a b rule small e =
     ends_in (IsWithin (suc (length xs))) f g a b (both x (cases xs f g (insert a x) b) (cases xs f g a (insert b x))) rule (λ _. leaf (dead Left 0) (suc (length xs)) refl refl refl) (λ _. leaf (dead Right 0) (suc (length xs)) refl refl refl) (λ h.
     let parts = both_in x (cases xs f g (insert a x) b) (cases xs f g a (insert b x)) rule h in
@@ -106,57 +105,21 @@ both_apart x (refuted s) (apart a b) p q e = inr e
 both_apart x (refuted s) (refuted t) p q e = absurd cc
 
 in_inserted : (s : FinSet nat_cmp) (k x : ℕ) → contains s x ≡ true → contains (insert s k) x ≡ true
-in_inserted s k x h = contains-put s k x ∙ or_right (nat_eq x k) (contains s x) h
-  where
-    or_right : (p q : Bool) → q ≡ true → (p || q) ≡ true
-    or_right true q h = refl
-    or_right false q h = h
+in_inserted s k x h = grind (arith, common_steps, contains-put, nat_eq, Bool)
 
 is_inserted : (s : FinSet nat_cmp) (k x : ℕ) → x ≡ k → contains (insert s k) x ≡ true
-is_inserted s k x h = contains-put s k x ∙ or_left (nat_eq x k) (contains s x) (grind (arith, nat_tests, h))
-  where
-    or_left : (p q : Bool) → p ≡ true → (p || q) ≡ true
-    or_left true q h = refl
-    or_left false q h = absurd cc
+is_inserted s k x h = grind (arith, common_steps, contains-put, nat_eq, nat_tests, Bool)
 
 pub leaves : (ms : List ℕ) (f g : Formula) (a b p q : FinSet nat_cmp) → cases ms f g a b ≡ apart p q → AreLeft ms f g a b p q
 unfolding cases
-leaves [] f g a b p q e =
-    ends_apart (AreLeft [] f g a b) f g a b p q (apart a b) (λ held too is.
-    let one : a ≡ p = cc in
-    let other : b ≡ q = cc in
-    record {
-      more_left = λ x h. subst (λ s. contains s x ≡ true) one h;
-      more_right = λ x h. subst (λ s. contains s x ≡ true) other h;
-      satisfies_left = subst (λ s. sat f (present s) ≡ true) one held;
-      satisfies_right = subst (λ s. sat g (present s) ≡ true) other too;
-      covered = λ x h. absurd h;
-    }) e
+leaves [] f g a b p q e = grind (arith, common_steps)
 leaves (x ∷ xs) f g a b p q e =
     ends_apart (AreLeft (x ∷ xs) f g a b) f g a b p q (both x (cases xs f g (insert a x) b) (cases xs f g a (insert b x))) (λ held too is.
     elim (both_apart x (cases xs f g (insert a x) b) (cases xs f g a (insert b x)) p q is) [
       | inl found ↦
           let w = leaves xs f g (insert a x) b p q found in
-          record {
-            more_left = λ y h. w.more_left y (in_inserted a x y h);
-            more_right = w.more_right;
-            satisfies_left = w.satisfies_left;
-            satisfies_right = w.satisfies_right;
-            covered = λ y h. elim h [
-              | inl same ↦ inl (w.more_left y (is_inserted a x y same))
-              | inr later ↦ w.covered y later
-            ];
-          }
+          grind (arith, common_steps, in_inserted, is_inserted)
       | inr found ↦
           let w = leaves xs f g a (insert b x) p q found in
-          record {
-            more_left = w.more_left;
-            more_right = λ y h. w.more_right y (in_inserted b x y h);
-            satisfies_left = w.satisfies_left;
-            satisfies_right = w.satisfies_right;
-            covered = λ y h. elim h [
-              | inl same ↦ inr (w.more_right y (is_inserted b x y same))
-              | inr later ↦ w.covered y later
-            ];
-          }
+          grind (arith, common_steps, in_inserted, is_inserted)
     ]) e

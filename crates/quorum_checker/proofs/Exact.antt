@@ -3,7 +3,7 @@ use Rattle.std.proofs.Common.{◌≡◌, ℕ, zero, suc, ◌+◌, ◌<◌, List,
 use Rattle.std.specs.List.{list_any, IsDistinct, AllByRecursion}
 use Rattle.std.specs.FinSet.{contains, difference}
 use Rattle.std.proofs.lemmas.Bool.Decides.{nat_tests}
-use Rattle.volume_model.specs.Common.{Formula, Children, at_least, sat, total_weight, formulas, each_weighs, EachWeighs}
+use Rattle.volume_model.specs.Common.{Formula, Children, at_least, sat, total_weight, formulas, EachWeighs}
 use Rattle.volume_model.specs.Formula.{member}
 use Rattle.volume_model.proofs.FormulaLaws.{EachWeighs-from, EachWeighs-to}
 use Rattle.quorum_expr.specs.Common.{all_members}
@@ -16,6 +16,7 @@ use Rattle.quorum_checker.specs.declared.fault.FaultAt.{FaultAt}
 use Rattle.quorum_checker.specs.Refutes.{State, items_of, absent_of, replaced, paired, without, picked_weight, paired_weight, Refutes, RefutesPicked, RefutesPaired}
 use Rattle.quorum_checker.specs.FirstFault.{good_places, children_of, dead_fault, clash_fault, open_fault, pick_fault, pair_fault, or_else, first_of, under, at_item, place, first_fault, first_picked, first_paired}
 use Rattle.quorum_checker.proofs.Nodes.{split_places, no_pick, no_pair, equal, both_true}
+use Rattle.std.proofs.lemmas.Grind.{common_steps}
 
 at_none : (o : Option Formula) (found : Formula → Option FaultAt) → at_item o found ≡ None → (f : Formula) × (o ≡ Some f) × (found f ≡ None)
 at_none None found h = absurd (cc)
@@ -53,9 +54,7 @@ all_none false b h = absurd (cc)
 
 open_none : (f : Formula) → open_fault f ≡ None → (of : Children) × (f ≡ at_least (total_weight of) of) × EachWeighs of
 open_none (member x) h = absurd (cc)
-open_none (at_least k of) h =
-    let both = all_none (k == total_weight of) (each_weighs of) h in
-    (of, ap (λ n. at_least n of) (equal k (total_weight of) both.0), EachWeighs-from of both.1)
+open_none (at_least k of) h = grind (arith, common_steps, all_none, equal, EachWeighs-from)
 
 enough_none : (good few same : Bool) → (if good then (if few then (if same then None else Some BranchCount) else Some TooFewPicked) else Some BadPair) ≡ None → few ≡ true
 enough_none true true same h = refl
@@ -109,8 +108,7 @@ apart_from false any rest h = absurd (true≢false (sym h))
 distinct : (n : ℕ) (cs : List ℕ) → good_places n cs ≡ true → IsDistinct nat_eq cs
 unfolding IsDistinct
 distinct n [] h = tt
-distinct n (c ∷ cs) h =
-    (none_is c cs (apart_from (nat_lt c n) (list_any (λ d. d == c) cs) (good_places n cs) h), distinct n cs (split_places n c cs h).1)
+distinct n (c ∷ cs) h = grind (arith, common_steps, none_is, apart_from, split_places, (distinct n cs (split_places n c cs h).1))
 
 place_is : (fs : List Formula) (c : ℕ) → c < length fs → slice_get fs c ≡ Some (place fs c)
 place_is [] c h = absurd (omega arith)
@@ -207,21 +205,16 @@ above : (m n : ℕ) → m < n → nat_lt m n ≡ true
 above m n h = grind (arith, nat_tests)
 
 pick_passes : (k : ℕ) (of : Children) (cs : List ℕ) (n : ℕ) → good_places (length (formulas of)) cs ≡ true → total_weight of < k + picked_weight of cs → n ≡ length cs → pick_fault (at_least k of) cs n ≡ None
-pick_passes k of cs n good few same =
-    λ i. if good i then (if above (total_weight of) (k + picked_weight of cs) few i then (if (ap (λ m. m == length cs) same ∙ same_number (length cs)) i then None else Some BranchCount) else Some TooFewPicked) else Some BadPair
+pick_passes k of cs n good few same = grind (arith, common_steps)
 
 pair_passes : (k : ℕ) (of : Children) (l : ℕ) (others : Children) (ps : List (ℕ × ℕ)) (n : ℕ) → good_places (length (formulas of)) (map (λ p. p.0) ps) ≡ true → good_places (length (formulas others)) (map (λ p. p.1) ps) ≡ true → total_weight of + total_weight others < k + l + paired_weight of others ps → n ≡ length ps → pair_fault (at_least k of) (at_least l others) ps n ≡ None
-pair_passes k of l others ps n good also few same =
-    λ i. if good i && also i then (if above (total_weight of + total_weight others) (k + l + paired_weight of others ps) few i then (if (ap (λ m. m == length ps) same ∙ same_number (length ps)) i then None else Some BranchCount) else Some CountTooSmall) else Some BadPair
+pair_passes k of l others ps n good also few same = grind (arith, common_steps)
 
 -- ---- good places from distinct ones
 
 any_is : (c : ℕ) (cs : List ℕ) → AllByRecursion (λ y. nat_eq c y ≡ false) cs → list_any (λ d. d == c) cs ≡ false
 any_is c [] h = refl
-any_is c (d ∷ cs) h = λ i. back d c h.0 i || any_is c cs h.1 i
-  where
-    back : (d c : ℕ) → nat_eq c d ≡ false → (d == c) ≡ false
-    back d c h = grind (arith, nat_tests)
+any_is c (d ∷ cs) h = grind (arith, common_steps, ℕ, nat_eq, nat_tests, (any_is c cs h.1))
 
 good_more : (n c : ℕ) (cs : List ℕ) → c < n → AllByRecursion (λ y. nat_eq c y ≡ false) cs → good_places n cs ≡ true → good_places n (c ∷ cs) ≡ true
 good_more n c cs h apart good = λ i. above c n h i && (not (any_is c cs apart i) && good i)
@@ -236,21 +229,14 @@ unfolding IsDistinct
 picked_good no_branch side i of [] st h apart = (refl, refl)
 picked_good no_branch side i of (c ∷ cs) st h apart = absurd h
 picked_good (branch rule rest) side i of [] st h apart = absurd h
-picked_good (branch rule rest) side i of (c ∷ cs) st h apart =
-    let others = picked_good rest side i of cs st h.3 apart.1 in
-    (good_more (length (formulas of)) c cs (range_of (formulas of) c h.0 h.1).0 apart.0 others.0, omega (arith, others.1))
+picked_good (branch rule rest) side i of (c ∷ cs) st h apart = grind (arith, common_steps, good_more, range_of, (picked_good rest side i of cs st h.3 apart.1))
 
 paired_good : (branches : Branches) (i j : ℕ) (of others : Children) (ps : List (ℕ × ℕ)) (st : State) → RefutesPaired branches i j of others ps st → IsDistinct nat_eq (map (λ p. p.0) ps) → IsDistinct nat_eq (map (λ p. p.1) ps) → (good_places (length (formulas of)) (map (λ p. p.0) ps) ≡ true) × (good_places (length (formulas others)) (map (λ p. p.1) ps) ≡ true) × (branch_count branches ≡ length ps)
 unfolding IsDistinct
 paired_good no_branch i j of others [] st h apart also = (refl, refl, refl)
 paired_good no_branch i j of others (p ∷ ps) st h apart also = absurd h
 paired_good (branch rule rest) i j of others [] st h apart also = absurd h
-paired_good (branch rule rest) i j of others (p ∷ ps) st h apart also =
-    let more = paired_good rest i j of others ps st h.5 apart.1 also.1 in (
-      good_more (length (formulas of)) p.0 (map (λ (q : ℕ × ℕ). q.0) ps) (range_of (formulas of) p.0 h.0 h.2).0 apart.0 more.0,
-      good_more (length (formulas others)) p.1 (map (λ (q : ℕ × ℕ). q.1) ps) (range_of (formulas others) p.1 h.1 h.3).0 also.0 more.1,
-      omega (arith, more.2),
-    )
+paired_good (branch rule rest) i j of others (p ∷ ps) st h apart also = grind (arith, common_steps, good_more, range_of, (paired_good rest i j of others ps st h.5 apart.1 also.1))
 
 mutual
   pub accepted : (rule : Rule) (st : State) → Refutes rule st → first_fault rule st ≡ None

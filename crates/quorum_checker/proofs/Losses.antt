@@ -4,13 +4,15 @@ use Rattle.std.proofs.lemmas.Bool.Decides.{nat_tests}
 use Rattle.std.specs.Ordering.{nat_cmp}
 use Rattle.std.specs.Cmp.{nat_cmp_total}
 use Rattle.std.specs.FinSet.{FinSet, empty, insert, contains, difference, contains-empty, contains-difference}
-use Rattle.volume_model.specs.Common.{Formula, Members, sat, HasCounts, IsIn, each_below, listed}
+use Rattle.volume_model.specs.Common.{Formula, Members, sat, HasCounts, IsIn, each_below}
 use Rattle.volume_model.proofs.Sets.{contains-put}
 use Rattle.volume_model.proofs.FormulaLaws.{sat-some}
 use Rattle.quorum_checker.specs.Cases.{AreSmall}
 use Rattle.quorum_checker.specs.Tolerance.{all_of, count_of, taken, takes, left_of, left_by, IsLoss, IsLeastAfter, IsLeastLoss}
 use Rattle.quorum_checker.proofs.Split.{parts}
 use Rattle.quorum_checker.proofs.Apart.{in_listed, listed_small}
+use Rattle.std.proofs.lemmas.Grind.{common_steps}
+use Rattle.std.proofs.Common.{rules}
 
 -- ---- how large
 
@@ -38,17 +40,7 @@ listed_few (suc n) p = omega (arith, listed_more n p, listed_few n p, at_most_on
 -- one member more
 grown : (n k : ℕ) (p q : ℕ → Bool) → ((x : ℕ) → q x ≡ (nat_eq x k || p x)) → length (each_below n q (λ x. x)) ≤ length (each_below n p (λ x. x)) + (if nat_lt k n then 1 else 0)
 grown zero k p q h = omega arith
-grown (suc n) k p q h =
-    elim (nat_eq n k) as (λ b. nat_eq n k ≡ b → length (each_below (suc n) q (λ x. x)) ≤ length (each_below (suc n) p (λ x. x)) + (if nat_lt k (suc n) then 1 else 0)) [
-      | true ↦ λ e.
-          let here : bit (nat_lt k n) ≡ 0 = grind (arith, nat_tests, e) in
-          let there : bit (nat_lt k (suc n)) ≡ 1 = grind (arith, nat_tests, e) in
-          omega (arith, listed_more n p, listed_more n q, grown n k p q h, at_most_one (q n), here, there)
-      | false ↦ λ e.
-          let same : bit (nat_lt k (suc n)) ≡ bit (nat_lt k n) = grind (arith, nat_tests, e) in
-          let alike : bit (q n) ≡ bit (p n) = ap bit (h n ∙ ap (λ b. b || p n) e) in
-          omega (arith, listed_more n p, listed_more n q, grown n k p q h, same, alike)
-    ] refl
+grown (suc n) k p q h = grind (arith, common_steps, nat_eq, bit, nat_tests, listed_more, at_most_one, (grown n k p q h))
 
 pub count_put : (s : FinSet nat_cmp) (k : ℕ) → count_of (insert s k) ≤ count_of s + 1
 unfolding count_of
@@ -82,10 +74,6 @@ shuffle true true false t = refl
 shuffle true false true t = refl
 shuffle true false false t = refl
 
-skipped : (a e t : Bool) → (a && not t) ≡ (a && not ((e && false) || t))
-skipped a true t = refl
-skipped a false t = refl
-
 pub taken_one : (f : Formula) (members gone : FinSet nat_cmp) (x : ℕ) (xs : List ℕ) (loss : Members) → loss x ≡ true → sat f (left_of loss xs (difference members (insert gone x))) ≡ true → sat f (left_of loss (x ∷ xs) (difference members gone)) ≡ true
 taken_one f members gone x xs loss is h =
     sym (same_sat f (left_of loss xs (difference members (insert gone x))) (left_of loss (x ∷ xs) (difference members gone)) (λ y.
@@ -94,19 +82,11 @@ taken_one f members gone x xs loss is h =
     ∙ (λ i. sym (contains-difference nat_cmp_total members gone y) i && not ((nat_eq y x && sym is i) || takes loss xs y)))) ∙ h
 
 pub left_one : (f : Formula) (left : FinSet nat_cmp) (x : ℕ) (xs : List ℕ) (loss : Members) → loss x ≡ false → sat f (left_of loss xs left) ≡ true → sat f (left_of loss (x ∷ xs) left) ≡ true
-left_one f left x xs loss is h =
-    sym (same_sat f (left_of loss xs left) (left_of loss (x ∷ xs) left) (λ y.
-    skipped (contains left y) (nat_eq y x) (takes loss xs y) ∙ ap (λ b. contains left y && not ((nat_eq y x && b) || takes loss xs y)) (sym is))) ∙ h
+left_one f left x xs loss is h = grind (arith, common_steps)
 
 -- the smaller of what is found with and without a member
 pub joined : (f : Formula) (members gone more : FinSet nat_cmp) (x : ℕ) (xs : List ℕ) (n best first size : ℕ) → more ≡ insert gone x → IsLeastAfter f (difference members more) xs (n + 1) best first → IsLeastAfter f (difference members gone) xs n first size → IsLeastAfter f (difference members gone) (x ∷ xs) n best size
-joined f members gone more x xs n best first size is one other = record {
-  better = omega (arith, one.better, other.better);
-  least = λ loss h. elim (loss x) as (λ b. loss x ≡ b → n + ((if b then 1 else 0) + taken loss xs) < size → sat f (left_of loss (x ∷ xs) (difference members gone)) ≡ true) [
-    | true ↦ λ e h'. taken_one f members gone x xs loss e (subst (λ s. sat f (left_of loss xs (difference members s)) ≡ true) is (one.least loss (omega (arith, h', other.better))))
-    | false ↦ λ e h'. left_one f (difference members gone) x xs loss e (other.least loss (omega (arith, h')))
-  ] refl h;
-}
+joined f members gone more x xs n best first size is one other = grind (arith, common_steps, taken_one, left_one)
 
 pub joined_of : (f : Formula) (members gone more : FinSet nat_cmp) (ms : List ℕ) (n m best first size : ℕ) → 1 ≤ length ms → more ≡ insert gone (get_or ms 0 0) → m ≡ n + 1 → IsLeastAfter f (difference members more) (take (length ms - 1) (drop 1 ms)) m best first → IsLeastAfter f (difference members gone) (take (length ms - 1) (drop 1 ms)) n first size → IsLeastAfter f (difference members gone) ms n best size
 joined_of f members gone more ms n m best first size some is next one other =
@@ -151,14 +131,7 @@ takes_not loss (x ∷ xs) y is =
 
 takes_member : (loss : Members) (members : FinSet nat_cmp) (below : (x : ℕ) → contains members x ≡ true → x < 64) (y : ℕ) → (contains members y && not (takes loss (all_of members) y)) ≡ (contains members y && not (loss y))
 unfolding all_of
-takes_member loss members below y =
-    elim (contains members y) as (λ b. contains members y ≡ b → (b && not (takes loss (listed members) y)) ≡ (b && not (loss y))) [
-      | false ↦ λ e. refl
-      | true ↦ λ e. ap not (elim (loss y) as (λ b. loss y ≡ b → takes loss (listed members) y ≡ b) [
-        | true ↦ λ is. takes_in loss (listed members) y (in_listed members y (below y e) e) is
-        | false ↦ λ is. takes_not loss (listed members) y is
-      ] refl)
-    ] refl
+takes_member loss members below y = search (rules, not, takes_in, in_listed, takes_not)
 
 nothing_gone : (a : Bool) → (a && not false) ≡ a
 nothing_gone true = refl

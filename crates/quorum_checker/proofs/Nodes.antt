@@ -1,10 +1,9 @@
 -- The items of a node, by their formulas.
-use Rattle.std.proofs.Common.{◌≡◌, ℕ, zero, suc, ◌+◌, ◌<◌, ◌≤◌, List, [], ◌∷◌, arith, length, map, refl, ap, ◌∙◌, sym, subst, Bool, true, false, not, ◌&&◌, nat_lt, Vec, Option, if◌then◌else◌, ◌==◌, None, Some, slice_get, true≢false}
-use Rattle.std.specs.List.{list_any}
+use Rattle.std.proofs.Common.{◌≡◌, ℕ, zero, suc, ◌+◌, ◌<◌, ◌≤◌, List, [], ◌∷◌, arith, length, map, refl, ap, ◌∙◌, sym, subst, Bool, true, false, ◌&&◌, nat_lt, Vec, Option, if◌then◌else◌, ◌==◌, None, Some, slice_get, true≢false}
 use Rattle.std.proofs.lemmas.Bool.Decides.{nat_tests}
 use Rattle.quorum_expr.specs.declared.expression.Expr.{Expr}
 use Rattle.quorum_expr.specs.declared.expression.Expr.TheVariants.{KOf}
-use Rattle.volume_model.specs.Common.{Formula, at_least, total_weight, formulas, each_weighs, HasCounts}
+use Rattle.volume_model.specs.Common.{Formula, at_least, each_weighs, HasCounts}
 use Rattle.volume_model.specs.Formula.{member}
 use Rattle.quorum_expr.specs.Common.{formula_of, weighed, formulas_of, expression_fault}
 use Rattle.quorum_expr.proofs.Weighed.{length-weighed}
@@ -17,6 +16,7 @@ use Rattle.quorum_checker.specs.Items.{shown_as, bare, IsThreshold}
 use Rattle.quorum_checker.proofs.Sums.{bare-total, bare-weighs, bare-picked, bare-paired, formulas-weighed}
 use Rattle.quorum_checker.specs.Refutes.{picked_weight, paired_weight}
 use Rattle.quorum_checker.specs.FirstFault.{good_places, children_of, open_fault, pick_fault, pair_fault}
+use Rattle.std.proofs.lemmas.Grind.{common_steps}
 
 pub formula_of-is : {A : Type 0} (e : Expr A) (k : ℕ) (of : Vec (ℕ × Expr A) A) → e ≡ KOf k of → formula_of e ≡ at_least k (weighed formula_of of.items)
 formula_of-is e k of is = ap formula_of is ∙ formula_of-KOf k of
@@ -37,18 +37,9 @@ open_fault-is is_dual f t h =
 
 -- ---- good places
 
-first_place : (n c : ℕ) (rest others : Bool) → (nat_lt c n && (rest && others)) ≡ true → c < n
-first_place n c rest others h = grind (arith, nat_tests)
-
-other_places : (first rest others : Bool) → (first && (rest && others)) ≡ true → others ≡ true
-other_places true true others h = h
-other_places true false others h = absurd (true≢false (sym h))
-other_places false rest others h = absurd (true≢false (sym h))
-
 -- of good places the first is below the bound, and the others are good
 pub split_places : (n c : ℕ) (cs : List ℕ) → good_places n (c ∷ cs) ≡ true → (c < n) × (good_places n cs ≡ true)
-split_places n c cs h =
-    (first_place n c (not (list_any (λ d. d == c) cs)) (good_places n cs) h, other_places (nat_lt c n) (not (list_any (λ d. d == c) cs)) (good_places n cs) h)
+split_places n c cs h = grind (arith, common_steps)
 
 -- `pick_fault` by what the code counts
 abbrev pub plain_pick : ℕ → ℕ → ℕ → ℕ → List ℕ → ℕ → Option Fault
@@ -99,17 +90,12 @@ equal m n h = grind (arith, nat_tests)
 
 pub pick_none : (f : Formula) (cs : List ℕ) (n : ℕ) → pick_fault f cs n ≡ None → (good_places (length (children_of f)) cs ≡ true) × (n ≡ length cs)
 pick_none (member x) cs n h = cc
-pick_none (at_least k of) cs n h =
-    let both = no_pick (good_places (length (formulas of)) cs) (nat_lt (total_weight of) (k + picked_weight of cs)) (n == length cs) h in
-    (both.0, equal n (length cs) both.1)
+pick_none (at_least k of) cs n h = grind (arith, common_steps)
 
 pub pair_none : (f g : Formula) (ps : List (ℕ × ℕ)) (n : ℕ) → pair_fault f g ps n ≡ None → (good_places (length (children_of f)) (map (λ p. p.0) ps) ≡ true) × (good_places (length (children_of g)) (map (λ p. p.1) ps) ≡ true) × (n ≡ length ps)
 pair_none (member x) g ps n h = cc
 pair_none (at_least k of) (member y) ps n h = cc
-pair_none (at_least k of) (at_least l others) ps n h =
-    let both = no_pair (good_places (length (formulas of)) (map (λ (p : ℕ × ℕ). p.0) ps) && good_places (length (formulas others)) (map (λ (p : ℕ × ℕ). p.1) ps)) (nat_lt (total_weight of + total_weight others) (k + l + paired_weight of others ps)) (n == length ps) h in
-    let good = both_true _ _ both.0 in
-    (good.0, good.1, equal n (length ps) both.1)
+pair_none (at_least k of) (at_least l others) ps n h = grind (arith, common_steps)
 
 pub index_of-Some : {P : Type 0} (xs : List P) (i : ℕ) (x : P) → slice_get xs i ≡ Some x → i < length xs
 index_of-Some [] i x h = cc

@@ -1,5 +1,5 @@
 -- What a check's outcome means.
-use Rattle.std.proofs.Common.{◌≡◌, ◌≢◌, ℕ, subst, Ok, Err, Some, OnOk, IfErr}
+use Rattle.std.proofs.Common.{◌≡◌, ◌≢◌, ℕ, Ok, Err, Some, OnOk, IfErr}
 use Rattle.std.specs.Ordering.{nat_cmp}
 use Rattle.std.specs.FinSet.{FinSet}
 use Rattle.volume_model.specs.Common.{Formula, Meets}
@@ -10,12 +10,12 @@ use Rattle.quorum_checker.specs.FirstFault.{first_fault}
 use Rattle.quorum_checker.specs.Outcome.{Outcome, Answers}
 use Rattle.quorum_checker.proofs.Exact.{refutes, accepted}
 use Rattle.quorum_checker.proofs.Sound.{meets}
+use Rattle.std.proofs.lemmas.Grind.{common_steps}
+use Rattle.std.proofs.Common.{arith}
 
 -- a check starts with the state of its claim
 pub started : (r : Outcome) (tree rule : Rule) (st first : State) → tree ≡ rule → st ≡ first → Answers r (first_fault tree st) (depth_of tree) → Answers r (first_fault rule first) (depth_of rule)
-started r tree rule st first is same h =
-    subst (λ (t : Rule). Answers r (first_fault t first) (depth_of t)) is
-    (subst (λ (s : State). Answers r (first_fault tree s) (depth_of tree)) same h)
+started r tree rule st first is same h = grind (arith, common_steps)
 
 pub ok_refutes : (r : Outcome) (rule : Rule) (st : State) (d : ℕ) → Answers r (first_fault rule st) d → OnOk r (Refutes rule st)
 ok_refutes (Ok u) rule st d h = refutes rule st h

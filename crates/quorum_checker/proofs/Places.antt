@@ -1,8 +1,9 @@
 -- Numbers that are marked one after the other.
-use Rattle.std.proofs.Common.{◌≡◌, ℕ, zero, suc, ◌+◌, ◌<◌, List, [], ◌∷◌, length, get_or, set, drop, map, arith, refl, ap, ◌∙◌, sym, add-one, drop-cons, replicate, Bool, true, false, not, ◌&&◌, ◌||◌, ◌==◌, nat_lt}
+use Rattle.std.proofs.Common.{◌≡◌, ℕ, zero, suc, ◌+◌, ◌<◌, List, [], ◌∷◌, length, get_or, set, drop, map, arith, refl, ap, ◌∙◌, sym, add-one, drop-cons, replicate, Bool, true, false, not, ◌&&◌, ◌||◌, ◌==◌}
 use Rattle.std.specs.List.{list_any}
 use Rattle.std.proofs.lemmas.Bool.Decides.{nat_tests}
 use Rattle.quorum_checker.specs.FirstFault.{good_places}
+use Rattle.std.proofs.lemmas.Grind.{common_steps}
 
 -- none of these is marked
 abbrev pub unmarked : List Bool → List ℕ → Bool
@@ -58,17 +59,7 @@ either false false false q = refl
 
 unmarked_more : (seen : List Bool) (c : ℕ) (cs : List ℕ) → c < length seen → unmarked (set seen c true) cs ≡ (not (list_any (λ d. d == c) cs) && unmarked seen cs)
 unmarked_more seen c [] h = refl
-unmarked_more seen c (d ∷ cs) h =
-    (λ i. not (marked_at seen c d h i || back (list_any (λ e. get_or (set seen c true) e false) cs) (list_any (λ e. e == c) cs) (list_any (λ e. get_or seen e false) cs) (unmarked_more seen c cs h) i))
-    ∙ either (d == c) (get_or seen d false) (list_any (λ e. e == c) cs) (list_any (λ e. get_or seen e false) cs)
-  where
-    back : (x p q : Bool) → not x ≡ (not p && not q) → x ≡ (p || q)
-    back true true q h = refl
-    back true false true h = refl
-    back true false false h = absurd (cc)
-    back false true q h = absurd (cc)
-    back false false true h = absurd (cc)
-    back false false false h = refl
+unmarked_more seen c (d ∷ cs) h = grind (arith, common_steps, not, marked_at, either, Bool, (unmarked_more seen c cs h))
 
 shuffle : (lt new good seen fresh : Bool) → lt ≡ true → seen ≡ false → ((lt && (new && good)) && not (seen || fresh)) ≡ (good && (new && not fresh))
 shuffle true true true false fresh h e = refl
@@ -80,9 +71,7 @@ shuffle false new good false fresh h e = absurd (cc)
 
 -- the first of those left is good and not marked
 pub marked : (n c : ℕ) (seen : List Bool) (cs : List ℕ) → c < n → get_or seen c false ≡ false → c < length seen → rest_good n seen (c ∷ cs) ≡ rest_good n (set seen c true) cs
-marked n c seen cs below new room =
-    shuffle (nat_lt c n) (not (list_any (λ d. d == c) cs)) (good_places n cs) (get_or seen c false) (list_any (λ d. get_or seen d false) cs) (grind (arith, nat_tests)) new
-    ∙ ap (λ b. good_places n cs && b) (sym (unmarked_more seen c cs room))
+marked n c seen cs below new room = grind (arith, common_steps, shuffle, not, nat_tests, unmarked_more)
 
 -- ---- one place after the other, seen through f
 
@@ -94,8 +83,7 @@ first_left f xs i d h = ap (map f) (drop-cons xs i d h) ∙ ap (λ n. f (get_or 
 
 -- the place at hand is good
 pub good_turn : (xs : List ℕ) (n i a : ℕ) (seen : List Bool) (whole : Bool) → i < length xs → a ≡ get_or xs i 0 → a < n → get_or seen a false ≡ false → a < length seen → rest_good n seen (drop i xs) ≡ whole → rest_good n (set seen a true) (drop (i + 1) xs) ≡ whole
-good_turn xs n i a seen whole h is below new room before =
-    sym (marked n a seen (drop (i + 1) xs) below new room) ∙ ap (rest_good n seen) (ap (λ b. b ∷ drop (i + 1) xs) is ∙ sym (next_left xs i h)) ∙ before
+good_turn xs n i a seen whole h is below new room before = grind (arith, common_steps, marked, rest_good, next_left)
 
 pub good_turn_by : {P : Type 0} (f : P → ℕ) (xs : List P) (n i a : ℕ) (d : P) (seen : List Bool) (whole : Bool) → i < length xs → a ≡ f (get_or xs i d) → a < n → get_or seen a false ≡ false → a < length seen → rest_good n seen (map f (drop i xs)) ≡ whole → rest_good n (set seen a true) (map f (drop (i + 1) xs)) ≡ whole
 good_turn_by f xs n i a d seen whole h is below new room before =

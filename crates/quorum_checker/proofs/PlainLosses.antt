@@ -8,6 +8,7 @@ use Rattle.volume_model.specs.Formula.{member}
 use Rattle.volume_model.proofs.Sets.{contains-put}
 use Rattle.quorum_checker.specs.PlainChildren.{are_plain}
 use Rattle.quorum_checker.specs.Tolerance.{all_of, count_of, left_by, taken, IsLeastLoss}
+use Rattle.std.proofs.lemmas.Grind.{common_steps}
 
 abbrev bit : Bool → ℕ
 bit b = if b then 1 else 0
@@ -27,36 +28,16 @@ taken_more loss n p = taken-append loss (each_below n p (λ x. x)) (if p n then 
 
 -- one member more
 put_taken : (loss : Members) (n k : ℕ) (p q : ℕ → Bool) → ((x : ℕ) → q x ≡ (nat_eq x k || p x)) → p k ≡ false → taken loss (each_below n q (λ x. x)) ≡ taken loss (each_below n p (λ x. x)) + (if nat_lt k n then bit (loss k) else 0)
-put_taken loss zero k p q h new =
-    let no : nat_lt k 0 ≡ false = grind (arith, nat_tests) in
-    omega (arith, ap (λ b. if b then bit (loss k) else 0) no)
+put_taken loss zero k p q h new = grind (arith, common_steps)
 put_taken loss (suc n) k p q h new =
     elim (nat_eq n k) as (λ b. nat_eq n k ≡ b → taken loss (each_below (suc n) q (λ x. x)) ≡ taken loss (each_below (suc n) p (λ x. x)) + (if nat_lt k (suc n) then bit (loss k) else 0)) [
-      | true ↦ λ e.
-          let is : n ≡ k = grind (arith, nat_tests, e) in
-          let before : nat_lt k n ≡ false = grind (arith, nat_tests, is) in
-          let after : nat_lt k (suc n) ≡ true = grind (arith, nat_tests, is) in
-          let now_in : q n ≡ true = h n ∙ ap (λ b. b || p n) e in
-          let not_in : p n ≡ false = ap p is ∙ new in
-          let one : (if q n then bit (loss n) else 0) ≡ bit (loss k) = ap (λ b. if b then bit (loss n) else 0) now_in ∙ ap (λ m. bit (loss m)) is in
-          let none : (if p n then bit (loss n) else 0) ≡ 0 = ap (λ b. if b then bit (loss n) else 0) not_in in
-          let low : (if nat_lt k n then bit (loss k) else 0) ≡ 0 = ap (λ b. if b then bit (loss k) else 0) before in
-          let high : (if nat_lt k (suc n) then bit (loss k) else 0) ≡ bit (loss k) = ap (λ b. if b then bit (loss k) else 0) after in
-          omega (arith, taken_more loss n p, taken_more loss n q, put_taken loss n k p q h new, one, none, low, high)
-      | false ↦ λ e.
-          let same : nat_lt k (suc n) ≡ nat_lt k n = grind (arith, nat_tests, e) in
-          let alike : q n ≡ p n = h n ∙ ap (λ b. b || p n) e in
-          let one : (if q n then bit (loss n) else 0) ≡ (if p n then bit (loss n) else 0) = ap (λ b. if b then bit (loss n) else 0) alike in
-          let high : (if nat_lt k (suc n) then bit (loss k) else 0) ≡ (if nat_lt k n then bit (loss k) else 0) = ap (λ b. if b then bit (loss k) else 0) same in
-          omega (arith, taken_more loss n p, taken_more loss n q, put_taken loss n k p q h new, one, high)
+      | true ↦ grind (arith, common_steps, nat_tests, bit, taken_more, (put_taken loss n k p q h new))
+      | false ↦ grind (arith, common_steps, nat_tests, bit, taken_more, (put_taken loss n k p q h new))
     ] refl
 
 some_or_none : (b c : Bool) (n : ℕ) → (b ≡ true → c ≡ true) → (if b then n else 0) ≤ (if c then n else 0)
 some_or_none true true n h = omega arith
-some_or_none true false n h = absurd (never (h refl))
-  where
-    never : false ≡ true → ⊥
-    never e = cc
+some_or_none true false n h = grind (arith, common_steps)
 some_or_none false c n h = omega arith
 
 -- a set of more members
@@ -68,8 +49,7 @@ taken_within loss (suc n) p q h = omega (arith, taken_more loss n p, taken_more 
 
 -- one child more
 pub plain_step : (fs rest : Children) (w x : ℕ) (f : Formula) (own seen more : FinSet nat_cmp) → fs ≡ child w f rest → f ≡ member x → w ≡ 1 → contains own x ≡ true → contains seen x ≡ false → more ≡ insert seen x → are_plain rest own more ≡ are_plain fs own seen
-plain_step fs rest w x f own seen more is one weighs of_own new put =
-    sym (ap (λ gs. are_plain gs own seen) (is ∙ ap (λ g. child w g rest) one) ∙ (λ i. (nat_eq (weighs i) 1 && (of_own i && not (new i))) && are_plain rest own (sym put i)))
+plain_step fs rest w x f own seen more is one weighs of_own new put = grind (arith, common_steps)
 
 -- how many of the children hold in a loss
 abbrev counted : Children → Members → ℕ
@@ -79,26 +59,9 @@ counted (child w f fs) loss = bit (sat f loss) + counted fs loss
 false_true : false ≡ true → ⊥
 false_true e = cc
 
-left_true : (p q : Bool) → (p && q) ≡ true → p ≡ true
-left_true true q h = refl
-left_true false q h = h
-
-right_true : (p q : Bool) → (p && q) ≡ true → q ≡ true
-right_true true q h = h
-right_true false q h = absurd (false_true h)
-
-not_true : (p : Bool) → not p ≡ true → p ≡ false
-not_true true h = absurd (false_true h)
-not_true false h = refl
-
 -- what is said of the first of plain children
 first_plain : (w x : ℕ) (fs : Children) (own seen : FinSet nat_cmp) → are_plain (child w (member x) fs) own seen ≡ true → (w ≡ 1) × (contains own x ≡ true) × (contains seen x ≡ false) × (are_plain fs own (insert seen x) ≡ true)
-first_plain w x fs own seen h =
-    let here : (nat_eq w 1 && (contains own x && not (contains seen x))) ≡ true = left_true (nat_eq w 1 && (contains own x && not (contains seen x))) (are_plain fs own (insert seen x)) h in
-    let later : are_plain fs own (insert seen x) ≡ true = right_true (nat_eq w 1 && (contains own x && not (contains seen x))) (are_plain fs own (insert seen x)) h in
-    let one : nat_eq w 1 ≡ true = left_true (nat_eq w 1) (contains own x && not (contains seen x)) here in
-    let both : (contains own x && not (contains seen x)) ≡ true = right_true (nat_eq w 1) (contains own x && not (contains seen x)) here in
-    (grind (arith, nat_tests, one), left_true (contains own x) (not (contains seen x)) both, not_true (contains seen x) (right_true (contains own x) (not (contains seen x)) both), later)
+first_plain w x fs own seen h = grind (arith, common_steps)
 
 one_held : (w : ℕ) (o l : Bool) → w ≡ 1 → o ≡ true → (if (o && not l) then w else 0) + bit l ≡ 1
 one_held w true true one is = refl
@@ -114,11 +77,7 @@ plain_held (child w (member x) fs) own seen loss h =
 plain_held (child w (at_least k of) fs) own seen loss h = absurd (false_true h)
 
 sub_more : (own seen : FinSet nat_cmp) (x : ℕ) → contains own x ≡ true → ((y : ℕ) → contains seen y ≡ true → contains own y ≡ true) → (y : ℕ) → contains (insert seen x) y ≡ true → contains own y ≡ true
-sub_more own seen x is sub y h =
-    elim (nat_eq y x) as (λ b. nat_eq y x ≡ b → contains own y ≡ true) [
-      | true ↦ λ e. let same : y ≡ x = grind (arith, nat_tests, e) in ap (contains own) same ∙ is
-      | false ↦ λ e. sub y (sym (ap (λ b. b || contains seen y) e) ∙ sym (contains-put seen x y) ∙ h)
-    ] refl
+sub_more own seen x is sub y h = grind (arith, common_steps, nat_eq, nat_tests, contains-put)
 
 -- a loss takes at least as many members as children
 plain_within : (fs : Children) (own seen : FinSet nat_cmp) (loss : Members) → ((y : ℕ) → contains own y ≡ true → y < 64) → ((y : ℕ) → contains seen y ≡ true → contains own y ≡ true) → are_plain fs own seen ≡ true → counted fs loss + taken loss (listed seen) ≤ taken loss (listed own)

@@ -13,6 +13,7 @@ use Rattle.quorum_checker.specs.declared.fault.FaultAt.{FaultAt}
 use Rattle.quorum_checker.specs.Refutes.{State}
 use Rattle.quorum_checker.specs.FirstFault.{here, at_item, or_else, first_fault}
 use Rattle.quorum_checker.specs.Outcome.{Outcome, Answers}
+use Rattle.std.proofs.lemmas.Grind.{common_steps}
 
 at_root : (e : FaultAt) (fault : Fault) (d : ℕ) → e ≡ here fault → length e.path < 1 + d
 at_root e fault d is = let none : length e.path ≡ 0 = ap (λ x. length x.path) is in omega (arith, none)
@@ -22,22 +23,10 @@ pub missing : (r : Outcome) (o : Option Formula) (rest : Formula → Option Faul
 missing (Ok u) o rest d e none is h = absurd h
 missing (Err x) o rest d e none is h = (λ no. ap (λ q. at_item q rest) none ∙ ap Some (sym (h ∙ is)), at_root x NoSuchItem d (h ∙ is))
 
--- the other item of two
-pub missing_other : (r : Outcome) (o p : Option Formula) (f : Formula) (rest : Formula → Formula → Option FaultAt) (d : ℕ) (e : FaultAt) → o ≡ Some f → p ≡ None → e ≡ here NoSuchItem → IsErrAnd r (λ x. x ≡ e)
-    → Answers r (at_item o (λ g. at_item p (rest g))) (1 + d)
-missing_other r o p f rest d e some none is h = subst (λ q. Answers r (at_item q (λ g. at_item p (rest g))) (1 + d)) (sym some) (missing r p (rest f) d e none is h)
-
 -- an item that fails the rule's test
 pub refused : (o : Option Formula) (test : Formula → Option Fault) (rest : Formula → Option FaultAt) (f : Formula) (fault : Fault) (e : FaultAt) (d : ℕ) → o ≡ Some f → Some fault ≡ test f → e ≡ here fault
     → (e.fault ≢ NoMemory → at_item o (λ x. or_else (test x) (rest x)) ≡ Some e) × (length e.path < 1 + d)
-refused o test rest f fault e d at is same =
-    (λ no. ap (λ q. at_item q (λ x. or_else (test x) (rest x))) at ∙ ap (λ t. or_else t (rest f)) (sym is) ∙ ap Some (sym same), at_root e fault d same)
-
--- two that do
-pub refused_pair : (o p : Option Formula) (test : Formula → Formula → Option Fault) (rest : Formula → Formula → Option FaultAt) (f g : Formula) (fault : Fault) (e : FaultAt) (d : ℕ) → o ≡ Some f → p ≡ Some g → Some fault ≡ test f g → e ≡ here fault
-    → (e.fault ≢ NoMemory → at_item o (λ x. at_item p (λ y. or_else (test x y) (rest x y))) ≡ Some e) × (length e.path < 1 + d)
-refused_pair o p test rest f g fault e d at also is same =
-    (λ no. (λ i. at_item (at i) (λ x. at_item (also i) (λ y. or_else (test x y) (rest x y)))) ∙ ap (λ t. or_else t (rest f g)) (sym is) ∙ ap Some (sym same), at_root e fault d same)
+refused o test rest f fault e d at is same = grind (arith, common_steps)
 
 -- ---- rules without branches
 

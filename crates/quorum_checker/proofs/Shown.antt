@@ -2,7 +2,6 @@
 use Rattle.std.proofs.Common.{◌≡◌, ℕ, zero, suc, ◌+◌, ◌-◌, ◌<◌, ◌≤◌, List, [], ◌∷◌, ◌++◌, length, take, map, get_or, arith, refl, ap, ◌∙◌, sym, append_assoc, Bool, true, false, Vec, Some, remove, insert, slice_get, if◌then◌else◌}
 use Rattle.std.specs.Ordering.{nat_cmp}
 use Rattle.std.specs.FinSet.{FinSet, insert as put}
-use Rattle.std.proofs.Math.Seq.{take-append_seam}
 use Rattle.std.proofs.lemmas.List.{map_more}
 use Rattle.volume_model.specs.Common.{Formula, at_least, total_weight, dual_of}
 use Rattle.volume_model.specs.Formula.{member}
@@ -18,6 +17,7 @@ use Rattle.quorum_checker.proofs.Sums.{bare-total, formulas-weighed}
 use Rattle.quorum_checker.specs.Refutes.{State, items_of, absent_of, with_items, with_absent, without, paired}
 use Rattle.quorum_checker.specs.FirstFault.{children_of}
 use Rattle.quorum_checker.proofs.Nodes.{index_of-Some}
+use Rattle.std.proofs.lemmas.Grind.{common_steps}
 
 -- what a threshold or its dual asks for, of what all children weigh
 abbrev pub asked : Bool → ℕ → ℕ → ℕ
@@ -93,9 +93,7 @@ set_right side fs gs st is same = λ i. with_items (sym is i) (same i) st
 
 -- what is pushed beside what is left
 pub pushed_on : (side : Side) (fs gs : List Formula) (st now after : State) → now ≡ with_items side fs st → after ≡ with_items side (items_of side now ++ gs) now → after ≡ with_items side (fs ++ gs) st
-pushed_on side fs gs st now after out is =
-    is ∙ ap (λ s. with_items side (items_of side s ++ gs) s) out ∙ with_again side fs (items_of side (with_items side fs st) ++ gs) st
-    ∙ ap (λ hs. with_items side (hs ++ gs) st) (items_with side fs st)
+pushed_on side fs gs st now after out is = grind (arith, common_steps)
 
 -- one more of what is seen through f
 pub more_pushed : {X : Type 0} (side : Side) (f : X → Formula) (xs : List X) (i : ℕ) (x : X) (st now after : State) → i < length xs → x ≡ get_or xs i x → now ≡ with_items side (items_of side st ++ map f (take i xs)) st → after ≡ with_items side (items_of side now ++ f x ∷ []) now → after ≡ with_items side (items_of side st ++ map f (take (i + 1) xs)) st
@@ -105,26 +103,15 @@ more_pushed side f xs i x st now after h is so_far put_in =
 
 -- it is dropped again
 pub dropped : (side : Side) (fs gs : List Formula) (n : ℕ) (st now after : State) → now ≡ with_items side (fs ++ gs) st → after ≡ with_items side (take n (items_of side now)) now → n ≡ length fs → after ≡ with_items side fs st
-dropped side fs gs n st now after out is many =
-    is ∙ ap (λ s. with_items side (take n (items_of side s)) s) out
-    ∙ with_again side (fs ++ gs) (take n (items_of side (with_items side (fs ++ gs) st))) st
-    ∙ ap (λ hs. with_items side (take n hs) st) (items_with side (fs ++ gs) st)
-    ∙ ap (λ hs. with_items side hs st) (ap (λ m. take m (fs ++ gs)) many ∙ take-append_seam fs gs)
+dropped side fs gs n st now after out is many = grind (arith, common_steps)
 
 -- what was taken out is put back
 pub restored : (side : Side) (at : ℕ) (f : Formula) (st now after : State) → slice_get (items_of side st) at ≡ Some f → now ≡ with_items side (remove (items_of side st) at) st → after ≡ with_items side (insert (items_of side now) at f) now → after ≡ st
-restored side at f st now after found out is =
-    is ∙ ap (λ s. with_items side (insert (items_of side s) at f) s) out
-    ∙ with_again side (remove (items_of side st) at) (insert (items_of side (with_items side (remove (items_of side st) at) st)) at f) st
-    ∙ ap (λ hs. with_items side (insert hs at f) st) (items_with side (remove (items_of side st) at) st)
-    ∙ ap (λ hs. with_items side hs st) (put_again (items_of side st) at f found)
-    ∙ with_same side st
+restored side at f st now after found out is = grind (arith, common_steps, insert, with_again, remove, items_with, put_again, with_same)
 
 -- there is room for it
 pub room_for : (side : Side) (at : ℕ) (f : Formula) (st now : State) → slice_get (items_of side st) at ≡ Some f → now ≡ with_items side (remove (items_of side st) at) st → at ≤ length (items_of side now)
-room_for side at f st now found out =
-    let long : at ≤ length (remove (items_of side st) at) = shorter (items_of side st) at (index_of-Some (items_of side st) at f found) in
-    omega (arith, long, ap length (ap (items_of side) out ∙ items_with side (remove (items_of side st) at) st))
+room_for side at f st now found out = grind (arith, common_steps, remove, shorter, index_of-Some, items_with)
 
 -- ---- the same of an item on each side
 
@@ -132,40 +119,16 @@ room_for side at f st now found out =
 abbrev pub without_both : ℕ → ℕ → State → State
 without_both i j st = with_items Right (remove (items_of Right st) j) (with_items Left (remove (items_of Left st) i) st)
 
-pub both_out : (i j : ℕ) (st one both : State) → one ≡ with_items Left (remove (items_of Left st) i) st → both ≡ with_items Right (remove (items_of Right one) j) one → both ≡ without_both i j st
-both_out i j st one both is also = also ∙ ap (λ s. with_items Right (remove (items_of Right s) j) s) is
-
-pub both_pushed : (i j : ℕ) (f g : Formula) (st now one both : State) → now ≡ without_both i j st → one ≡ with_items Left (items_of Left now ++ f ∷ []) now → both ≡ with_items Right (items_of Right one ++ g ∷ []) one → both ≡ paired i j f g st
-both_pushed i j f g st now one both out is also =
-    also ∙ ap (λ s. with_items Right (items_of Right s ++ g ∷ []) s) (is ∙ ap (λ s. with_items Left (items_of Left s ++ f ∷ []) s) out)
-
 pub both_dropped : (i j n m : ℕ) (f g : Formula) (st now one both : State) → now ≡ paired i j f g st → one ≡ with_items Left (take n (items_of Left now)) now → both ≡ with_items Right (take m (items_of Right one)) one → n ≡ length (remove (items_of Left st) i) → m ≡ length (remove (items_of Right st) j) → both ≡ without_both i j st
-both_dropped i j n m f g st now one both out is also many others =
-    also ∙ ap (λ s. with_items Right (take m (items_of Right s)) s) (is ∙ ap (λ s. with_items Left (take n (items_of Left s)) s) out)
-    ∙ (λ t. with_items Right ((ap (λ k. take k (remove st.right j ++ g ∷ [])) others ∙ take-append_seam (remove st.right j) (g ∷ [])) t)
-    (with_items Left ((ap (λ k. take k (remove st.left i ++ f ∷ [])) many ∙ take-append_seam (remove st.left i) (f ∷ [])) t) st))
+both_dropped i j n m f g st now one both out is also many others = grind (arith, common_steps)
 
 pub both_restored : (i j : ℕ) (f g : Formula) (st now one both : State) → slice_get st.left i ≡ Some f → slice_get st.right j ≡ Some g → now ≡ without_both i j st → one ≡ with_items Left (insert (items_of Left now) i f) now → both ≡ with_items Right (insert (items_of Right one) j g) one → both ≡ st
-both_restored i j f g st now one both found also_found out is also =
-    also ∙ ap (λ s. with_items Right (insert (items_of Right s) j g) s) (is ∙ ap (λ s. with_items Left (insert (items_of Left s) i f) s) out)
-    ∙ (λ t. with_items Right (put_again st.right j g also_found t) (with_items Left (put_again st.left i f found t) st))
+both_restored i j f g st now one both found also_found out is also = grind (arith, common_steps, insert, put_again)
 
 pub room_left : (i j : ℕ) (f : Formula) (st now : State) → slice_get st.left i ≡ Some f → now ≡ without_both i j st → i ≤ length (items_of Left now)
-room_left i j f st now found out =
-    let long : i ≤ length (remove st.left i) = shorter st.left i (index_of-Some st.left i f found) in
-    omega (arith, long, ap (λ (s : State). length s.left) out)
+room_left i j f st now found out = grind (arith, common_steps, remove, shorter, index_of-Some)
 
 pub room_right : (i j : ℕ) (f g : Formula) (st now one : State) → slice_get st.right j ≡ Some g → now ≡ without_both i j st → one ≡ with_items Left (insert (items_of Left now) i f) now → j ≤ length (items_of Right one)
-room_right i j f g st now one found out is =
-    let long : j ≤ length (remove st.right j) = shorter st.right j (index_of-Some st.right j g found) in
-    omega (arith, long, ap (λ (s : State). length s.right) (is ∙ ap (λ s. with_items Left (insert (items_of Left s) i f) s) out))
+room_right i j f g st now one found out is = grind (arith, common_steps, (remove st.right j), (shorter st.right j (index_of-Some st.right j g found)), (index_of-Some st.right j g found))
 
 -- ---- members that are absent
-
-pub one_more_absent : (side : Side) (x : ℕ) (absent more : FinSet nat_cmp) (st after : State) → absent ≡ absent_of side st → more ≡ put absent x → after ≡ with_absent side more st → after ≡ without side x st
-one_more_absent Left x absent more st after same is put_in = put_in ∙ ap (λ s. with_absent Left s st) (is ∙ ap (λ s. put s x) same)
-one_more_absent Right x absent more st after same is put_in = put_in ∙ ap (λ s. with_absent Right s st) (is ∙ ap (λ s. put s x) same)
-
-pub absent_again : (side : Side) (x : ℕ) (absent : FinSet nat_cmp) (st now after : State) → absent ≡ absent_of side st → now ≡ without side x st → after ≡ with_absent side absent now → after ≡ st
-absent_again Left x absent st now after same is put_in = put_in ∙ (λ i. with_absent Left (same i) (is i))
-absent_again Right x absent st now after same is put_in = put_in ∙ (λ i. with_absent Right (same i) (is i))

@@ -1,5 +1,5 @@
 -- What a rule refutes can't be.
-use Rattle.std.proofs.Common.{◌≡◌, ℕ, zero, suc, ◌+◌, ◌<◌, ◌≤◌, min, arith, refl, ap, ◌∙◌, sym, take, drop, true≢false, Bool, true, false, not, ◌&&◌, ◌||◌, nat_eq, nat_lt, if◌then◌else◌, List, [], ◌∷◌, ◌++◌, map, remove, Some, slice_get}
+use Rattle.std.proofs.Common.{◌≡◌, ℕ, zero, suc, ◌+◌, ◌<◌, ◌≤◌, min, arith, refl, ap, ◌∙◌, sym, take, drop, true≢false, Bool, true, false, not, ◌&&◌, nat_eq, nat_lt, if◌then◌else◌, List, [], ◌∷◌, ◌++◌, map, remove, Some, slice_get}
 use Rattle.std.specs.Ordering.{nat_cmp}
 use Rattle.std.specs.Cmp.{nat_cmp_total}
 use Rattle.std.specs.FinSet.{FinSet, empty, insert, contains, difference, contains-empty, contains-difference}
@@ -14,6 +14,7 @@ use Rattle.refutation.specs.declared.Side.{Side}
 use Rattle.refutation.specs.declared.Side.TheVariants.{Left, Right}
 use Rattle.refutation.specs.Common.{Rule, Branches, dead, clash, open_all, pick, pair_up, split, no_branch, branch}
 use Rattle.quorum_checker.specs.Refutes.{State, items_of, absent_of, replaced, paired, without, picked_weight, paired_weight, Refutes, RefutesPicked, RefutesPaired, claim_state}
+use Rattle.std.proofs.lemmas.Grind.{common_steps}
 
 -- each of these holds
 abbrev pub AllHold : List Formula → Members → Type 0
@@ -81,65 +82,21 @@ fits-clear Left st r w fits = fits.left_clear
 fits-clear Right st r w fits = fits.right_clear
 
 fits-replaced : (side : Side) (i : ℕ) (fs : List Formula) (st : State) (r w : Members) → Fits st r w → AllHold fs (set_of side r w) → Fits (replaced side i fs st) r w
-fits-replaced Left i fs st r w fits more = record {
-  left_members = fits.left_members;
-  right_members = fits.right_members;
-  apart = fits.apart;
-  left_clear = fits.left_clear;
-  right_clear = fits.right_clear;
-  left_holds = AllHold-replace i st.left fs r fits.left_holds more;
-  right_holds = fits.right_holds;
-}
-fits-replaced Right i fs st r w fits more = record {
-  left_members = fits.left_members;
-  right_members = fits.right_members;
-  apart = fits.apart;
-  left_clear = fits.left_clear;
-  right_clear = fits.right_clear;
-  left_holds = fits.left_holds;
-  right_holds = AllHold-replace i st.right fs w fits.right_holds more;
-}
+fits-replaced Left i fs st r w fits more = grind (arith, common_steps, AllHold-replace)
+fits-replaced Right i fs st r w fits more = grind (arith, common_steps, AllHold-replace)
 
 fits-paired : (i j : ℕ) (f g : Formula) (st : State) (r w : Members) → Fits st r w → sat f r ≡ true → sat g w ≡ true → Fits (paired i j f g st) r w
-fits-paired i j f g st r w fits hf hg = record {
-  left_members = fits.left_members;
-  right_members = fits.right_members;
-  apart = fits.apart;
-  left_clear = fits.left_clear;
-  right_clear = fits.right_clear;
-  left_holds = AllHold-replace i st.left (f ∷ []) r fits.left_holds (hf, tt);
-  right_holds = AllHold-replace j st.right (g ∷ []) w fits.right_holds (hg, tt);
-}
+fits-paired i j f g st r w fits hf hg = grind (arith, common_steps, AllHold-replace)
 
 -- a set that lacks x is clear of x too
 clear-insert : (s : Members) (a : FinSet nat_cmp) (x : ℕ) → s x ≡ false → AreDisjoint s (contains a) → AreDisjoint s (contains (insert a x))
-clear-insert s a x lacks clear y in_s in_a =
-    elim (nat_eq y x) as (λ b. nat_eq y x ≡ b → ⊥) [
-      | true ↦ λ e. let same : y ≡ x = grind (arith, nat_tests, e) in let here : s y ≡ false = ap s same ∙ lacks in cc
-      | false ↦ λ e. clear y in_s (ap (λ b. b || contains a y) (sym e) ∙ sym (contains-put a x y) ∙ in_a)
-    ] refl
+clear-insert s a x lacks clear y in_s in_a = grind (arith, common_steps, nat_eq, nat_tests, contains-put)
 
 fits-without_left : (x : ℕ) (st : State) (r w : Members) → Fits st r w → r x ≡ false → Fits (without Left x st) r w
-fits-without_left x st r w fits lacks = record {
-  left_members = fits.left_members;
-  right_members = fits.right_members;
-  apart = fits.apart;
-  left_clear = clear-insert r st.absent_left x lacks fits.left_clear;
-  right_clear = fits.right_clear;
-  left_holds = fits.left_holds;
-  right_holds = fits.right_holds;
-}
+fits-without_left x st r w fits lacks = grind (arith, common_steps, (clear-insert r st.absent_left x lacks fits.left_clear))
 
 fits-without_right : (x : ℕ) (st : State) (r w : Members) → Fits st r w → w x ≡ false → Fits (without Right x st) r w
-fits-without_right x st r w fits lacks = record {
-  left_members = fits.left_members;
-  right_members = fits.right_members;
-  apart = fits.apart;
-  left_clear = fits.left_clear;
-  right_clear = clear-insert w st.absent_right x lacks fits.right_clear;
-  left_holds = fits.left_holds;
-  right_holds = fits.right_holds;
-}
+fits-without_right x st r w fits lacks = grind (arith, common_steps, (clear-insert w st.absent_right x lacks fits.right_clear))
 
 -- a set of members that is clear of others lies in the members without these
 within_others : (s : Members) (a : FinSet nat_cmp) → AreMembers s → AreDisjoint s (contains a) → (x : ℕ) → s x ≡ true → contains (difference all_members a) x ≡ true

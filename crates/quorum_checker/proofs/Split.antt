@@ -1,11 +1,12 @@
 -- The steps of the cases of members.
-use Rattle.std.proofs.Common.{◌≡◌, ◌∙◌, ℕ, suc, ◌-◌, ◌<◌, ◌≤◌, true, false, List, [], ◌∷◌, refl, sym, ap, arith, length, take, drop, get_or, if◌then◌else◌}
+use Rattle.std.proofs.Common.{◌≡◌, ◌∙◌, ℕ, suc, ◌-◌, ◌<◌, ◌≤◌, true, false, List, [], ◌∷◌, refl, sym, ap, arith, length, take, drop, get_or}
 use Rattle.std.specs.Ordering.{nat_cmp}
 use Rattle.std.specs.FinSet.{FinSet, insert}
 use Rattle.volume_model.specs.Common.{Formula, sat}
 use Rattle.refutation.specs.Common.{Rule, dead, split}
 use Rattle.refutation.specs.declared.Side.TheVariants.{Left, Right}
 use Rattle.quorum_checker.specs.Cases.{Cases, refuted, apart, present, ends, both, cases}
+use Rattle.std.proofs.lemmas.Grind.{common_steps}
 
 take_all : (xs : List ℕ) → take (length xs) xs ≡ xs
 take_all [] = refl
@@ -29,34 +30,24 @@ opened [] f g a b = (apart a b, refl)
 opened (x ∷ xs) f g a b = (both x (cases xs f g (insert a x) b) (cases xs f g a (insert b x)), refl)
 
 pub left_dead : (ms : List ℕ) (f g : Formula) (a b : FinSet nat_cmp) → sat f (present a) ≡ false → refuted (dead Left 0) ≡ cases ms f g a b
-left_dead ms f g a b fails =
-    let o = opened ms f g a b in
-    sym (o.1 ∙ ap (λ p. if p then (if sat g (present b) then o.0 else refuted (dead Right 0)) else refuted (dead Left 0)) fails)
+left_dead ms f g a b fails = grind (arith, common_steps, (opened ms f g a b))
 
 pub right_dead : (ms : List ℕ) (f g : Formula) (a b : FinSet nat_cmp) → sat f (present a) ≡ true → sat g (present b) ≡ false → refuted (dead Right 0) ≡ cases ms f g a b
-right_dead ms f g a b holds fails =
-    let o = opened ms f g a b in
-    sym (o.1 ∙ (λ i. if holds i then (if fails i then o.0 else refuted (dead Right 0)) else refuted (dead Left 0)))
+right_dead ms f g a b holds fails = grind (arith, common_steps, (opened ms f g a b))
 
 pub stopped : (ms : List ℕ) (f g : Formula) (a b : FinSet nat_cmp) → ms ≡ [] → sat f (present a) ≡ true → sat g (present b) ≡ true → apart a b ≡ cases ms f g a b
 unfolding cases
-stopped ms f g a b none holds too =
-    sym (ap (λ xs. cases xs f g a b) none ∙ (λ i. if holds i then (if too i then apart a b else refuted (dead Right 0)) else refuted (dead Left 0)))
+stopped ms f g a b none holds too = grind (arith, common_steps)
 
 pub stepped : (ms : List ℕ) (x : ℕ) (xs : List ℕ) (f g : Formula) (a b a' b' : FinSet nat_cmp) → ms ≡ x ∷ xs → sat f (present a) ≡ true → sat g (present b) ≡ true → a' ≡ insert a x → b' ≡ insert b x → both x (cases xs f g a' b) (cases xs f g a b') ≡ cases ms f g a b
 unfolding cases
-stepped ms x xs f g a b a' b' is holds too left right =
-    (λ i. both x (cases xs f g (left i) b) (cases xs f g a (right i)))
-    ∙ sym (ap (λ ys. cases ys f g a b) is ∙ (λ i. if holds i then (if too i then both x (cases xs f g (insert a x) b) (cases xs f g a (insert b x)) else refuted (dead Right 0)) else refuted (dead Left 0)))
+stepped ms x xs f g a b a' b' is holds too left right = grind (arith, common_steps)
 
 pub left_apart : (ms : List ℕ) (x : ℕ) (xs : List ℕ) (f g : Formula) (a b a' p q : FinSet nat_cmp) → ms ≡ x ∷ xs → sat f (present a) ≡ true → sat g (present b) ≡ true → a' ≡ insert a x → apart p q ≡ cases xs f g a' b → apart p q ≡ cases ms f g a b
-left_apart ms x xs f g a b a' p q is holds too left found =
-    ap (λ l. both x l (cases xs f g a (insert b x))) found ∙ stepped ms x xs f g a b a' (insert b x) is holds too left refl
+left_apart ms x xs f g a b a' p q is holds too left found = grind (arith, common_steps, (stepped ms x xs f g a b a' (insert b x) is holds too left refl))
 
 pub right_apart : (ms : List ℕ) (x : ℕ) (xs : List ℕ) (f g : Formula) (a b a' b' p q : FinSet nat_cmp) (l : Rule) → ms ≡ x ∷ xs → sat f (present a) ≡ true → sat g (present b) ≡ true → a' ≡ insert a x → b' ≡ insert b x → refuted l ≡ cases xs f g a' b → apart p q ≡ cases xs f g a b' → apart p q ≡ cases ms f g a b
-right_apart ms x xs f g a b a' b' p q l is holds too left right one found =
-    (λ i. both x (one i) (found i)) ∙ stepped ms x xs f g a b a' b' is holds too left right
+right_apart ms x xs f g a b a' b' p q l is holds too left right one found = grind (arith, common_steps, (stepped ms x xs f g a b a' b' is holds too left right))
 
 pub both_refuted : (ms : List ℕ) (x : ℕ) (xs : List ℕ) (f g : Formula) (a b a' b' : FinSet nat_cmp) (l r : Rule) → ms ≡ x ∷ xs → sat f (present a) ≡ true → sat g (present b) ≡ true → a' ≡ insert a x → b' ≡ insert b x → refuted l ≡ cases xs f g a' b → refuted r ≡ cases xs f g a b' → refuted (split x l r) ≡ cases ms f g a b
-both_refuted ms x xs f g a b a' b' l r is holds too left right one other =
-    (λ i. both x (one i) (other i)) ∙ stepped ms x xs f g a b a' b' is holds too left right
+both_refuted ms x xs f g a b a' b' l r is holds too left right one other = grind (arith, common_steps, (stepped ms x xs f g a b a' b' is holds too left right))

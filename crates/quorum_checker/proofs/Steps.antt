@@ -1,5 +1,5 @@
 -- The steps from branch to branch.
-use Rattle.std.proofs.Common.{◌≡◌, ◌≢◌, ℕ, ◌+◌, ◌<◌, ◌≤◌, List, [], ◌∷◌, length, get_or, drop, map, arith, ap, ◌∙◌, sym, subst, add-one, drop-cons, Option, Some, None, Ok, Err, OnOk, IfErr, slice_get, true}
+use Rattle.std.proofs.Common.{◌≡◌, ◌≢◌, ℕ, ◌+◌, ◌<◌, ◌≤◌, List, [], ◌∷◌, length, get_or, drop, map, arith, ap, ◌∙◌, sym, subst, add-one, drop-cons, Option, Some, None, Ok, Err, OnOk, IfErr, true}
 use Rattle.std.proofs.lemmas.List.{drop_all}
 use Rattle.volume_model.specs.Common.{Formula}
 use Rattle.refutation.specs.declared.Side.{Side}
@@ -9,9 +9,10 @@ use Rattle.refutation.proofs.Rules.{branches_step}
 use Rattle.volume_model.specs.declared.fault.Fault.TheVariants.{NoMemory}
 use Rattle.quorum_checker.specs.declared.fault.FaultAt.{FaultAt}
 use Rattle.quorum_checker.specs.Refutes.{State, items_of, replaced, paired}
-use Rattle.quorum_checker.specs.FirstFault.{here, place, children_of, first_of, under, at_item, or_else, open_fault, pick_fault, pair_fault, first_fault, first_picked, first_paired, good_places}
+use Rattle.quorum_checker.specs.FirstFault.{here, place, children_of, first_of, under, open_fault, pick_fault, pair_fault, first_fault, first_picked, first_paired, good_places}
 use Rattle.quorum_checker.specs.Outcome.{Outcome, inside_branch, Answers}
 use Rattle.quorum_checker.proofs.Nodes.{split_places}
+use Rattle.std.proofs.lemmas.Grind.{common_steps}
 
 list_step : {P : Type 0} (xs : List P) (n : ℕ) (d : P) → n < length xs → drop n xs ≡ get_or xs n d ∷ drop (n + 1) xs
 list_step xs n d h = drop-cons xs n d h ∙ ap (λ m. get_or xs n d ∷ drop m xs) (sym (add-one n))
@@ -33,25 +34,11 @@ went_on (Err e) found d n rest v h is = cc
 -- where a branch has a fault, it is the first
 pub stopped : (r : Outcome) (found : Option FaultAt) (d n : ℕ) (rest : Option FaultAt) (e : FaultAt) → Answers r found d → inside_branch n r ≡ Err e → (e.fault ≢ NoMemory → first_of (under n found) rest ≡ Some e) × (length e.path < 1 + d)
 stopped (Ok u) found d n rest e h is = absurd (cc)
-stopped (Err e') found d n rest e h is =
-    let same : record e' { path = n ∷ e'.path } ≡ e = cc in
-    let kept : e'.fault ≡ e.fault = ap (λ x. x.fault) same in
-    (λ no. ap (λ f. first_of (under n f) rest) (h.0 (λ out. no (sym kept ∙ out))) ∙ ap Some same, omega (arith, h.1, ap (λ x. length x.path) same))
+stopped (Err e') found d n rest e h is = grind (arith, common_steps)
 
 -- the numbers are good, and so is the one at hand
 pub places_step : (m : ℕ) (cs : List ℕ) (n : ℕ) → n < length cs → good_places m (drop n cs) ≡ true → (get_or cs n 0 < m) × (good_places m (drop (n + 1) cs) ≡ true)
 places_step m cs n h good = split_places m (get_or cs n 0) (drop (n + 1) cs) (ap (good_places m) (sym (list_step cs n 0 h)) ∙ good)
-
--- where the test passes, the branches decide
-pub pick_begins : (side : Side) (i : ℕ) (cs : List ℕ) (branches : Branches) (st : State) (f : Formula) → slice_get (items_of side st) i ≡ Some f → pick_fault f cs (branch_count branches) ≡ None → first_fault (pick side i cs branches) st ≡ first_picked 0 branches side i (children_of f) cs st
-pick_begins side i cs branches st f at none =
-    ap (λ o. at_item o (λ g. or_else (pick_fault g cs (branch_count branches)) (first_picked 0 branches side i (children_of g) cs st))) at
-    ∙ ap (λ o. or_else o (first_picked 0 branches side i (children_of f) cs st)) none
-
-pub pair_begins : (i j : ℕ) (ps : List (ℕ × ℕ)) (branches : Branches) (st : State) (f g : Formula) → slice_get st.left i ≡ Some f → slice_get st.right j ≡ Some g → pair_fault f g ps (branch_count branches) ≡ None → first_fault (pair_up i j ps branches) st ≡ first_paired 0 branches i j (children_of f) (children_of g) ps st
-pair_begins i j ps branches st f g at also none =
-    (λ t. at_item (at t) (λ x. at_item (also t) (λ y. or_else (pair_fault x y ps (branch_count branches)) (first_paired 0 branches i j (children_of x) (children_of y) ps st))))
-    ∙ ap (λ o. or_else o (first_paired 0 branches i j (children_of f) (children_of g) ps st)) none
 
 -- ---- a turn of the loops
 
@@ -119,31 +106,10 @@ pub kept_on : (r : Outcome) (n : ℕ) (u : Unit {0}) (P : Type 0) → OnOk r P �
 kept_on (Ok v) n u P h is = h
 kept_on (Err e) n u P h is = absurd (cc)
 
--- a branch has a fault
-pub case_stops : (r : Outcome) (found : Option FaultAt) (d n : ℕ) (e : FaultAt) → Answers r found d → Err e ≡ inside_branch n r → (e.fault ≢ NoMemory → under n found ≡ Some e) × (length e.path < 1 + d)
-case_stops (Ok u) found d n e h is = absurd (cc)
-case_stops (Err e') found d n e h is =
-    let same : record e' { path = n ∷ e'.path } ≡ e = cc in
-    let kept : e'.fault ≡ e.fault = ap (λ x. x.fault) same in
-    (λ no. ap (under n) (h.0 (λ out. no (sym kept ∙ out))) ∙ ap Some same, omega (arith, h.1, ap (λ x. length x.path) same))
-
--- it has none
-pub case_goes_on : (r : Outcome) (found : Option FaultAt) (d n : ℕ) (u : Unit {0}) → Answers r found d → Ok u ≡ inside_branch n r → under n found ≡ None
-case_goes_on (Ok v) found d n u h is = ap (under n) h
-case_goes_on (Err e) found d n u h is = absurd (cc)
-
--- where the test passes, the branch decides
-pub open_begins : (side : Side) (i : ℕ) (rule : Rule) (st : State) (f : Formula) → slice_get (items_of side st) i ≡ Some f → open_fault f ≡ None → first_fault (open_all side i rule) st ≡ under 0 (first_fault rule (replaced side i (children_of f) st))
-open_begins side i rule st f at none =
-    ap (λ o. at_item o (λ g. or_else (open_fault g) (under 0 (first_fault rule (replaced side i (children_of g) st))))) at
-    ∙ ap (λ o. or_else o (under 0 (first_fault rule (replaced side i (children_of f) st)))) none
-
 -- the last item is put back where no branch has a fault
 pub ends : (r : Outcome) (found : Option FaultAt) (d : ℕ) → found ≡ None → IfErr r (λ e. e ≡ here NoMemory) → Answers r found (1 + d)
 ends (Ok u) found d none h = none
-ends (Err e) found d none h =
-    let short : length e.path ≡ 0 = ap (λ x. length x.path) h in
-    (λ no. absurd (no (ap (λ x. x.fault) h)), omega (arith, short))
+ends (Err e) found d none h = grind (arith, common_steps)
 
 -- what a check that changes nothing keeps
 pub unchanged : (r : Outcome) (P : Type 0) → P → OnOk r P

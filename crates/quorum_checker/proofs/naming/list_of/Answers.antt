@@ -1,9 +1,8 @@
-use Rattle.std.proofs.Common.{◌≡◌, ◌∙◌, ◌++◌, ◌∷◌, [], ap, sym, arith}
+use Rattle.std.proofs.Common.{◌≡◌, ◌∙◌, ap, arith}
 use Rattle.std.specs.FinSet as set
 use Rattle.volume_model.specs.Common.{each_below}
-use Rattle.quorum_expr.proofs.MemberLists.{one_more, no_more}
 use Rattle.quorum_checker.proofs.naming.list_of.Goals as goal
-use Rattle.quorum_checker.proofs.naming.list_of.Goals.{then-contains+in_ok-push, else-contains}
+use Rattle.std.proofs.lemmas.Grind.{common_steps}
 
 pub returns-clause-listed : goal.returns-clause-listed
 returns-clause-listed c =
@@ -11,7 +10,4 @@ returns-clause-listed c =
     c.loop-member.invariant ∙ ap (λ n. each_below n (set.contains c.args.members) (λ x. x)) all
 
 pub loop-member-preserved : goal.loop-member-preserved
-loop-member-preserved c = elim c.if-contains.branch [
-  | then-contains+in_ok-push w ↦ rw w.list-is (w.in_ok-push.ensures.items ∙ ap (λ xs. xs ++ c.loop-member.member ∷ []) c.loop-member.invariant ∙ sym (one_more c.loop-member.member _ (λ x. x) (sym w.if-contains.ensures.is_in)))
-  | else-contains w ↦ rw w.list-is (c.loop-member.invariant ∙ sym (no_more c.loop-member.member _ (λ x. x) (sym w.if-contains.ensures.is_in)))
-]
+loop-member-preserved c = grind (arith, common_steps)
