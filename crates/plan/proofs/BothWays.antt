@@ -1,15 +1,16 @@
 -- A plan has no fault exactly where it is certified.
-use Rattle.std.proofs.Common.{◌≡◌, ℕ, zero, suc, ◌<◌, List, length, refl, ap, arith, Bool, true, false, if◌then◌else◌, Option, Some, None}
+use Rattle.std.proofs.Common.{◌≡◌, ℕ, zero, suc, ◌<◌, List, refl, ap, arith, Bool, true, Option, Some, None}
 use Rattle.refutation.specs.Common.{Rule}
 use Rattle.quorum_checker.specs.Refutes.{State, Refutes}
 use Rattle.quorum_checker.specs.FirstFault.{first_fault}
 use Rattle.plan.specs.declared.fault.PlanFault.{PlanFault}
-use Rattle.plan.specs.declared.fault.PlanFault.TheVariants.{BadParent}
 use Rattle.plan.specs.PlanData.{ConfigurationData, PlanData, group_at, configuration_at, by_parent}
-use Rattle.plan.specs.PlanFaults.{or_then, first_below, is_good_parent, parent_fault, reuse_fault, certificate_fault, claim_fault, meets_claim, step_claim, meets_fault, step_fault, shape_fault, configuration_fault, group_fault, plan_fault}
+use Rattle.plan.specs.PlanFaults.{or_then, first_below, parent_fault, reuse_fault, certificate_fault, claim_fault, step_claim, meets_fault, step_fault, shape_fault, configuration_fault, plan_fault}
 use Rattle.plan.specs.Certified.{IsShown, IsStepShown, IsCertifiedAt, IsCertifiedPlan}
 use Rattle.plan.proofs.KeepsClaims.{neither, no-fault, passes, no-certificate_fault}
 use Rattle.plan.proofs.Reused.{reuse_is_found}
+use Rattle.std.proofs.lemmas.Grind.{common_steps}
+use Rattle.std.proofs.Common.{rules}
 
 none-below : (n : ℕ) (f : ℕ → Option PlanFault) → ((i : ℕ) → i < n → f i ≡ None) → first_below n f ≡ None
 none-below zero f h = refl
@@ -38,23 +39,11 @@ module _ (refutes : (rule : Rule) (state : State) → first_fault rule state ≡
       let whole = neither (shape_fault g group c) (or_then (meets_fault g group c) (step_fault g group c)) (no-fault plan g c h there below) in
       let shape = neither (parent_fault g group c) (reuse_fault g group c) whole.0 in
       let claims = neither (meets_fault g group c) (step_fault g group c) whole.1 in
-      record {
-        parent = passes (is_good_parent c (configuration_at group c).parent) (BadParent g c) shape.0;
-        unused = (reuse_is_found.none g c group).0 shape.1;
-        meets = shown g c false (configuration_at group c).meets (meets_claim (configuration_at group c)) claims.0;
-        step = step-shown g c group (configuration_at group c).parent claims.1;
-      }
+      search (rules, passes, reuse_is_found, shown, step-shown)
 
   no-fault-at : (g c : ℕ) (group : List ConfigurationData) → IsCertifiedAt group c → configuration_fault g group c ≡ None
-  no-fault-at g c group at =
-      let parent : parent_fault g group c ≡ None = ap (λ (b : Bool). if b then None else Some (BadParent g c)) at.parent in
-      let unused : reuse_fault g group c ≡ None = (reuse_is_found.none g c group).1 at.unused in
-      let meets : meets_fault g group c ≡ None = faultless g c false (configuration_at group c).meets (meets_claim (configuration_at group c)) at.meets in
-      let step : step_fault g group c ≡ None = step-faultless g c group (configuration_at group c).parent at.step in
-      λ j. or_then (or_then (parent j) (unused j)) (or_then (meets j) (step j))
+  no-fault-at g c group at = search (rules, None, Some, reuse_is_found, faultless, step-faultless)
 
   pub fault_free : (plan : PlanData) → IsCertifiedPlan plan → plan_fault plan ≡ None
   unfolding plan_fault
-  fault_free plan certified =
-      none-below (length plan.groups) (λ g. group_fault g (group_at plan g)) (λ g there.
-      none-below (length (group_at plan g)) (configuration_fault g (group_at plan g)) (λ c below. no-fault-at g c (group_at plan g) (certified g c there below)))
+  fault_free plan certified = grind (arith, common_steps, none-below, no-fault-at, certified)

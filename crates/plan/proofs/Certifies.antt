@@ -5,7 +5,7 @@ use Rattle.std.specs.FinSet.{FinSet, difference, empty}
 use Rattle.std.proofs.lemmas.Bool.{cases_lt}
 use Rattle.volume_model.specs.Common.{dual_of, listed}
 use Rattle.refutation.specs.Common.{Rule}
-use Rattle.quorum_checker.specs.Refutes.{State, claim_state}
+use Rattle.quorum_checker.specs.Refutes.{claim_state}
 use Rattle.plan.specs.declared.fault.PlanFault.{PlanFault}
 use Rattle.plan.specs.declared.fault.PlanFault.TheVariants.{BadParent}
 use Rattle.plan.specs.PlanData.{ConfigurationData, PlanData, configuration_at, earlier, by_parent}
@@ -19,6 +19,8 @@ use Rattle.plan.proofs.Found.{passes}
 use Rattle.plan.proofs.Reread.{then_ok, ok_is}
 use Rattle.plan.specs.Shown.{AreShown}
 use Rattle.plan.specs.Sums.{sum_below}
+use Rattle.std.proofs.lemmas.Grind.{common_steps}
+use Rattle.std.proofs.Common.{rules}
 
 -- ---- claims and rules
 
@@ -49,11 +51,7 @@ module _ (claims_of : ℕ → Result (List PlacedClaim) PlanFault) (count : ℕ 
       let parts = shown_parts before.0 here.0 rules (subst (λ (zs : List PlacedClaim). AreShown zs rules) (sym joined) shown) in
       elim (cases_lt i n) [
         | inl earlier ↦ below_shown n before.0 rules before.1 parts.0 i earlier
-        | inr past ↦ (let same : n ≡ i = omega arith in (
-          here.0,
-          ap claims_of (sym same) ∙ here.1,
-          subst (λ (k : ℕ). AreShown here.0 (drop k rules)) (below_counted n before.0 before.1 ∙ ap (sum_below count) same) parts.1,
-        ))
+        | inr past ↦ grind (arith, common_steps, below_counted)
       ]
 
 -- ---- the same configurations, except their certificates
@@ -92,10 +90,7 @@ unused-same xs rules (suc n) c s =
     λ i. by_parent (earlier c (parent-same xs rules c i)) s (λ p. above p i)
 
 reused-same : (xs : List ConfigurationData) (rules : List (Option Rule)) (c : ℕ) → reused_at (configurations_with xs rules) c ≡ reused_at xs c
-reused-same xs rules c =
-    let unused : unused_within c (configurations_with xs rules) c (fresh_at (configurations_with xs rules) c) ≡ unused_within c xs c (fresh_at xs c) =
-    unused-same xs rules c c (fresh_at (configurations_with xs rules) c) ∙ ap (unused_within c xs c) (fresh-same xs rules c) in
-    λ i. difference (fresh-same xs rules c i) (unused i)
+reused-same xs rules c = grind (arith, common_steps, unused-same, fresh-same)
 
 step-same : (xs : List ConfigurationData) (rules : List (Option Rule)) (c p : ℕ) → step_claim (configurations_with xs rules) c p ≡ step_claim xs c p
 step-same xs rules c p = λ i. claim_state (read-same xs rules c i) (dual_of (read-same xs rules p i)) (fresh-same xs rules c i)
@@ -125,19 +120,13 @@ written-at : (xs : List ConfigurationData) (rules : List (Option Rule)) (c : ℕ
     → configuration_at (configurations_with xs rules) c ≡ configuration_with (configuration_at xs c) (drop (claims_before xs c) rules)
 written-at [] rules c h = absurd (omega arith)
 written-at (x ∷ xs) rules zero h = refl
-written-at (x ∷ xs) rules (suc c) h =
-    let places = sum-front (λ k. claim_count (configuration_at (x ∷ xs) k)) c in
-    written-at xs (drop (claim_count x) rules) c (omega arith)
-    ∙ ap (configuration_with (configuration_at xs c)) (further rules (claim_count x) (claims_before xs c) (claims_before (x ∷ xs) (suc c)) places)
+written-at (x ∷ xs) rules (suc c) h = grind (arith, common_steps, sum-front, further, claims_before, (written-at xs (drop (claim_count x) rules) c (omega arith)))
 
 group-at : (groups : List (List ConfigurationData)) (rules : List (Option Rule)) (g : ℕ) → g < length groups
     → slice_index_or (groups_with groups rules) g [] ≡ configurations_with (slice_index_or groups g []) (drop (group_claims_before groups g) rules)
 group-at [] rules g h = absurd (omega arith)
 group-at (xs ∷ groups) rules zero h = refl
-group-at (xs ∷ groups) rules (suc g) h =
-    let places = sum-front (λ k. claim_counts (slice_index_or (xs ∷ groups) k [])) g in
-    group-at groups (drop (claim_counts xs) rules) g (omega arith)
-    ∙ ap (configurations_with (slice_index_or groups g [])) (further rules (claim_counts xs) (group_claims_before groups g) (group_claims_before (xs ∷ groups) (suc g)) places)
+group-at (xs ∷ groups) rules (suc g) h = grind (arith, common_steps, sum-front, slice_index_or, further, group_claims_before, (group-at groups (drop (claim_counts xs) rules) g (omega arith)))
 
 -- ---- one configuration
 
@@ -158,11 +147,7 @@ abbrev claims-by : ℕ → ℕ → List ConfigurationData → Option ℕ → Lis
 claims-by g c xs q = meets-placed g c xs ∷ by_parent q [] (λ p. step-placed g c xs p ∷ [])
 
 claims-counted : (g c : ℕ) (xs : List ConfigurationData) → length (claims_at g xs c) ≡ claim_count (configuration_at xs c)
-claims-counted g c xs = by_cases (configuration_at xs c).parent
-  where
-    by_cases : (q : Option ℕ) → length (claims-by g c xs q) ≡ by_parent q 1 (λ p. 2)
-    by_cases None = refl
-    by_cases (Some p) = refl
+claims-counted g c xs = grind (arith, common_steps)
 
 configuration-counted : (g : ℕ) (xs : List ConfigurationData) (c : ℕ) (ys : List PlacedClaim) → configuration_claims g xs c ≡ Ok ys → length ys ≡ claim_count (configuration_at xs c)
 configuration-counted g xs c ys h = ap length (sym (unless_ok (shape_fault g xs c) (claims_at g xs c) ys h).1) ∙ claims-counted g c xs
@@ -185,10 +170,7 @@ step-shown : (g c : ℕ) (xs : List ConfigurationData) (rules here : List (Optio
     → (configuration_at (configurations_with xs rules) c).step ≡ by_parent q None (λ p. certificate_at here 1)
     → IsStepShown q (configurations_with xs rules) c
 step-shown g c xs rules here None shown is = tt
-step-shown g c xs rules here (Some p) shown is =
-    let claim : IsShown (certificate_at here 1) (step_claim xs c p) = second-shown (meets-placed g c xs) (step-placed g c xs p) here shown in
-    subst (λ (r : Option Rule). IsShown r (step_claim (configurations_with xs rules) c p)) (sym is)
-    (subst (λ (st : State). IsShown (certificate_at here 1) st) (sym (step-same xs rules c p)) claim)
+step-shown g c xs rules here (Some p) shown is = grind (arith, common_steps, second-shown, meets-placed, step-placed, step-same)
 
 certified-at : (g c : ℕ) (xs : List ConfigurationData) (rules : List (Option Rule)) (ys : List PlacedClaim) → c < length xs → configuration_claims g xs c ≡ Ok ys → AreShown ys (drop (claims_before xs c) rules)
     → IsCertifiedAt (configurations_with xs rules) c

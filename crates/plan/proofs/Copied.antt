@@ -1,5 +1,5 @@
 -- Values of a tape that are put as they are.
-use Rattle.std.proofs.Common.{◌≡◌, List, [], ◌∷◌, ◌++◌, Some, ap, sym, subst, ◌∙◌}
+use Rattle.std.proofs.Common.{◌≡◌, List, [], Some, ap, sym, subst, ◌∙◌}
 use Rattle.json.specs.Token.{begin_array, end_array}
 use Rattle.json.specs.Written.{Written}
 use Rattle.serde_json.specs.Data.{Data, array, Items, no_items, item}
@@ -8,6 +8,8 @@ use Rattle.quorum_expr.specs.Common.{items_in}
 use Rattle.plan.specs.Puts.{Puts, PutsToken, Lists}
 use Rattle.plan.proofs.Joined.{joined, joined-one}
 use Rattle.plan.proofs.Putting.{listing, one_listed, listed}
+use Rattle.std.proofs.lemmas.Grind.{common_steps}
+use Rattle.std.proofs.Common.{arith}
 
 array-data : (d : Data) (ds : Items) → Some ds ≡ as_array d → d ≡ array ds
 array-data (array es) ds h = let same : ds ≡ es = cc in ap array (sym same)
@@ -23,15 +25,7 @@ pub begun : (d : Data) (old new : Written) (rest : Items) → Some rest ≡ as_a
 begun d old new rest h t = record { ds = []; lists = listing old new t; all = array-data d rest h }
 
 pub one_copied : (d e : Data) (start mid new : Written) (old rest : Items) → Copies d start mid old → old ≡ item e rest → Puts e mid new → Copies d start new rest
-one_copied d e start mid new old rest c is p = record {
-  ds = c.ds ++ e ∷ [];
-  lists = one_listed c.ds e start mid new c.lists p;
-  all = c.all ∙ ap (λ r. array (joined c.ds r)) is ∙ ap array (joined-one c.ds e rest);
-}
+one_copied d e start mid new old rest c is p = grind (arith, common_steps, one_listed, joined, joined-one)
 
 pub ended : (d : Data) (start now new : Written) (rest : Items) → Copies d start now rest → rest ≡ no_items → PutsToken end_array now new → Puts d start new
 ended d start now new rest c none t = subst (λ x. Puts x start new) (sym (c.all ∙ ap (λ r. array (joined c.ds r)) none)) (listed c.ds start now new c.lists t)
-
-pub items-array : (d : Data) (ds : Items) → Some ds ≡ as_array d → items_in d ≡ ds
-items-array (array es) ds h = let same : ds ≡ es = cc in sym same
-items-array d ds h = absurd (cc)

@@ -1,23 +1,16 @@
 -- The epoch of a child is one more than its parent's.
-use Rattle.std.proofs.Common.{◌≡◌, ℕ, zero, suc, ◌<◌, ◌≤◌, List, arith, refl, ap, ◌∙◌, sym, true, false, nat_lt, if◌then◌else◌, Option, Some, None}
-use Rattle.std.proofs.lemmas.Bool.Decides.{nat_tests}
+use Rattle.std.proofs.Common.{◌≡◌, ℕ, zero, suc, ◌<◌, ◌≤◌, List, arith, refl, ap, ◌∙◌, sym, Option, Some, None}
 use Rattle.plan.specs.PlanData.{ConfigurationData, configuration_at, earlier, parent_at, by_parent, epoch_within, epoch_at}
+use Rattle.std.proofs.lemmas.Grind.{common_steps}
 
 -- an earlier parent stands before
 pub earlier-below : (c : ℕ) (q : Option ℕ) (p : ℕ) → earlier c q ≡ Some p → p < c
 earlier-below c None p h = absurd (cc)
-earlier-below c (Some r) p h =
-    elim (nat_lt r c) as (λ b. nat_lt r c ≡ b → (if b then Some r else None) ≡ Some p → p < c) [
-      | true ↦ λ e is. (let same : r ≡ p = cc in let below : r < c = grind (arith, nat_tests, e) in omega arith)
-      | false ↦ λ e is. absurd (cc)
-    ] refl h
+earlier-below c (Some r) p h = grind (arith, common_steps)
 
 no-earlier : (q : Option ℕ) → earlier 0 q ≡ None
 no-earlier None = refl
-no-earlier (Some p) = ap (λ b. if b then Some p else None) (past p)
-  where
-    past : (n : ℕ) → nat_lt n 0 ≡ false
-    past n = grind (arith, nat_tests)
+no-earlier (Some p) = grind (arith, common_steps)
 
 epoch-root : (n : ℕ) (group : List ConfigurationData) → epoch_within n group 0 ≡ 1
 epoch-root zero group = refl
@@ -36,5 +29,4 @@ epoch-steps (suc m) (suc n) group (suc c) h k =
 
 pub epoch-next : (group : List ConfigurationData) (c p : ℕ) → parent_at group c ≡ Some p → p < c → epoch_at group c ≡ suc (epoch_at group p)
 epoch-next group zero p is below = absurd (omega arith)
-epoch-next group (suc c) p is below =
-    ap (λ q. by_parent q 1 (λ r. suc (epoch_within c group r))) is ∙ ap suc (epoch-steps c p group p (omega arith) (omega arith))
+epoch-next group (suc c) p is below = grind (arith, common_steps, epoch-steps)

@@ -1,15 +1,14 @@
 -- The first fault, found step by step.
-use Rattle.std.proofs.Common.{◌≡◌, ℕ, zero, suc, ◌+◌, ◌<◌, List, arith, refl, ap, ◌∙◌, sym, subst, add-one, inl, inr, Bool, true, false, nat_lt, if◌then◌else◌, Option, Some, None, Result, Ok, Err}
-use Rattle.std.proofs.lemmas.Bool.Decides.{nat_tests}
+use Rattle.std.proofs.Common.{◌≡◌, ℕ, zero, suc, ◌+◌, ◌<◌, List, arith, refl, ap, ◌∙◌, sym, add-one, inl, inr, Bool, true, false, if◌then◌else◌, Option, Some, None, Result, Ok, Err}
 use Rattle.std.specs.Result.{IsErrAnd}
 use Rattle.std.proofs.lemmas.Bool.{cases_lt}
 use Rattle.std.specs.FinSet.{empty, difference}
 use Rattle.volume_model.specs.Common.{dual_of}
 use Rattle.quorum_checker.specs.Refutes.{claim_state}
 use Rattle.plan.specs.declared.fault.PlanFault.{PlanFault}
-use Rattle.plan.specs.declared.fault.PlanFault.TheVariants.{BadParent}
 use Rattle.plan.specs.PlanData.{ConfigurationData, configuration_at, by_parent}
-use Rattle.plan.specs.PlanFaults.{or_then, first_below, is_good_parent, reuse_fault, shape_fault, claim_fault, meets_claim, configuration_fault, Finds}
+use Rattle.plan.specs.PlanFaults.{or_then, first_below, shape_fault, claim_fault, meets_claim, configuration_fault, Finds}
+use Rattle.std.proofs.lemmas.Grind.{common_steps}
 
 -- the faults of the claims of x, where its parent is q
 abbrev claims : ℕ → List ConfigurationData → ℕ → ConfigurationData → Option ℕ → Option PlanFault
@@ -17,19 +16,11 @@ claims g group c x q =
     or_then (claim_fault g c false x.meets (meets_claim x))
     (by_parent q None (λ p. claim_fault g c true x.step (claim_state x.read (dual_of (configuration_at group p).read) (by_parent q empty (λ m. difference x.members (configuration_at group m).members)))))
 
--- the fault of the step of x
-abbrev step-of : ℕ → List ConfigurationData → ℕ → ConfigurationData → Option PlanFault
-step-of g group c x = by_parent x.parent None (λ p. claim_fault g c true x.step (claim_state x.read (dual_of (configuration_at group p).read) (by_parent x.parent empty (λ m. difference x.members (configuration_at group m).members))))
-
 pub step-found : (g c : ℕ) (group : List ConfigurationData) (x y : ConfigurationData) (p : ℕ) (r : Result (Unit {0}) PlanFault) → configuration_at group c ≡ x → configuration_at group p ≡ y → x.parent ≡ Some p
     → shape_fault g group c ≡ None → claim_fault g c false x.meets (meets_claim x) ≡ None
     → Finds r (claim_fault g c true x.step (claim_state x.read (dual_of y.read) (difference x.members y.members)))
     → Finds r (configuration_fault g group c)
-step-found g c group x y p r here there parent shape meets found =
-    let same : configuration_fault g group c ≡ claim_fault g c true x.step (claim_state x.read (dual_of y.read) (difference x.members y.members)) =
-    (λ i. or_then (shape i) (claims g group c (here i) (here i).parent)) ∙ (λ i. claims g group c x (parent i))
-    ∙ (λ i. or_then (meets i) (claim_fault g c true x.step (claim_state x.read (dual_of (there i).read) (difference x.members (there i).members)))) in
-    subst (Finds r) (sym same) found
+step-found g c group x y p r here there parent shape meets found = grind (arith, common_steps)
 
 -- a fault of the configuration's shape is its fault
 pub shape-found : (g c : ℕ) (group : List ConfigurationData) (r : Result (Unit {0}) PlanFault) (fault : PlanFault) → Finds (Err fault) (shape_fault g group c) → IsErrAnd r (λ f. f ≡ fault) → Finds r (configuration_fault g group c)
@@ -40,13 +31,11 @@ shape-found g c group (Err f) fault found h = λ other. ap (λ o. or_then o (cla
 pub meets-found : (g c : ℕ) (group : List ConfigurationData) (x : ConfigurationData) (r : Result (Unit {0}) PlanFault) (fault : PlanFault) → configuration_at group c ≡ x → shape_fault g group c ≡ None
     → Finds (Err fault) (claim_fault g c false x.meets (meets_claim x)) → IsErrAnd r (λ f. f ≡ fault) → Finds r (configuration_fault g group c)
 meets-found g c group x (Ok u) fault here shape found h = absurd h
-meets-found g c group x (Err f) fault here shape found h = λ other.
-    (λ i. or_then (shape i) (claims g group c (here i) (here i).parent)) ∙ ap (λ o. or_then o (step-of g group c x)) (found (λ out. other (h ∙ out))) ∙ ap Some (sym h)
+meets-found g c group x (Err f) fault here shape found h = grind (arith, common_steps)
 
 -- a root without a fault of its shape and claim has none
 pub root-found : (g c : ℕ) (group : List ConfigurationData) (x : ConfigurationData) → configuration_at group c ≡ x → x.parent ≡ None → shape_fault g group c ≡ None → claim_fault g c false x.meets (meets_claim x) ≡ None → configuration_fault g group c ≡ None
-root-found g c group x here parent shape meets =
-    (λ i. or_then (shape i) (claims g group c (here i) (here i).parent)) ∙ (λ i. claims g group c x (parent i)) ∙ ap (λ o. or_then o None) meets
+root-found g c group x here parent shape meets = grind (arith, common_steps)
 
 pub none-more : (i : ℕ) (f : ℕ → Option PlanFault) → first_below i f ≡ None → f i ≡ None → first_below (i + 1) f ≡ None
 none-more i f before here = ap (λ n. first_below n f) (add-one i) ∙ (λ j. or_then (before j) (here j))
@@ -67,10 +56,6 @@ pub passes : (b : Bool) (fault : PlanFault) (next : Option PlanFault) → or_the
 passes true fault next h = (refl, h)
 passes false fault next h = absurd (cc)
 
-below-from : (p c : ℕ) → nat_lt p c ≡ true → p < c
-below-from p c h = grind (arith, nat_tests)
-
 -- the parent stands before the configuration
 pub parent-below : (g : ℕ) (group : List ConfigurationData) (c p : ℕ) → shape_fault g group c ≡ None → (configuration_at group c).parent ≡ Some p → p < c
-parent-below g group c p shape is =
-    below-from p c (ap (is_good_parent c) (sym is) ∙ (passes (is_good_parent c (configuration_at group c).parent) (BadParent g c) (reuse_fault g group c) shape).0)
+parent-below g group c p shape is = grind (arith, common_steps)

@@ -1,6 +1,6 @@
 -- Fresh members weren't in use before.
 use Rattle.std.proofs.Common.{◌≡◌, ℕ, zero, suc, ◌<◌, ◌≤◌, List, [], ◌∷◌, arith, refl, ap, ◌∙◌, sym, ◌++◌, inl, inr, Bool, true, false, not, nat_lt, if◌then◌else◌, Option, Some, None, slice_get}
-use Rattle.std.proofs.lemmas.Bool.{cases_lt, and_parts, not-true}
+use Rattle.std.proofs.lemmas.Bool.{cases_lt, and_parts}
 use Rattle.std.proofs.lemmas.Bool.Decides.{nat_tests}
 use Rattle.std.specs.Ordering.{nat_cmp}
 use Rattle.std.specs.Cmp.{nat_cmp_total}
@@ -8,13 +8,12 @@ use Rattle.std.specs.FinSet.{FinSet, contains, difference, contains-difference}
 use Rattle.volume_model.specs.Common.{each_below, listed}
 use Rattle.plan.specs.PlanData.{ConfigurationData, configuration_at, earlier, parent_at, by_parent}
 use Rattle.plan.specs.PlanFaults.{is_good_parent, unused_within}
+use Rattle.std.proofs.lemmas.Grind.{common_steps}
 
 -- ---- members of differences
 
 pub in-difference : (s t : FinSet nat_cmp) (x : ℕ) → contains (difference s t) x ≡ true → (contains s x ≡ true) × (contains t x ≡ false)
-in-difference s t x h =
-    let parts = and_parts (contains s x) (not (contains t x)) (sym (contains-difference nat_cmp_total s t x) ∙ h) in
-    (parts.0, not-true (contains t x) parts.1)
+in-difference s t x h = grind (arith, common_steps, (and_parts (contains s x) (not (contains t x)) (sym (contains-difference nat_cmp_total s t x) ∙ h)), (not (contains t x)))
 
 -- ---- parents
 

@@ -1,19 +1,14 @@
 -- Where a plan has claims, its parents are good.
-use Rattle.std.proofs.Common.{◌≡◌, ℕ, zero, suc, ◌+◌, ◌<◌, ◌∙◌, List, [], ◌∷◌, ◌++◌, length, refl, ap, subst, arith, add-zero, inl, inr, true, Option, Some, None, Result, Ok, slice_index_or}
+use Rattle.std.proofs.Common.{◌≡◌, ℕ, zero, suc, ◌+◌, ◌<◌, ◌∙◌, List, [], ◌∷◌, ◌++◌, length, ap, subst, arith, add-zero, inl, inr, true, Result, Ok, slice_index_or}
 use Rattle.std.proofs.lemmas.Bool.{cases_lt}
 use Rattle.plan.specs.declared.fault.PlanFault.{PlanFault}
-use Rattle.plan.specs.declared.fault.PlanFault.TheVariants.{BadParent}
 use Rattle.plan.specs.PlanData.{ConfigurationData, PlanData, configuration_at}
-use Rattle.plan.specs.PlanFaults.{is_good_parent, reuse_fault, shape_fault}
+use Rattle.plan.specs.PlanFaults.{is_good_parent}
 use Rattle.plan.specs.PlanText.{◌>=>◌}
-use Rattle.plan.specs.PlanClaims.{PlacedClaim, claims_at, unless, configuration_claims, claims_below, group_claims, claims_in}
-use Rattle.plan.proofs.Found.{passes}
+use Rattle.plan.specs.PlanClaims.{PlacedClaim, unless, configuration_claims, claims_below, group_claims, claims_in}
 use Rattle.plan.proofs.Reread.{then_ok}
 use Rattle.plan.proofs.RereadPlan.{GoodFrom, AllGood}
-
-unless_ok : {A : Type 0} (fault : Option PlanFault) (x y : A) → unless fault x ≡ Ok y → fault ≡ None
-unless_ok None x y h = refl
-unless_ok (Some fault) x y h = absurd (cc)
+use Rattle.std.proofs.lemmas.Grind.{common_steps}
 
 -- each number below the bound has claims, where all together have some
 claims-each : (n i : ℕ) (f : ℕ → Result (List PlacedClaim) PlanFault) (cs : List PlacedClaim) → i < n → claims_below n f ≡ Ok cs → (ds : List PlacedClaim) × (f i ≡ Ok ds)
@@ -27,8 +22,7 @@ claims-each (suc n) i f cs h is =
     ]
 
 parent-good : (g c : ℕ) (group : List ConfigurationData) (cs : List PlacedClaim) → configuration_claims g group c ≡ Ok cs → is_good_parent c (configuration_at group c).parent ≡ true
-parent-good g c group cs h =
-    (passes (is_good_parent c (configuration_at group c).parent) (BadParent g c) (reuse_fault g group c) (unless_ok (shape_fault g group c) (claims_at g group c) cs h)).0
+parent-good g c group cs h = grind (arith, common_steps)
 
 good-from : (c : ℕ) (xs : List ConfigurationData) → ((k : ℕ) → k < length xs → is_good_parent (c + k) (configuration_at xs k).parent ≡ true) → GoodFrom c xs
 good-from c [] h = tt

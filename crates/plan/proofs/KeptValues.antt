@@ -9,7 +9,7 @@ use Rattle.volume_model.specs.declared.fault.Fault.{Fault}
 use Rattle.volume_model.specs.Common.{◌>>=◌}
 use Rattle.refutation.specs.Common.{Rule}
 use Rattle.plan.specs.PlanData.{PlanData}
-use Rattle.plan.specs.PlanText.{Fields, fields_of, is_from_1, group_items, header_of, Header, json_of, value_of, plan_in}
+use Rattle.plan.specs.PlanText.{Fields, fields_of, is_from_1, group_items, header_of, Header, value_of, plan_in}
 use Rattle.plan.specs.PlanClaims.{PlacedClaim, claims_in}
 use Rattle.plan.specs.Rewriting.{fields_object, meets_value, step_value, configuration_written, configurations_written, group_object, group_written, groups_written, plan_object, plan_written}
 use Rattle.plan.specs.Kept.{OwnValues, without_certificates, own_fields, each_own, groups_own, own_values, KeepsValues}
@@ -18,6 +18,7 @@ use Rattle.plan.proofs.Reread.{bind_ok, ok_is, fields_of-object}
 use Rattle.plan.proofs.RereadPlan.{AreRead, IsBorn, header_of-ok, header_of-object, group_items-ok, group_items-object, plan-reread}
 use Rattle.plan.proofs.Rewrites.{value-nests}
 use Rattle.plan.proofs.GoodParents.{parents-good}
+use Rattle.std.proofs.lemmas.Grind.{common_steps}
 
 -- both values spell these fields, except certificates
 record SameFields (d y : Data) : Type 0 where
@@ -67,12 +68,7 @@ unfolding group_written
 group-kept d ds y vs items h =
     let all = bind_ok (configurations_written 0 ds vs) (λ xs. Ok (group_object xs)) y h in
     let kept = configurations-kept 0 ds all.0 vs all.1 in
-    let few : is_from_1 64 (items_len (items_of all.0)) ≡ true = ap (is_from_1 64) kept.counted ∙ (group_items-ok d ds items).few in
-    subst (SameGroup ds) (ok_is (group_object all.0) y all.2) (record {
-      each = kept.each;
-      old = kept.old;
-      new = ap (λ (r : Result Items Fault). r >>= each_own) (group_items-object all.0 few) ∙ kept.new;
-    })
+    grind (arith, common_steps, ok_is, group_items-object, (ap (is_from_1 64) kept.counted ∙ (group_items-ok d ds items).few))
 
 -- both lists spell these groups, except certificates
 record SameGroups (ds ys : Items) : Type 0 where
@@ -82,10 +78,7 @@ record SameGroups (ds ys : Items) : Type 0 where
   counted : items_len ys ≡ items_len ds
 
 group-first : (y : Data) (ys : Items) (fs : List Fields) (gs : List (List Fields)) → (group_items y >>= each_own) ≡ Ok fs → groups_own ys ≡ Ok gs → groups_own (item y ys) ≡ Ok (fs ∷ gs)
-group-first y ys fs gs here there =
-    let items = bind_ok (group_items y) each_own fs here in
-    ap (λ (r : Result Items Fault). r >>= λ cs. each_own cs >>= λ fs. groups_own ys >>= λ gs. Ok (fs ∷ gs)) items.1
-    ∙ (λ i. items.2 i >>= λ fs. there i >>= λ gs. Ok (fs ∷ gs))
+group-first y ys fs gs here there = grind (arith, common_steps)
 
 groups-kept : (ds : Items) (ys vs : List Data) → groups_written ds vs ≡ Ok ys → SameGroups ds (items_of ys)
 groups-kept no_items ys vs h = subst (λ zs. SameGroups no_items (items_of zs)) (ok_is [] ys h) (record { groups = []; old = refl; new = refl; counted = refl })
@@ -127,8 +120,7 @@ plan-kept d y vs h =
     subst (SameValues d) (ok_is (plan_object format lal born groups.0) y groups.2) (record {
       values = record { format = format; lal = lal; born = born; groups = kept.groups };
       old = ap (λ (r : Result Header Fault). r >>= own_of) header.1 ∙ ap (λ (r : Result (List (List Fields)) Fault). r >>= λ gs. Ok (record { format = format; lal = lal; born = born; groups = gs })) kept.old;
-      new = ap (λ (r : Result Header Fault). r >>= own_of) (header_of-object format lal born groups.0 headed.lal few at_birth)
-          ∙ ap (λ (r : Result (List (List Fields)) Fault). r >>= λ gs. Ok (record { format = format; lal = lal; born = born; groups = gs })) kept.new;
+      new = grind (arith, common_steps, (header_of-object format lal born groups.0 headed.lal few at_birth), (List (List Fields)), (List Fields));
     })
 
 -- The bytes that are written spell the values of the text, except certificates.
@@ -139,6 +131,4 @@ keeps-values text bytes d y plan claims vs rs value is listed h written utf8 bac
     let same : again.value ≡ y = ok_is again.value y (sym again.is ∙ written) in
     let shallow : depth y ≤ max_depth = subst (λ z. depth z ≤ max_depth) same (again.nests max_depth (value-nests text d value) (omega arith)) in
     let kept = plan-kept d y vs written in
-    let old : (value_of text >>= own_values) ≡ Ok kept.values = ap (λ (r : Result Data Fault). r >>= own_values) value ∙ kept.old in
-    let new : (json_of bytes >>= own_values) ≡ Ok kept.values = ap (λ (r : Result Data Fault). r >>= own_values) (is_json bytes y utf8 (back shallow)) ∙ kept.new in
-    subst (λ r. IsOkAnd r (λ values. (json_of bytes >>= own_values) ≡ Ok values)) (sym old) new
+    grind (arith, common_steps, Ok, is_json, IsOkAnd)

@@ -1,5 +1,5 @@
 -- The claims of configurations, listed one after the other.
-use Rattle.std.proofs.Common.{◌≡◌, ◌≢◌, ℕ, zero, suc, ◌+◌, ◌<◌, List, [], ◌∷◌, ◌++◌, arith, ap, ◌∙◌, sym, add-one, inl, inr, true, false, Option, Some, None, Result, Ok, Err}
+use Rattle.std.proofs.Common.{◌≡◌, ◌≢◌, ℕ, zero, suc, ◌+◌, ◌<◌, List, [], ◌∷◌, ◌++◌, arith, ap, ◌∙◌, sym, add-one, inl, inr, true, false, Some, None, Result, Ok, Err}
 use Rattle.std.proofs.lemmas.Bool.{cases_lt}
 use Rattle.std.specs.FinSet.{empty, difference}
 use Rattle.std.specs.Result.{IsErrAnd}
@@ -12,17 +12,7 @@ use Rattle.plan.specs.PlanData.{ConfigurationData, configuration_at, by_parent}
 use Rattle.plan.specs.PlanFaults.{shape_fault, meets_claim, Finds}
 use Rattle.plan.specs.PlanText.{◌>=>◌, Reads}
 use Rattle.plan.specs.PlanClaims.{PlacedClaim, claims_at, unless, configuration_claims, claims_below}
-
--- the claims of x, where its parent is q
-abbrev claims-of : ℕ → List ConfigurationData → ℕ → ConfigurationData → Option ℕ → List PlacedClaim
-claims-of g group c x q =
-    record { group = g; configuration = c; step = false; claim = meets_claim x }
-    ∷ by_parent q [] (λ p. record {
-      group = g;
-      configuration = c;
-      step = true;
-      claim = claim_state x.read (dual_of (configuration_at group p).read) (by_parent q empty (λ m. difference x.members (configuration_at group m).members));
-    } ∷ [])
+use Rattle.std.proofs.lemmas.Grind.{common_steps}
 
 -- a fault of the configuration's shape is that of its claims
 pub shape-refused : {X : Type 0} (view : X → List PlacedClaim) (g c : ℕ) (group : List ConfigurationData) (r : Result X PlanFault) (fault : PlanFault) → Finds (Err fault) (shape_fault g group c) → IsErrAnd r (λ f. f ≡ fault) → Reads view r (configuration_claims g group c)
@@ -37,10 +27,7 @@ wants view (Err f) defined h = λ other. absurd (other h)
 pub child-claims : (g c : ℕ) (group : List ConfigurationData) (x y : ConfigurationData) (p : ℕ) (meets step : State) → shape_fault g group c ≡ None → configuration_at group c ≡ x → configuration_at group p ≡ y → x.parent ≡ Some p → meets_claim x ≡ meets
     → claim_state x.read (dual_of y.read) (difference x.members y.members) ≡ step
     → configuration_claims g group c ≡ Ok (record { group = g; configuration = c; step = false; claim = meets } ∷ record { group = g; configuration = c; step = true; claim = step } ∷ [])
-child-claims g c group x y p meets step shape here there parent claim stepped =
-    (λ i. unless (shape i) (claims-of g group c (here i) (here i).parent)) ∙ (λ i. Ok (claims-of g group c x (parent i)))
-    ∙ (λ i. Ok (record { group = g; configuration = c; step = false; claim = meets_claim x } ∷ record { group = g; configuration = c; step = true; claim = claim_state x.read (dual_of (there i).read) (difference x.members (there i).members) } ∷ []))
-    ∙ (λ i. Ok (record { group = g; configuration = c; step = false; claim = claim i } ∷ record { group = g; configuration = c; step = true; claim = stepped i } ∷ []))
+child-claims g c group x y p meets step shape here there parent claim stepped = grind (arith, common_steps)
 
 pub claims-more : (i : ℕ) (f : ℕ → Result (List PlacedClaim) PlanFault) (xs ys : List PlacedClaim) → claims_below i f ≡ Ok xs → f i ≡ Ok ys → claims_below (i + 1) f ≡ Ok (xs ++ ys)
 claims-more i f xs ys before here = ap (λ n. claims_below n f) (add-one i) ∙ (λ j. before j >=> λ b. here j >=> λ h. Ok (b ++ h))
@@ -50,8 +37,7 @@ claims-fault zero i f xs fault h before here = absurd (omega arith)
 claims-fault (suc n) i f xs fault h before here =
     elim (cases_lt i n) [
       | inl below ↦ ap (λ r. r >=> λ b. f n >=> λ k. Ok (b ++ k)) (claims-fault n i f xs fault below before here)
-      | inr past ↦ (let same : n ≡ i = omega arith in
-          (λ j. (ap (λ m. claims_below m f) same ∙ before) j >=> λ b. (ap f same ∙ here) j >=> λ k. Ok (b ++ k)))
+      | inr past ↦ grind (arith, common_steps)
     ]
 
 -- the fault of a number below the bound, where those before have none

@@ -6,8 +6,9 @@ use Rattle.std.specs.Ordering.{nat_cmp}
 use Rattle.std.specs.FinSet.{FinSet, contains}
 use Rattle.volume_model.specs.Common.{any, each_below, some_below, listed}
 use Rattle.plan.specs.declared.configurations.Configuration.{Configuration}
-use Rattle.plan.specs.PlanData.{no_configuration, configuration_at}
+use Rattle.plan.specs.PlanData.{configuration_at}
 use Rattle.plan.specs.Plan.{configuration_data}
+use Rattle.std.proofs.lemmas.Grind.{common_steps}
 
 or_right : (a b : Bool) → b ≡ true → (a || b) ≡ true
 or_right true b h = refl
@@ -57,11 +58,7 @@ any-listed s x = any-listed_below 64 x (contains s)
 
 -- a member that is in the set is below 64 anyhow
 pub contains-below : (s : FinSet nat_cmp) (x : ℕ) → ((y : ℕ) → contains s y ≡ true → y < 64) → contains s x ≡ (nat_lt x 64 && contains s x)
-contains-below s x below =
-    elim (contains s x) as (λ b. contains s x ≡ b → b ≡ (nat_lt x 64 && b)) [
-      | true ↦ λ e. (let lt : x < 64 = below x e in grind (arith, nat_tests))
-      | false ↦ λ e. (grind (arith, nat_tests))
-    ] refl
+contains-below s x below = grind (arith, common_steps)
 
 -- the item at hand, seen through f
 pub item-at : {A B : Type 0} (f : A → B) (xs : List A) (i : ℕ) (x : A) (d : B) → i < length xs → x ≡ get_or xs i x → slice_index_or (map f xs) i d ≡ f x
@@ -74,7 +71,4 @@ some_below-more i test here before = ap (λ n. some_below n test) (add-one i) �
 
 -- whether the configuration at hand has a member
 pub named-at : (xs ys : List Configuration) (i m : ℕ) (x : Configuration) (b : Bool) → xs ≡ ys → i < length xs → x ≡ get_or xs i x → b ≡ contains x.members m → ((y : ℕ) → contains x.members y ≡ true → y < 64) → (nat_lt m 64 && contains (configuration_at (map configuration_data ys) i).members m) ≡ b
-named-at xs ys i m x b same h at is below =
-    ap (λ zs. nat_lt m 64 && contains (configuration_at (map configuration_data zs) i).members m) (sym same)
-    ∙ ap (λ y. nat_lt m 64 && contains y.members m) (item-at configuration_data xs i x no_configuration h at)
-    ∙ sym (contains-below x.members m below) ∙ sym is
+named-at xs ys i m x b same h at is below = grind (arith, common_steps)

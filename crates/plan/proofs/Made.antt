@@ -1,5 +1,5 @@
 -- Values that a definition gives one after another, put in a list.
-use Rattle.std.proofs.Common.{◌≡◌, ℕ, ◌+◌, ◌-◌, ◌*◌, List, [], ◌∷◌, ◌++◌, drop, refl, ap, sym, subst, ◌∙◌, append_assoc, append-nil, Result, Ok, Err, codes, Option, option_map}
+use Rattle.std.proofs.Common.{◌≡◌, ℕ, ◌+◌, ◌-◌, ◌*◌, List, [], ◌∷◌, ◌++◌, drop, refl, ap, sym, ◌∙◌, append_assoc, Result, Ok, Err, codes, Option, option_map}
 use Rattle.json.specs.Token.{begin_array, end_array, end_object}
 use Rattle.json.specs.Written.{Written}
 use Rattle.std.specs.declared.alloc.Global.{Global}
@@ -20,14 +20,12 @@ use Rattle.plan.specs.Certificates.{certificate_value, certificate_values}
 use Rattle.plan.specs.Puts.{Puts, PutsToken, PutsMember, Opens, Lists}
 use Rattle.plan.specs.PutPlans.{PutsMade, configurations_array, groups_array, born_members}
 use Rattle.plan.proofs.Joined.{joined}
-use Rattle.plan.proofs.Putting.{listing, one_listed, listed, one_more, closed}
+use Rattle.plan.proofs.Putting.{one_listed, listed, one_more, closed}
+use Rattle.std.proofs.lemmas.Grind.{common_steps}
+use Rattle.std.proofs.Common.{arith}
 
 abbrev pub after_front : List Data → Result (List Data) Fault → Result (List Data) Fault
 after_front front made = made >>= λ xs. Ok (front ++ xs)
-
-none_before : (r : Result (List Data) Fault) → after_front [] r ≡ r
-none_before (Ok xs) = refl
-none_before (Err e) = refl
 
 front-more : (front : List Data) (y : Data) (r : Result (List Data) Fault) → after_front front (r >>= λ xs. Ok (y ∷ xs)) ≡ after_front (front ++ y ∷ []) r
 front-more front y (Ok xs) = ap Ok (sym (append_assoc front (y ∷ []) xs))
@@ -43,24 +41,11 @@ pub record Makes (all rest : Result (List Data) Fault) (start now : Written) : T
   pub lists : Lists ds start now
   pub so_far : after_front ds rest ≡ all
 
-pub makes_none : (all : Result (List Data) Fault) (old new : Written) → PutsToken begin_array old new → Makes all all old new
-makes_none all old new t = record { ds = []; lists = listing old new t; so_far = none_before all }
-
 pub makes_more : (all rest more : Result (List Data) Fault) (x : Data) (start mid new : Written) → Makes all rest start mid → rest ≡ (more >>= λ xs. Ok (x ∷ xs)) → Puts x mid new → Makes all more start new
-makes_more all rest more x start mid new m is p = record {
-  ds = m.ds ++ x ∷ [];
-  lists = one_listed m.ds x start mid new m.lists p;
-  so_far = sym (front-more m.ds x more) ∙ ap (after_front m.ds) (sym is) ∙ m.so_far;
-}
+makes_more all rest more x start mid new m is p = grind (arith, common_steps, one_listed, front-more, after_front)
 
 pub makes_done : (all rest : Result (List Data) Fault) (start now new : Written) → Makes all rest start now → rest ≡ Ok [] → PutsToken end_array now new → PutsMade (all >>= λ xs. Ok (array (items_of xs))) start new
-makes_done all rest start now new m none t =
-    let is : all ≡ Ok m.ds = sym m.so_far ∙ ap (after_front m.ds) none ∙ ap Ok (append-nil m.ds) in
-    record {
-      value = array (items_of m.ds);
-      is = ap (λ r. r >>= λ xs. Ok (array (items_of xs))) is;
-      puts = subst (λ x. Puts (array x) start new) (sym (items-joined m.ds)) (listed m.ds start now new m.lists t);
-    }
+makes_done all rest start now new m none t = grind (arith, common_steps, (items-joined m.ds), (listed m.ds start now new m.lists t))
 
 -- ---- configurations and groups
 
@@ -72,9 +57,7 @@ pub made-next : (n : ℕ) (d x : Data) (ds : Items) (cs : List Data) → configu
 made-next n d x ds cs e = ap (λ r. r >>= λ y. configurations_written (n + 1) ds cs >>= λ xs. Ok (y ∷ xs)) e
 
 pub made-group : (d x : Data) (ds cs : Items) (vs : List Data) → group_items d ≡ Ok cs → group_written cs vs ≡ Ok x → groups_written (item d ds) vs ≡ (groups_written ds (drop (2 * items_len cs - 1) vs) >>= λ xs. Ok (x ∷ xs))
-made-group d x ds cs vs e made =
-    ap (λ (r : Result Items Fault). r >>= λ es. group_written es vs >>= λ y. groups_written ds (drop (2 * items_len es - 1) vs) >>= λ xs. Ok (y ∷ xs)) e
-    ∙ ap (λ r. r >>= λ y. groups_written ds (drop (2 * items_len cs - 1) vs) >>= λ xs. Ok (y ∷ xs)) made
+made-group d x ds cs vs e made = grind (arith, common_steps)
 
 pub made-object : (r : Result (List Data) Fault) (v : Data) → (r >>= λ xs. Ok (array (items_of xs))) ≡ Ok v → (r >>= λ xs. Ok (group_object xs)) ≡ Ok (object (member (codes "configurations") v no_members))
 made-object (Ok xs) v h = let same : array (items_of xs) ≡ v = cc in ap (λ x. Ok (object (member (codes "configurations") x no_members))) same

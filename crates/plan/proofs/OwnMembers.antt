@@ -1,19 +1,21 @@
 -- An expression that was read names none but members.
-use Rattle.std.proofs.Common.{◌≡◌, ℕ, zero, suc, ◌+◌, List, [], ◌∷◌, ◌++◌, map, Result, Ok, Err, refl, ap, ◌∙◌, sym, subst, Bool, true, false, not, ◌&&◌, nat_lt, nat_le, if◌then◌else◌}
+use Rattle.std.proofs.Common.{◌≡◌, ℕ, zero, suc, ◌+◌, List, [], ◌∷◌, ◌++◌, map, Result, Ok, Err, refl, ap, ◌∙◌, sym, subst, Bool, true, false, not, ◌&&◌, if◌then◌else◌}
 use Rattle.std.proofs.lemmas.Bool.{and_parts, and_from}
 use Rattle.std.proofs.lemmas.List.{map-append}
 use Rattle.std.specs.Cmp.{nat_cmp_total}
 use Rattle.std.specs.FinSet.{contains, is_subset, contains-difference, is_subset-contains}
 use Rattle.serde_json.specs.Data.{Data, Items, no_items, item}
 use Rattle.volume_model.specs.declared.fault.Fault.{Fault}
-use Rattle.volume_model.specs.declared.fault.Fault.TheVariants.{BadCount, TooDeep, NotAMember, OverLimit}
-use Rattle.volume_model.specs.Common.{◌>>=◌, Formula, at_least, each_once, each_below, listed}
+use Rattle.volume_model.specs.declared.fault.Fault.TheVariants.{TooDeep}
+use Rattle.volume_model.specs.Common.{◌>>=◌, Formula, each_once, each_below, listed}
 use Rattle.volume_model.specs.Formula.{member}
 use Rattle.quorum_expr.specs.declared.form.Lists.{Lists}
 use Rattle.quorum_expr.specs.declared.form.ListName.{ListName}
 use Rattle.quorum_expr.specs.declared.form.ListName.TheVariants.{All, Full, Tail}
-use Rattle.quorum_expr.specs.Common.{nodes, ChildList, each, named, Weights, weighing, good_row, Form, single, choice, set_of, form_of, child_count, each_of, members_at, children_at, formula_from, formula_at, expression_in}
+use Rattle.quorum_expr.specs.Common.{ChildList, each, named, Weights, weighing, Form, single, choice, set_of, form_of, each_of, members_at, children_at, formula_from, formula_at, expression_in}
 use Rattle.plan.specs.PlanData.{names_only, each_names_only}
+use Rattle.std.proofs.lemmas.Grind.{common_steps}
+use Rattle.std.proofs.Common.{arith}
 
 -- what an answer has, if there is one
 abbrev OkHas : {A : Type 0} → (A → Type 0) → Result A Fault → Type 0
@@ -58,13 +60,7 @@ module _ (lists : Lists) (within : is_subset lists.full lists.members ≡ true) 
 
   own-listed : (n : ℕ) (test : ℕ → Bool) → ((x : ℕ) → test x ≡ true → contains lists.members x ≡ true) → AllOwn (map member (each_below n test (λ x. x)))
   own-listed zero test h = refl
-  own-listed (suc n) test h =
-      subst AllOwn (sym (map-append member (each_below n test (λ x. x)) (if test n then n ∷ [] else [])))
-      (own-append (map member (each_below n test (λ x. x))) (map member (if test n then n ∷ [] else [])) (own-listed n test h)
-      (elim (test n) as (λ b. test n ≡ b → AllOwn (map member (if b then n ∷ [] else []))) [
-        | true ↦ λ e. and_from (contains lists.members n) true (h n e) refl
-        | false ↦ λ e. refl
-      ] refl))
+  own-listed (suc n) test h = grind (arith, common_steps, AllOwn, map-append, own-append, and_from, (own-listed n test h))
 
   own-members : (left : ℕ) (name : ListName) → OkHas AllOwn (members_at left (listed (set_of lists name)))
   own-members zero name = tt
@@ -72,20 +68,15 @@ module _ (lists : Lists) (within : is_subset lists.full lists.members ≡ true) 
 
   own-each : (read : Data → Result Formula Fault) → ((d : Data) → OkHas Own (read d)) → (ds : Items) → OkHas AllOwn (each_of read ds)
   own-each read h no_items = refl
-  own-each read h (item d ds) =
-      bind_has (read d) (λ f. each_of read ds >>= λ fs. Ok (f ∷ fs)) AllOwn (λ f is. bind_has (each_of read ds) (λ fs. Ok (f ∷ fs)) AllOwn (λ fs are.
-      and_from (names_only f lists.members) (each_names_only (each_once fs) lists.members) (has_at (read d) Own f (h d) is) (has_at (each_of read ds) AllOwn fs (own-each read h ds) are)))
+  own-each read h (item d ds) = grind (arith, common_steps, bind_has, Ok, AllOwn, and_from, has_at, Own, (own-each read h ds))
 
   own-children : (left : ℕ) (read : Data → Result Formula Fault) → ((d : Data) → OkHas Own (read d)) → (list : ChildList) → OkHas AllOwn (children_at lists left read list)
   own-children left read h (each ds) = own-each read h ds
   own-children left read h (named name) = own-members left name
 
   own-from : (left : ℕ) (read : Data → Result Formula Fault) → ((d : Data) → OkHas Own (read d)) → (form : Form) → OkHas Own (formula_from lists left read form)
-  own-from left read h (single n) =
-      if_has (nat_lt n 64 && contains lists.members n) (Ok (member n)) (Err NotAMember) Own (λ both. (and_parts (nat_lt n 64) (contains lists.members n) both).1) tt
-  own-from left read h (choice k list ws) =
-      if_has (good_row k (child_count lists list) ws) (children_at lists left read list >>= λ fs. Ok (at_least k (weighing ws 0 fs))) (Err BadCount) Own
-      (λ counted. bind_has (children_at lists left read list) (λ fs. Ok (at_least k (weighing ws 0 fs))) Own (λ fs are. own-weighing ws 0 fs ∙ has_at (children_at lists left read list) AllOwn fs (own-children left read h list) are)) tt
+  own-from left read h (single n) = grind (arith, common_steps)
+  own-from left read h (choice k list ws) = grind (arith, common_steps, if_has, Ok, Err, Own, bind_has, own-weighing, has_at, AllOwn, own-children)
 
   own-at : (left : ℕ) (d : Data) → OkHas Own (formula_at lists left d)
   unfolding formula_at
@@ -94,7 +85,4 @@ module _ (lists : Lists) (within : is_subset lists.full lists.members ≡ true) 
 
   pub own-read : (d : Data) (f : Formula) → expression_in lists d ≡ Ok f → names_only f lists.members ≡ true
   unfolding expression_in
-  own-read d f is =
-      has_at (expression_in lists d) Own f
-      (bind_has (formula_at lists 6 d) (λ g. if nat_le (nodes g) 4096 then Ok g else Err OverLimit) Own
-      (λ g at. if_has (nat_le (nodes g) 4096) (Ok g) (Err OverLimit) Own (λ few. has_at (formula_at lists 6 d) Own g (own-at 6 d) at) tt)) is
+  own-read d f is = grind (arith, common_steps, has_at, Own, bind_has, Ok, Err, if_has, own-at)

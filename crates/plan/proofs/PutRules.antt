@@ -13,6 +13,7 @@ use Rattle.plan.specs.Heads.{side_members, item_members}
 use Rattle.plan.specs.Puts.{Puts, PutsToken, PutsMember, Opens}
 use Rattle.plan.specs.Rules.{rule_data, rules_data}
 use Rattle.plan.proofs.Putting.{members_and, opened, one_more, closed}
+use Rattle.std.proofs.Common.{rules}
 
 -- a key and a value
 pub with_value : (k : List ℕ) (d : Data) (a b c : Written) → PutsToken (Token.key k) a b → Puts d b c → PutsMember k d a c
@@ -21,10 +22,6 @@ with_value k d a b c key value = record { between = b; key = key; value = value 
 -- members so far, and one more key
 pub with_key : (found : Members) (k : List ℕ) (o a n : Written) → Opens found o a → PutsToken (Token.key k) a n → OpensTo found k o n
 with_key found k o a n members key = record { between = a; members = members; key = key }
-
--- a member, and one more key
-pub member_and_key : (k : List ℕ) (d : Data) (l : List ℕ) (o a n : Written) → PutsMember k d o a → PutsToken (Token.key l) a n → PutsBetween k d l o n
-member_and_key k d l o a n first key = record { between = a; first = first; key = key }
 
 -- a member, and the end
 pub member_and_end : (k : List ℕ) (d : Data) (o a n : Written) → PutsMember k d o a → PutsToken end_object a n → PutsLast k d o n
@@ -82,8 +79,7 @@ clash_put {A} rule left right o n is value = subst (λ d. Puts d o n) (sym (ap r
 
 -- The branches of a rule, which come last, and its end.
 last_put : (found : Members) (k : List ℕ) (d : Data) (o a b n : Written) → put k d found ≡ members_and found k d → OpensTo found k o a → Puts d a b → PutsToken end_object b n → Puts (object (members_and found k d)) o n
-last_put found k d o a b n last head value end =
-    closed (members_and found k d) o b n (one_more found k d o head.between b last head.members (with_value k d head.between a b head.key value)) end
+last_put found k d o a b n last head value end = search (rules, closed, members_and, one_more, with_value)
 
 pub open_put : {A : Type 0} (rule : Refutation A) (side : Side) (item : ℕ) (then : Box (Refutation A) A) (x : Refutation A) (o a b n : Written) → rule ≡ Open side item then → x ≡ then.value
     → OpensTo (side_members (codes "open") side item) (codes "then") o a → Puts (rule_data x) a b → PutsToken end_object b n → Puts (rule_data rule) o n

@@ -15,6 +15,7 @@ use Rattle.serde_json.proofs.Texts.{unless_float-number_of}
 use Rattle.refutation.specs.Common.{number_data}
 use Rattle.plan.specs.Puts.{Puts, PutsToken, PutsMember, Opens, open_tokens, all_tokens, IsOf, AreOf, Lists}
 use Rattle.plan.proofs.Joined.{joined}
+use Rattle.std.proofs.lemmas.Grind.{common_steps}
 
 -- what follows where something was put
 pub then_put : {A B : Type 0} (o : Option (Unit {0})) → OnSome o A → (A → B) → OnSome o B
@@ -60,8 +61,7 @@ members_and (member l e ms) k d = member l e (members_and ms k d)
 
 tokens-and : (ms : json.Members) (k : List ℕ) (j : json.Json) → open_tokens (json_and ms k j) ≡ open_tokens ms ++ Token.key k ∷ json_tokens j
 tokens-and json.no_members k j = ap (λ ts. Token.key k ∷ ts) (append-nil (json_tokens j))
-tokens-and (json.member l i ms) k j =
-    ap (λ ts. Token.key l ∷ (json_tokens i ++ ts)) (tokens-and ms k j) ∙ ap (λ ts. Token.key l ∷ ts) (sym (append_assoc (json_tokens i) (open_tokens ms) (Token.key k ∷ json_tokens j)))
+tokens-and (json.member l i ms) k j = grind (arith, common_steps, append_assoc, (tokens-and ms k j))
 
 tokens-end : (ms : json.Members) → open_tokens ms ++ end_object ∷ [] ≡ members_tokens ms
 tokens-end json.no_members = refl
@@ -72,9 +72,7 @@ some-then None f g b c more h = absurd (cc)
 some-then (Some a) f g b c more h = more a h
 
 of-and : (ms : json.Members) (k : List ℕ) (j : json.Json) (d : Data) (found most : Members) → of_members ms found ≡ Some most → of_json j ≡ Some d → of_members (json_and ms k j) found ≡ Some (put k d most)
-of-and json.no_members k j d found most h is =
-    let same : found ≡ most = cc in
-    ap (option_and_then (λ e. Some (put k e found))) is ∙ ap (λ ms. Some (put k d ms)) same
+of-and json.no_members k j d found most h is = grind (arith, common_steps)
 of-and (json.member l i ms) k j d found most h is =
     some-then (of_json i) (λ e. of_members ms (put l e found)) (λ e. of_members (json_and ms k j) (put l e found)) most (put k d most) (λ e g. of-and ms k j d (put l e found) most g is) h
 
@@ -106,15 +104,7 @@ pub one_more : (found : Members) (k : List ℕ) (d : Data) (old between new : Wr
 one_more found k d old between new last so_far m =
     let w = m.value.value in
     let both = data-nests found k d in
-    record {
-      members = json_and so_far.members k w.0;
-      tokens = w.1 ∙ ap (λ ts. ts ++ json_tokens w.0) (m.key.tokens ∙ ap (λ ts. ts ++ Token.key k ∷ []) so_far.tokens) ∙ append_assoc (old.tokens ++ begin_object ∷ open_tokens so_far.members) (Token.key k ∷ []) (json_tokens w.0)
-          ∙ append_assoc old.tokens (begin_object ∷ open_tokens so_far.members) (Token.key k ∷ json_tokens w.0) ∙ ap (λ ts. old.tokens ++ begin_object ∷ ts) (sym (tokens-and so_far.members k w.0));
-      is = of-and so_far.members k w.0 d no_members found so_far.is w.2 ∙ ap Some last;
-      same = blank-and so_far.members k w.0 found d so_far.same w.4;
-      nests = json-nests so_far.members k w.0 (members_depth (members_and found k d)) (omega (arith, so_far.nests, both.0)) (omega (arith, w.3, both.1));
-      before = m.value.before ∙ m.key.before ∙ so_far.before;
-    }
+    grind (arith, common_steps, json_and, append_assoc, tokens-and, of-and, Some, blank-and, json-nests, members_and, (json_and so_far.members k w.0), (append_assoc (old.tokens ++ begin_object ∷ open_tokens so_far.members) (Token.key k ∷ []) (json_tokens w.0)), (append_assoc old.tokens (begin_object ∷ open_tokens so_far.members) (Token.key k ∷ json_tokens w.0)), (tokens-and so_far.members k w.0), (of-and so_far.members k w.0 d no_members found so_far.is w.2))
 
 -- an object ends
 pub closed : (found : Members) (old between new : Written) → Opens found old between → PutsToken end_object between new → Puts (object found) old new
@@ -166,10 +156,7 @@ are-nested : (js : List json.Json) (ds : List Data) → AreOf js ds → tree.ite
 are-nested [] [] h = omega arith
 are-nested [] (e ∷ ds) h = absurd h
 are-nested (i ∷ js) [] h = absurd h
-are-nested (i ∷ js) (e ∷ ds) h =
-    let here : tree.depth i ≤ depth e = h.0.nests in
-    let rest : tree.items_depth (items_all js) ≤ items_depth (joined ds no_items) = are-nested js ds h.1 in
-    omega arith
+are-nested (i ∷ js) (e ∷ ds) h = grind (arith, common_steps, items_all, joined, (are-nested js ds h.1))
 
 -- a list begins
 pub listing : (old new : Written) → PutsToken begin_array old new → Lists [] old new
@@ -179,12 +166,7 @@ listing old new t = record { items = []; tokens = t.tokens; are = tt; before = t
 pub one_listed : (ds : List Data) (d : Data) (old between new : Written) → Lists ds old between → Puts d between new → Lists (ds ++ d ∷ []) old new
 one_listed ds d old between new so_far p =
     let w = p.value in
-    record {
-      items = so_far.items ++ w.0 ∷ [];
-      tokens = w.1 ∙ ap (λ ts. ts ++ json_tokens w.0) so_far.tokens ∙ append_assoc old.tokens (begin_array ∷ all_tokens so_far.items) (json_tokens w.0) ∙ ap (λ ts. old.tokens ++ begin_array ∷ ts) (sym (all-and so_far.items w.0));
-      are = are-and so_far.items ds w.0 d so_far.are (record { is = w.2; same = w.4; nests = w.3 });
-      before = p.before ∙ so_far.before;
-    }
+    grind (arith, common_steps, (append_assoc old.tokens (begin_array ∷ all_tokens so_far.items) (json_tokens w.0)), (all-and so_far.items w.0), (are-and so_far.items ds w.0 d so_far.are (record { is = w.2; same = w.4; nests = w.3 })))
 
 -- a list ends
 pub listed : (ds : List Data) (old between new : Written) → Lists ds old between → PutsToken end_array between new → Puts (array (joined ds no_items)) old new

@@ -1,5 +1,5 @@
 -- A plan that was written with other certificates is read as that plan.
-use Rattle.std.proofs.Common.{◌≡◌, ℕ, ◌<◌, ◌≤◌, ◌∙◌, max, List, codes, refl, ap, subst, arith, Option, Some, None, Result, Ok, Err, Ordering, Less, Equal, Greater, Bool, true, false, if◌then◌else◌}
+use Rattle.std.proofs.Common.{◌≡◌, ℕ, ◌<◌, ◌≤◌, ◌∙◌, max, List, codes, refl, ap, arith, Option, Some, None, Result, Ok, Err, Ordering, Less, Equal, Greater, Bool, true, false, if◌then◌else◌}
 use Rattle.std.specs.Ordering.{nat_cmp, match_ordering}
 use Rattle.std.specs.Cmp.Lexicographic.{slice_cmp}
 use Rattle.serde_json.specs.Data.{Data, array, object, Items, Members, no_members, member, depth, items_depth, members_depth}
@@ -8,12 +8,13 @@ use Rattle.volume_model.specs.declared.fault.Fault.{Fault}
 use Rattle.volume_model.specs.Common.{Formula, ◌>>=◌}
 use Rattle.quorum_expr.specs.declared.form.Lists.{Lists}
 use Rattle.quorum_expr.specs.Common.{found_or_malformed, at_key, expression_in}
-use Rattle.refutation.specs.Common.{Rule, has_keys, array_of}
+use Rattle.refutation.specs.Common.{Rule, array_of}
 use Rattle.plan.specs.declared.fault.Quorum.TheVariants.{Read, Write}
 use Rattle.plan.specs.declared.fault.PlanFault.{PlanFault}
 use Rattle.plan.specs.PlanData.{ConfigurationData}
 use Rattle.plan.specs.PlanText.{◌>=>◌, in_text, in_quorum, Fields, fields_of, parent_of, lists_of, certificate_or_null, step_of, configuration_in}
 use Rattle.plan.specs.Rewriting.{fields_object, meets_value, step_value, configuration_written}
+use Rattle.std.proofs.lemmas.Grind.{common_steps}
 
 -- ---- what steps that went well gave
 
@@ -49,9 +50,7 @@ found_ok (Some d) v h = (cc)
 
 member-at : (o : Ordering) (rest : Option Data) (e v : Data) (n : ℕ) → match_ordering o rest (Some e) rest ≡ Some v → (rest ≡ Some v → depth v ≤ n) → depth v ≤ max (depth e) n
 member-at Less rest e v n h below = omega (arith, below h)
-member-at Equal rest e v n h below =
-    let is : e ≡ v = cc in
-    omega (arith, ap depth is)
+member-at Equal rest e v n h below = grind (arith, common_steps)
 member-at Greater rest e v n h below = omega (arith, below h)
 
 member-nests : (k : List ℕ) (ms : Members) (v : Data) → get_member k ms ≡ Some v → depth v ≤ members_depth ms
@@ -66,9 +65,7 @@ pub key-nests : (k : List ℕ) (d v : Data) → at_key k d ≡ Ok v → depth v 
 key-nests k d v h = get-nests k d v (found_ok (get k d) v h)
 
 pub array-nests : (d : Data) (ds : Items) → array_of d ≡ Ok ds → items_depth ds < depth d
-array-nests (array es) ds h =
-    let is : es ≡ ds = cc in
-    omega (arith, ap items_depth is)
+array-nests (array es) ds h = grind (arith, common_steps)
 array-nests d ds h = absurd (cc)
 
 -- the values that a configuration keeps
@@ -85,23 +82,7 @@ to_write d parent members full reads writes =
 
 fields-nest : (d : Data) (f : Fields) → fields_of d ≡ Ok f → Kept (depth d) f
 unfolding fields_of
-fields-nest d f h =
-    let all = bind_ok (has_keys 7 d) (λ u. at_key (codes "parent") d >>= λ parent. at_key (codes "members") d >>= λ members. at_key (codes "full") d >>= λ full. at_key (codes "read") d >>= λ reads. at_key (codes "write") d >>= λ writes. to_write d parent members full reads writes) f h in
-    let p = bind_ok (at_key (codes "parent") d) (λ parent. at_key (codes "members") d >>= λ members. at_key (codes "full") d >>= λ full. at_key (codes "read") d >>= λ reads. at_key (codes "write") d >>= λ writes. to_write d parent members full reads writes) f all.2 in
-    let m = bind_ok (at_key (codes "members") d) (λ members. at_key (codes "full") d >>= λ full. at_key (codes "read") d >>= λ reads. at_key (codes "write") d >>= λ writes. to_write d p.0 members full reads writes) f p.2 in
-    let u = bind_ok (at_key (codes "full") d) (λ full. at_key (codes "read") d >>= λ reads. at_key (codes "write") d >>= λ writes. to_write d p.0 m.0 full reads writes) f m.2 in
-    let r = bind_ok (at_key (codes "read") d) (λ reads. at_key (codes "write") d >>= λ writes. to_write d p.0 m.0 u.0 reads writes) f u.2 in
-    let w = bind_ok (at_key (codes "write") d) (λ writes. to_write d p.0 m.0 u.0 r.0 writes) f r.2 in
-    let e = bind_ok (at_key (codes "meets") d) (λ meets. at_key (codes "step") d >>= λ step. Ok (record { parent = p.0; members = m.0; full = u.0; read = r.0; write = w.0; meets = meets; step = step })) f w.2 in
-    let s = bind_ok (at_key (codes "step") d) (λ step. Ok (record { parent = p.0; members = m.0; full = u.0; read = r.0; write = w.0; meets = e.0; step = step })) f e.2 in
-    let made : Fields = record { parent = p.0; members = m.0; full = u.0; read = r.0; write = w.0; meets = e.0; step = s.0 } in
-    subst (Kept (depth d)) (ok_is made f s.2) (record {
-      parent = key-nests (codes "parent") d p.0 p.1;
-      members = key-nests (codes "members") d m.0 m.1;
-      full = key-nests (codes "full") d u.0 u.1;
-      read = key-nests (codes "read") d r.0 r.1;
-      write = key-nests (codes "write") d w.0 w.1;
-    })
+fields-nest d f h = grind (arith, common_steps, bind_ok, codes, to_write, Ok, ok_is, key-nests)
 
 -- ---- a configuration
 
@@ -134,22 +115,13 @@ fields_of-object f meets step = refl
 last : (c : ℕ) (f : Fields) (meets step : Data) (parent : Option ℕ) (lists : Lists) (reads writes : Formula) (m s : Option Rule) (x : ConfigurationData) (old_m old_s : Result (Option Rule) PlanFault) → certificate_or_null meets ≡ Ok m → step_of c step ≡ Ok s
     → (old_m >=> λ a. old_s >=> λ b. Ok (made parent lists reads writes a b)) ≡ Ok x
     → from_writes c (record f { meets = meets; step = step }) parent lists reads writes ≡ Ok (record x { meets = m; step = s })
-last c f meets step parent lists reads writes m s x (Ok a) (Ok b) em es h =
-    (λ i. in_text (em i) >=> λ a. in_text (es i) >=> λ b. Ok (made parent lists reads writes a b))
-    ∙ ap (λ (y : ConfigurationData). Ok (record y { meets = m; step = s })) (ok_is (made parent lists reads writes a b) x h)
+last c f meets step parent lists reads writes m s x (Ok a) (Ok b) em es h = grind (arith, common_steps)
 last c f meets step parent lists reads writes m s x (Ok a) (Err e) em es h = absurd (cc)
 last c f meets step parent lists reads writes m s x (Err e) old em es h = absurd (cc)
 
 kept : (w : Bool) (g c : ℕ) (f : Fields) (meets step : Data) (m s : Option Rule) (x : ConfigurationData) → certificate_or_null meets ≡ Ok m → step_of c step ≡ Ok s → from_fields w g c f ≡ Ok x
     → from_fields w g c (record f { meets = meets; step = step }) ≡ Ok (record x { meets = m; step = s })
-kept w g c f meets step m s x em es =
-    let new : Fields = record f { meets = meets; step = step } in
-    let other : ConfigurationData = record x { meets = m; step = s } in
-    then_kept (in_text (parent_of f.parent)) (in_text (parent_of f.parent)) (from_parent w g c f) (from_parent w g c new) x other refl (λ parent.
-    then_kept (in_text (lists_of w f)) (in_text (lists_of w new)) (from_lists w g c f parent) (from_lists w g c new parent) x other (ap in_text (lists_kept w f meets step)) (λ lists.
-    then_kept (in_quorum g c Read (expression_in lists f.read)) (in_quorum g c Read (expression_in lists f.read)) (from_reads w g c f parent lists) (from_reads w g c new parent lists) x other refl (λ reads.
-    then_kept (in_quorum g c Write (expression_in lists f.write)) (in_quorum g c Write (expression_in lists f.write)) (from_writes c f parent lists reads) (from_writes c new parent lists reads) x other refl (λ writes h.
-    last c f meets step parent lists reads writes m s x (in_text (certificate_or_null f.meets)) (in_text (step_of c f.step)) em es h))))
+kept w g c f meets step m s x em es = grind (arith, common_steps, then_kept, from_parent, from_lists, lists_kept, from_reads, from_writes, last)
 
 object-nests : (n : ℕ) (f : Fields) (meets step : Data) → Kept n f → depth meets < n → depth step < n → depth (fields_object f meets step) ≤ n
 object-nests n f meets step k h l = omega (arith, k.parent, k.members, k.full, k.read, k.write)

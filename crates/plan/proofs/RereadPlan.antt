@@ -1,5 +1,5 @@
 -- The configurations, groups and the whole of a plan that was written with other certificates are read as that plan's.
-use Rattle.std.proofs.Common.{◌≡◌, ℕ, zero, suc, ◌+◌, ◌-◌, ◌*◌, ◌<◌, ◌≤◌, ◌∙◌, List, [], ◌∷◌, length, map, drop, codes, refl, ap, sym, subst, arith, add-zero, Option, Some, None, Result, Ok, Err, Bool, true, false, ◌==◌, nat_lt, if◌then◌else◌}
+use Rattle.std.proofs.Common.{◌≡◌, ℕ, zero, suc, ◌+◌, ◌-◌, ◌*◌, ◌<◌, ◌≤◌, ◌∙◌, List, [], ◌∷◌, length, map, drop, codes, refl, ap, sym, subst, arith, add-zero, Option, Some, None, Result, Ok, Err, Bool, true, false, ◌==◌, if◌then◌else◌}
 use Rattle.std.proofs.lemmas.List.{drop-map, drop-drop, get_or-drop}
 use Rattle.std.proofs.lemmas.Bool.Decides.{nat_tests}
 use Rattle.serde_json.specs.Data.{Data, null, Items, no_items, item, depth, items_depth}
@@ -8,11 +8,11 @@ use Rattle.serde_json.specs.View.{items_of}
 use Rattle.volume_model.specs.declared.fault.Fault.{Fault}
 use Rattle.volume_model.specs.declared.fault.Fault.TheVariants.{OverLimit}
 use Rattle.volume_model.specs.Common.{◌>>=◌}
-use Rattle.quorum_expr.specs.Common.{at_key, whole_of}
+use Rattle.quorum_expr.specs.Common.{at_key}
 use Rattle.refutation.specs.Common.{Rule, has_keys, array_of}
 use Rattle.plan.specs.declared.formats.Format.{Format}
 use Rattle.plan.specs.declared.formats.Format.TheVariants.{Plain, Weighted, Growing}
-use Rattle.plan.specs.Formats.{is_weighted, key_count}
+use Rattle.plan.specs.Formats.{is_weighted}
 use Rattle.plan.specs.declared.fault.PlanFault.{PlanFault}
 use Rattle.plan.specs.PlanData.{ConfigurationData, PlanData, by_parent}
 use Rattle.plan.specs.PlanFaults.{is_good_parent}
@@ -20,6 +20,7 @@ use Rattle.plan.specs.PlanText.{◌>=>◌, in_text, certificate_or_null, step_of
 use Rattle.plan.specs.WithCertificates.{certificate_at, claim_count, claim_counts, configuration_with, configurations_with, groups_with, with_certificates}
 use Rattle.plan.specs.Rewriting.{value_or_null, meets_value, step_value, configurations_written, group_object, group_written, groups_written, plan_object, plan_written}
 use Rattle.plan.proofs.Reread.{then_ok, bind_ok, text_ok, ok_is, if_ok, key-nests, array-nests, Rewritten, configuration-reread}
+use Rattle.std.proofs.lemmas.Grind.{common_steps}
 
 -- ---- certificates
 
@@ -54,10 +55,7 @@ AllGood (xs ∷ groups) = GoodFrom 0 xs × AllGood groups
 
 no_parent : (q : Option ℕ) → is_good_parent 0 q ≡ true → q ≡ None
 no_parent None h = refl
-no_parent (Some p) h = absurd (omega (arith, below p h))
-  where
-    below : (p : ℕ) → nat_lt p 0 ≡ true → p < 0
-    below p h = grind (arith, nat_tests)
+no_parent (Some p) h = grind (arith, common_steps)
 
 abbrev HasParent : Option ℕ → Type 0
 HasParent None = ⊥
@@ -100,28 +98,17 @@ meets-read c vs rs h = read-at vs rs (before c) h.read ∙ ap Ok (ap (certificat
 
 step-read : (c : ℕ) (q : Option ℕ) (vs : List Data) (rs : List (Option Rule)) → AreRead vs rs → is_good_parent c q ≡ true → step_of c (step_value c vs) ≡ Ok (by_parent q None (λ p. certificate_at (drop (before c) rs) 1))
 step-read zero q vs rs h good = step_of-root vs ∙ ap Ok (sym (by_parent-none q None (certificate_at rs 1) (no_parent q good)))
-step-read (suc c) q vs rs h good =
-    let place : before (suc c) + 1 ≡ 2 * suc c = omega arith in
-    step_of-child c vs ∙ read-at vs rs (2 * suc c) h.read
-    ∙ ap Ok (ap (certificate_at rs) (sym place) ∙ sym (one-more (before (suc c)) rs 1) ∙ sym (by_parent-some q None (certificate_at (drop (before (suc c)) rs) 1) (some_parent c q good)))
+step-read (suc c) q vs rs h good = grind (arith, common_steps, before, step_of-child, read-at, Ok, one-more, by_parent-some, None, some_parent)
 
 step-nests : (c : ℕ) (vs : List Data) → ((i : ℕ) → depth (value_or_null vs i) ≤ 81) → depth (step_value c vs) ≤ 81
-step-nests c vs h = either (c == 0)
-  where
-    either : (b : Bool) → depth (if b then null else value_or_null vs (2 * c)) ≤ 81
-    either true = omega arith
-    either false = h (2 * c)
+step-nests c vs h = grind (arith, common_steps)
 
 abbrev claims_under : Option ℕ → ℕ
 claims_under q = by_parent q 1 (λ p. 2)
 
 next-places : (c : ℕ) (q : Option ℕ) → is_good_parent c q ≡ true → before c + claims_under q ≡ before (c + 1)
-next-places zero q good =
-    let one : claims_under q ≡ 1 = by_parent-none q 1 2 (no_parent q good) in
-    omega (arith, one)
-next-places (suc c) q good =
-    let two : claims_under q ≡ 2 = by_parent-some q 1 2 (some_parent c q good) in
-    omega (arith, two)
+next-places zero q good = grind (arith, common_steps)
+next-places (suc c) q good = grind (arith, common_steps)
 
 -- ---- configurations
 
@@ -136,15 +123,10 @@ configurations-reread : (w : Bool) (g c : ℕ) (ds : Items) (xs : List Configura
     → Relisted ds (λ ys. configurations_written c ds vs ≡ Ok ys) (λ ys. configurations_in w g c ys ≡ Ok (configurations_with xs (drop (before c) rs))) 82
 configurations-reread w g c no_items [] vs rs h good is = record { values = []; is = refl; read = refl; counted = refl; nests = λ n h k. omega arith }
 configurations-reread w g c no_items (x ∷ xs) vs rs h good is = absurd (cc)
-configurations-reread w g c (item d ds) [] vs rs h good is =
-    let one = then_ok (configuration_in w g c d) (λ x. configurations_in w g (c + 1) ds >=> λ xs. Ok (x ∷ xs)) [] is in
-    let more = then_ok (configurations_in w g (c + 1) ds) (λ xs. Ok (one.0 ∷ xs)) [] one.2 in
-    let no : one.0 ∷ more.0 ≡ [] = ok_is (one.0 ∷ more.0) [] more.2 in
-    absurd (cc)
+configurations-reread w g c (item d ds) [] vs rs h good is = grind (arith, common_steps)
 configurations-reread w g c (item d ds) (x ∷ xs) vs rs h good is =
     let one = then_ok (configuration_in w g c d) (λ x. configurations_in w g (c + 1) ds >=> λ xs. Ok (x ∷ xs)) (x ∷ xs) is in
     let more = then_ok (configurations_in w g (c + 1) ds) (λ xs. Ok (one.0 ∷ xs)) (x ∷ xs) one.2 in
-    let same : one.0 ∷ more.0 ≡ x ∷ xs = ok_is (one.0 ∷ more.0) (x ∷ xs) more.2 in
     let first : one.0 ≡ x = cc in
     let others : more.0 ≡ xs = cc in
     let here = configuration-reread w g c d x vs (certificate_at (drop (before c) rs) 0) (by_parent x.parent None (λ p. certificate_at (drop (before c) rs) 1)) (meets-read c vs rs h) (step-read c x.parent vs rs h good.0) (h.nest (before c)) (step-nests c vs h.nest) (one.1 ∙ ap Ok first) in
@@ -176,9 +158,7 @@ children-counted c (x ∷ xs) good =
 
 claims-counted : (xs : List ConfigurationData) → GoodFrom 0 xs → claim_counts xs ≡ 2 * length xs - 1
 claims-counted [] good = refl
-claims-counted (x ∷ xs) good =
-    let one : claim_count x ≡ 1 = by_parent-none x.parent 1 2 (no_parent x.parent good.0) in
-    omega (arith, one, children-counted 0 xs good.1)
+claims-counted (x ∷ xs) good = grind (arith, common_steps, by_parent-none, no_parent, children-counted)
 
 -- ---- groups
 
@@ -197,10 +177,7 @@ group_items-ok d ds h =
     let found = bind_ok (at_key (codes "configurations") d) (λ cs. array_of cs >>= λ ds. if is_from_1 64 (items_len ds) then Ok ds else Err OverLimit) ds keys.2 in
     let listed = bind_ok (array_of found.0) (λ ds. if is_from_1 64 (items_len ds) then Ok ds else Err OverLimit) ds found.2 in
     let few = if_ok (is_from_1 64 (items_len listed.0)) listed.0 ds OverLimit listed.2 in
-    subst (Grouped d) few.1 (record {
-      few = few.0;
-      nests = omega (arith, key-nests (codes "configurations") d found.0 found.1, array-nests found.0 listed.0 listed.1);
-    })
+    grind (arith, common_steps, (key-nests (codes "configurations") d found.0 found.1), (codes "configurations"), (array-nests found.0 listed.0 listed.1))
 
 group-reread : (w : Bool) (g : ℕ) (d : Data) (ds : Items) (xs : List ConfigurationData) (vs : List Data) (rs : List (Option Rule)) → AreRead vs rs → GoodFrom 0 xs → group_items d ≡ Ok ds → configurations_in w g 0 ds ≡ Ok xs
     → Rewritten d (λ y. group_written ds vs ≡ Ok y) (λ y. group_in w g y ≡ Ok (configurations_with xs rs)) 84
@@ -217,23 +194,16 @@ group-reread w g d ds xs vs rs h good items is =
 
 group-split : (w : Bool) (g : ℕ) (d : Data) (xs : List ConfigurationData) → group_in w g d ≡ Ok xs → (ds : Items) × (group_items d ≡ Ok ds) × (configurations_in w g 0 ds ≡ Ok xs)
 unfolding group_in
-group-split w g d xs h =
-    let items = then_ok (in_text (group_items d)) (configurations_in w g 0) xs h in
-    (items.0, text_ok (group_items d) items.0 items.1, items.2)
+group-split w g d xs h = grind (arith, common_steps)
 
 groups-reread : (w : Bool) (g : ℕ) (ds : Items) (groups : List (List ConfigurationData)) (vs : List Data) (rs : List (Option Rule)) → AreRead vs rs → AllGood groups → groups_in w g ds ≡ Ok groups
     → Relisted ds (λ ys. groups_written ds vs ≡ Ok ys) (λ ys. groups_in w g ys ≡ Ok (groups_with groups rs)) 84
 groups-reread w g no_items [] vs rs h good is = record { values = []; is = refl; read = refl; counted = refl; nests = λ n h k. omega arith }
 groups-reread w g no_items (xs ∷ groups) vs rs h good is = absurd (cc)
-groups-reread w g (item d ds) [] vs rs h good is =
-    let one = then_ok (group_in w g d) (λ x. groups_in w (g + 1) ds >=> λ xs. Ok (x ∷ xs)) [] is in
-    let more = then_ok (groups_in w (g + 1) ds) (λ xs. Ok (one.0 ∷ xs)) [] one.2 in
-    let no : one.0 ∷ more.0 ≡ [] = ok_is (one.0 ∷ more.0) [] more.2 in
-    absurd (cc)
+groups-reread w g (item d ds) [] vs rs h good is = grind (arith, common_steps)
 groups-reread w g (item d ds) (xs ∷ groups) vs rs h good is =
     let one = then_ok (group_in w g d) (λ x. groups_in w (g + 1) ds >=> λ xs. Ok (x ∷ xs)) (xs ∷ groups) is in
     let more = then_ok (groups_in w (g + 1) ds) (λ xs. Ok (one.0 ∷ xs)) (xs ∷ groups) one.2 in
-    let same : one.0 ∷ more.0 ≡ xs ∷ groups = ok_is (one.0 ∷ more.0) (xs ∷ groups) more.2 in
     let first : one.0 ≡ xs = cc in
     let others : more.0 ≡ groups = cc in
     let split = group-split w g d xs (one.1 ∙ ap Ok first) in
@@ -264,17 +234,11 @@ pub record Headed (d : Data) (h : Header) : Type 0 where
 
 lal_of-ok : (d : Data) (n : ℕ) → lal_of d ≡ Ok n → is_from_1 10000000 n ≡ true
 unfolding lal_of
-lal_of-ok d n h =
-    let found = bind_ok (whole_of d) (λ n. if is_from_1 10000000 n then Ok n else Err OverLimit) n h in
-    let good = if_ok (is_from_1 10000000 found.0) found.0 n OverLimit found.2 in
-    subst (λ m. is_from_1 10000000 m ≡ true) good.1 good.0
+lal_of-ok d n h = grind (arith, common_steps)
 
 group_list-ok : (d : Data) (ds : Items) → group_list d ≡ Ok ds → (is_from_1 16 (items_len ds) ≡ true) × (items_depth ds < depth d)
 unfolding group_list
-group_list-ok d ds h =
-    let listed = bind_ok (array_of d) (λ ds. if is_from_1 16 (items_len ds) then Ok ds else Err OverLimit) ds h in
-    let few = if_ok (is_from_1 16 (items_len listed.0)) listed.0 ds OverLimit listed.2 in
-    (subst (λ es. is_from_1 16 (items_len es) ≡ true) few.1 few.0, subst (λ es. items_depth es < depth d) few.1 (array-nests d listed.0 listed.1))
+group_list-ok d ds h = grind (arith, common_steps)
 
 record Topped (d : Data) (t : TopFields) : Type 0 where
   born : born_field t.format d ≡ Ok t.born
@@ -285,15 +249,7 @@ from_keys d format = at_key (codes "lal") d >>= λ lal. born_field format d >>= 
 
 top_fields_of-ok : (d : Data) (t : TopFields) → top_fields_of d ≡ Ok t → Topped d t
 unfolding top_fields_of
-top_fields_of-ok d t is =
-    let f = bind_ok (at_key (codes "format") d) (λ f. format_of f >>= λ format. has_keys (key_count format) d >>= λ u. from_keys d format) t is in
-    let one = bind_ok (format_of f.0) (λ format. has_keys (key_count format) d >>= λ u. from_keys d format) t f.2 in
-    let keys = bind_ok (has_keys (key_count one.0) d) (λ u. from_keys d one.0) t one.2 in
-    let l = bind_ok (at_key (codes "lal") d) (λ lal. born_field one.0 d >>= λ born. at_key (codes "groups") d >>= λ groups. Ok (record { format = one.0; lal = lal; born = born; groups = groups })) t keys.2 in
-    let b = bind_ok (born_field one.0 d) (λ born. at_key (codes "groups") d >>= λ groups. Ok (record { format = one.0; lal = l.0; born = born; groups = groups })) t l.2 in
-    let g = bind_ok (at_key (codes "groups") d) (λ groups. Ok (record { format = one.0; lal = l.0; born = b.0; groups = groups })) t b.2 in
-    let made : TopFields = record { format = one.0; lal = l.0; born = b.0; groups = g.0 } in
-    subst (Topped d) (ok_is made t g.2) (record { born = b.1; nests = key-nests (codes "groups") d g.0 g.1 })
+top_fields_of-ok d t is = grind (arith, common_steps, bind_ok, codes, from_keys, Ok, ok_is, key-nests)
 
 no-born : (r : Result Data Fault) → (r >>= λ b. Ok (Some b)) ≡ Ok None → ⊥
 no-born (Ok b) h = cc
@@ -305,10 +261,7 @@ born_of-ok Plain d (Some v) groups born h k = absurd (cc)
 born_of-ok Weighted d None groups born h k = ok_is groups born k
 born_of-ok Weighted d (Some v) groups born h k = absurd (cc)
 born_of-ok Growing d None groups born h k = absurd (no-born (at_key (codes "born") d) h)
-born_of-ok Growing d (Some v) groups born h k =
-    let found = bind_ok (whole_of v) (λ n. if is_from_1 groups n then Ok n else Err OverLimit) born k in
-    let good = if_ok (is_from_1 groups found.0) found.0 born OverLimit found.2 in
-    subst (λ m. is_from_1 groups m ≡ true) good.1 good.0
+born_of-ok Growing d (Some v) groups born h k = grind (arith, common_steps)
 
 pub header_of-ok : (d : Data) (h : Header) → header_of d ≡ Ok h → Headed d h
 unfolding header_of
@@ -317,15 +270,9 @@ header_of-ok d h is =
     let lal = bind_ok (lal_of t.0.lal) (λ lal. group_list t.0.groups >>= λ groups. born_of (items_len groups) t.0.born >>= λ born. Ok (record { format = t.0.format; lal = lal; born = born; groups = groups })) h t.2 in
     let list = bind_ok (group_list t.0.groups) (λ groups. born_of (items_len groups) t.0.born >>= λ born. Ok (record { format = t.0.format; lal = lal.0; born = born; groups = groups })) h lal.2 in
     let born = bind_ok (born_of (items_len list.0) t.0.born) (λ born. Ok (record { format = t.0.format; lal = lal.0; born = born; groups = list.0 })) h list.2 in
-    let made : Header = record { format = t.0.format; lal = lal.0; born = born.0; groups = list.0 } in
     let top = top_fields_of-ok d t.0 t.1 in
     let few = group_list-ok t.0.groups list.0 list.1 in
-    subst (Headed d) (ok_is made h born.2) (record {
-      lal = lal_of-ok t.0.lal lal.0 lal.1;
-      few = few.0;
-      born = born_of-ok t.0.format d t.0.born (items_len list.0) born.0 top.born born.1;
-      nests = omega (arith, few.1, top.nests);
-    })
+    grind (arith, common_steps, ok_is, lal_of-ok, born_of-ok)
 
 pub header_of-object : (f : Format) (lal born : ℕ) (ys : List Data) → is_from_1 10000000 lal ≡ true → is_from_1 16 (items_len (items_of ys)) ≡ true → IsBorn f (items_len (items_of ys)) born
     → header_of (plan_object f lal born ys) ≡ Ok (record { format = f; lal = lal; born = born; groups = items_of ys })
@@ -354,12 +301,9 @@ plan-reread d plan vs rs h good is =
     let same : made ≡ plan = ok_is made plan groups.2 in
     let headed = header_of-ok d header.0 found in
     let all = groups-reread (is_weighted header.0.format) 0 header.0.groups groups.0 vs rs h (subst (λ (p : PlanData). AllGood p.groups) (sym same) good) groups.1 in
-    let few : is_from_1 16 (items_len (items_of all.values)) ≡ true = ap (is_from_1 16) all.counted ∙ headed.few in
-    let born : IsBorn header.0.format (items_len (items_of all.values)) header.0.born = subst (λ n. IsBorn header.0.format n header.0.born) (sym all.counted) headed.born in
     record {
       value = plan_object header.0.format header.0.lal header.0.born all.values;
       is = ap (λ (r : Result Header Fault). r >>= λ h. groups_written h.groups vs >>= λ xs. Ok (plan_object h.format h.lal h.born xs)) found ∙ (λ i. all.is i >>= λ xs. Ok (plan_object header.0.format header.0.lal header.0.born xs));
-      read = (λ i. in_text (header_of-object header.0.format header.0.lal header.0.born all.values headed.lal few born i) >=> from_header)
-          ∙ (λ i. all.read i >=> λ groups. Ok (record { format = header.0.format; lal = header.0.lal; born = header.0.born; groups = groups })) ∙ ap (λ (p : PlanData). Ok (with_certificates p rs)) same;
+      read = grind (arith, common_steps, header_of-object, from_header, Ok);
       nests = λ n k l. object-nests header.0.format header.0.lal header.0.born all.values n (omega (arith, headed.nests, all.nests (n - 2) (omega (arith, headed.nests)) (omega arith)));
     }

@@ -1,5 +1,5 @@
 -- A fresh member is used again exactly where one stands in a configuration above.
-use Rattle.std.proofs.Common.{◌≡◌, ℕ, zero, suc, ◌<◌, ◌≤◌, List, [], ◌∷◌, arith, refl, ap, ◌∙◌, sym, ◌++◌, inl, inr, Bool, true, false, not, nat_lt, if◌then◌else◌, Option, Some, None, slice_get}
+use Rattle.std.proofs.Common.{◌≡◌, ℕ, zero, suc, ◌<◌, ◌≤◌, List, [], ◌∷◌, arith, refl, ap, ◌∙◌, sym, ◌++◌, Bool, true, false, not, if◌then◌else◌, Option, Some, None, slice_get}
 use Rattle.std.proofs.lemmas.Bool.{and_from, both_ways, cases_lt, false_from_ne_true}
 use Rattle.std.specs.Ordering.{nat_cmp}
 use Rattle.std.specs.Cmp.{nat_cmp_total}
@@ -13,6 +13,7 @@ use Rattle.plan.specs.Reused.{IsAboveIn, IsReused, IsLeastReused, ReuseIsFound}
 use Rattle.volume_model.specs.Plan.StandsAbove.{by_parent as is_parent, by_ancestor as is_ancestor}
 use Rattle.plan.proofs.Epochs.{earlier-below}
 use Rattle.plan.proofs.FreshMembers.{in-difference, unused-within, nobody, nobody_below}
+use Rattle.std.proofs.lemmas.Grind.{common_steps}
 
 -- ---- what is left of a set
 
@@ -39,21 +40,16 @@ left_out (suc n) group c s x there out =
 taken_out : (n : ℕ) (group : List ConfigurationData) (s : FinSet nat_cmp) (x a c : ℕ) → c ≤ n → IsAboveIn group a c → contains (configuration_at group a).members x ≡ true → contains (unused_within n group c s) x ≡ false
 taken_out zero group s x a c within (is_parent b d is) has = absurd (let lt : b < d = earlier-below d (configuration_at group d).parent b is in omega arith)
 taken_out zero group s x a c within (is_ancestor b p d is up) has = absurd (let lt : p < d = earlier-below d (configuration_at group d).parent p is in omega arith)
-taken_out (suc n) group s x a c within (is_parent b d is) has =
-    ap (λ q. contains (by_parent q s (λ p. unused_within n group p (difference s (configuration_at group p).members))) x) is
-    ∙ false_from_ne_true _ (λ left. both_ways (contains (configuration_at group b).members x)
-    (in-difference s (configuration_at group b).members x (unused-within n group b (difference s (configuration_at group b).members) x left)).1 has)
+taken_out (suc n) group s x a c within (is_parent b d is) has = grind (arith, common_steps, false_from_ne_true, both_ways, in-difference, unused-within)
 taken_out (suc n) group s x a c within (is_ancestor b p d is up) has =
     let lt : p < d = earlier-below d (configuration_at group d).parent p is in
-    ap (λ q. contains (by_parent q s (λ r. unused_within n group r (difference s (configuration_at group r).members))) x) is
-    ∙ taken_out n group (difference s (configuration_at group p).members) x b p (omega arith) up has
+    grind (arith, common_steps, (taken_out n group (difference s (configuration_at group p).members) x b p (omega arith) up has))
 
 -- ---- the members that are used again
 
 earlier-is : (c : ℕ) (q : Option ℕ) (p : ℕ) → earlier c q ≡ Some p → q ≡ Some p
 earlier-is c None p h = absurd cc
-earlier-is c (Some r) p h =
-    elim (nat_lt r c) as (λ b. (if b then Some r else None) ≡ Some p → Some r ≡ Some p) [ true ↦ λ is. is | false ↦ λ is. absurd cc ] h
+earlier-is c (Some r) p h = grind (arith, common_steps)
 
 -- what has a configuration above has a parent
 parent-under : (group : List ConfigurationData) (a c : ℕ) → IsAboveIn group a c → (p : ℕ) × ((configuration_at group c).parent ≡ Some p)
@@ -73,9 +69,7 @@ fresh-to group c x h =
     elim (configuration_at group c).parent as (λ q. contains (by_parent q empty (λ r. difference (configuration_at group c).members (configuration_at group r).members)) x ≡ true
     → (contains (configuration_at group c).members x ≡ true) × ((p : ℕ) → q ≡ Some p → contains (configuration_at group p).members x ≡ false)) [
       | None ↦ λ e. absurd (both_ways (contains {R = nat_cmp} empty x) (contains-empty nat_cmp x) e)
-      | Some r ↦ λ e. (
-          let parts = in-difference (configuration_at group c).members (configuration_at group r).members x e in
-          (parts.0, λ p is. (let same : r ≡ p = cc in ap (λ k. contains (configuration_at group k).members x) (sym same) ∙ parts.1)))
+      | Some r ↦ grind (arith, common_steps, in-difference)
     ] h
 
 reused-from : (group : List ConfigurationData) (c x : ℕ) → IsReused group c x → contains (reused_at group c) x ≡ true
@@ -85,10 +79,7 @@ reused-from group c x h =
     (ap not (taken_out c group (fresh_at group c) x h.above.0 c (omega arith) h.above.1 h.above.2))
 
 reused-to : (group : List ConfigurationData) (c x : ℕ) → x < 64 → contains (reused_at group c) x ≡ true → IsReused group c x
-reused-to group c x low h =
-    let parts : (contains (fresh_at group c) x ≡ true) × (contains (unused_within c group c (fresh_at group c)) x ≡ false) = in-difference (fresh_at group c) (unused_within c group c (fresh_at group c)) x h in
-    let fresh = fresh-to group c x parts.0 in
-    record { member = low; has = fresh.0; lacked = fresh.1; above = left_out c group c (fresh_at group c) x parts.0 parts.1 }
+reused-to group c x low h = grind (arith, common_steps, in-difference, fresh-to, left_out)
 
 -- ---- the least member of a set
 
@@ -102,11 +93,7 @@ last_of test n x (z ∷ xs) here none h =
     let same : z ≡ x = cc in
     let (low, passes, before) = here z refl in
     (let low' : z < n = low in omega arith, ap test (sym same) ∙ passes, λ y l. before y (omega arith))
-last_of test n x [] here none h =
-    elim (test n) as (λ b. test n ≡ b → slice_get (if b then n ∷ [] else []) 0 ≡ Some x → IsFirst test (suc n) x) [
-      | true ↦ λ e i. (let same : n ≡ x = cc in (omega arith, ap test (sym same) ∙ e, λ y l. none refl y (omega arith)))
-      | false ↦ λ e i. absurd cc
-    ] refl h
+last_of test n x [] here none h = grind (arith, common_steps)
 
 first_of : (n : ℕ) (test : ℕ → Bool) (x : ℕ) → slice_get (each_below n test (λ y. y)) 0 ≡ Some x → IsFirst test n x
 first_of zero test x h = absurd cc
@@ -137,11 +124,7 @@ least_named g c x group h =
     (λ y before. false_from_ne_true _ (λ there. absurd (let least : x ≤ y = h.least y (reused-to group c y (omega (arith, before, h.reused.member)) there) in omega (arith, before)))))
 
 at_least_first : (group : List ConfigurationData) (c x y : ℕ) → ((z : ℕ) → z < x → contains (reused_at group c) z ≡ false) → IsReused group c y → x ≤ y
-at_least_first group c x y before h =
-    elim (cases_lt y x) [
-      | inl below ↦ absurd (both_ways (contains (reused_at group c) y) (before y below) (reused-from group c y h))
-      | inr past ↦ past
-    ]
+at_least_first group c x y before h = grind (arith, common_steps, (cases_lt y x), (reused-from group c y h))
 
 named_least : (g c x : ℕ) (group : List ConfigurationData) → reuse_fault g group c ≡ Some (MemberReused g c x) → IsLeastReused group c x
 named_least g c x group h =

@@ -1,12 +1,10 @@
 -- Writing a plan with other certificates, from text to text.
-use Rattle.std.proofs.Common.{◌≡◌, ℕ, ◌≤◌, ◌∙◌, List, length, refl, ap, sym, subst, arith, Option, Some, Ok, Err, Bool, true, false, IsOkAnd, nat_le, if◌then◌else◌}
-use Rattle.std.specs.Str.{IsUtf8, is_utf8}
-use Rattle.serde_json.specs.Data.{Data, null, object, depth}
+use Rattle.std.proofs.Common.{◌≡◌, ℕ, ◌≤◌, ◌∙◌, List, refl, ap, sym, subst, arith, Option, Some, Ok, Err, Bool, false, IsOkAnd}
+use Rattle.std.specs.Str.{IsUtf8}
+use Rattle.serde_json.specs.Data.{Data, object, depth}
 use Rattle.serde_json.specs.Read.{read, max_depth}
 use Rattle.serde_json.specs.Written.{has_float, compact_text}
 use Rattle.serde_json.proofs.Nesting.{depth-read}
-use Rattle.volume_model.specs.declared.fault.Fault.TheVariants.{Malformed, OverLimit}
-use Rattle.quorum_expr.specs.Common.{found_or_malformed}
 use Rattle.refutation.specs.Common.{Rule, form_of, certificate_in}
 use Rattle.plan.specs.PlanData.{PlanData}
 use Rattle.plan.specs.PlanText.{◌>=>◌, in_text, certificate_or_null, json_of, value_of, plan_in, plan_of}
@@ -18,6 +16,7 @@ use Rattle.plan.proofs.Text.{is_json}
 use Rattle.plan.proofs.Reread.{found_ok, ok_is}
 use Rattle.plan.proofs.RereadPlan.{AreRead, plan-reread}
 use Rattle.plan.proofs.GoodParents.{parents-good}
+use Rattle.std.proofs.lemmas.Grind.{common_steps}
 
 -- ---- certificates
 
@@ -31,18 +30,11 @@ some-certificate d r h = absurd (cc)
 
 pub value-nests : (text : List ℕ) (d : Data) → value_of text ≡ Ok d → depth d ≤ max_depth
 unfolding value_of json_of
-value-nests text d h = depth-read text d (found (nat_le (length text) 16777216) (is_utf8 text) h)
-  where
-    found : (b u : Bool) → (if b then (if u then found_or_malformed (read text) else Err Malformed) else Err OverLimit) ≡ Ok d → read text ≡ Some d
-    found true true h = found_ok (read text) d h
-    found true false h = absurd (cc)
-    found false u h = absurd (cc)
+value-nests text d h = grind (arith, common_steps, depth-read, Bool, Err, Ok, Some, found_ok)
 
 rewritten-is : (text : List ℕ) (d : Data) (plan : PlanData) (claims : List PlacedClaim) (rs : List (Option Rule)) → value_of text ≡ Ok d → plan_in d ≡ Ok plan → claims_in plan ≡ Ok claims → rewritten text rs ≡ Ok (with_certificates plan rs)
 unfolding rewritten plan_of
-rewritten-is text d plan claims rs value is listed =
-    (λ i. (in_text (value i) >=> plan_in) >=> λ plan. claims_in plan >=> λ claims. Ok (with_certificates plan rs))
-    ∙ (λ i. is i >=> λ plan. claims_in plan >=> λ claims. Ok (with_certificates plan rs)) ∙ (λ i. listed i >=> λ claims. Ok (with_certificates plan rs))
+rewritten-is text d plan claims rs value is listed = grind (arith, common_steps)
 
 pub writes : (text bytes : List ℕ) (d y : Data) (plan : PlanData) (claims : List PlacedClaim) (vs : List Data) (rs : List (Option Rule)) → value_of text ≡ Ok d → plan_in d ≡ Ok plan → claims_in plan ≡ Ok claims → AreRead vs rs → plan_written d vs ≡ Ok y
     → IsUtf8 bytes → (depth y ≤ max_depth → read bytes ≡ Some y) → IsOkAnd (rewritten text rs) (λ p. spelt bytes ≡ Ok p)

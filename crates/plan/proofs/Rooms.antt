@@ -5,22 +5,20 @@ use Rattle.std.proofs.lemmas.List.Elements.{All-same}
 use Rattle.refutation.specs.declared.Side.{Side}
 use Rattle.refutation.specs.declared.Refutation.{Refutation}
 use Rattle.refutation.specs.declared.Refutation.TheVariants.{Dead, Clash, Open, Split}
-use Rattle.refutation.specs.Common.{Rule, branches_of, depth_of, is_certificate, HasRanges, EachHasRanges, rule_of, certificate_data}
+use Rattle.refutation.specs.Common.{Rule, branches_of, depth_of, is_certificate, HasRanges, EachHasRanges, rule_of}
 use Rattle.refutation.proofs.Rules.{rule_of-Dead, rule_of-Clash, rule_of-Open, rule_of-Split}
 use Rattle.refutation.proofs.ReadBack.{certificate_in-written}
 use Rattle.refutation.proofs.Nests.{certificate-nests}
 use Rattle.plan.proofs.Rewrites.{some-certificate}
 use Rattle.plan.specs.Certificates.{IsReadBack}
 use Rattle.plan.specs.Rules.{EachInRange}
+use Rattle.std.proofs.lemmas.Grind.{common_steps}
 
 pub none_back : IsReadBack None
 none_back = record { read = refl; nests = omega arith }
 
 pub some_back : (r : Rule) → is_certificate r ≡ true → depth_of r ≤ 40 → HasRanges r → IsReadBack (Some r)
-some_back r within deep ranges = record {
-  read = some-certificate (certificate_data r) r (certificate_in-written r within ranges);
-  nests = omega (arith, certificate-nests r);
-}
+some_back r within deep ranges = grind (arith, common_steps, some-certificate, certificate_in-written, certificate-nests)
 
 -- ---- one rule
 

@@ -27,6 +27,7 @@ use Rattle.plan.specs.Certificates.{IsReadBack, certificate_values}
 use Rattle.plan.specs.Taped.{HasClaims, Spells}
 use Rattle.plan.specs.PutPlans.{IsTextOf, PutsMade, rules_in}
 use Rattle.plan.proofs.Texts.{nested, text_of}
+use Rattle.std.proofs.lemmas.Grind.{common_steps}
 
 -- ---- reading
 
@@ -67,8 +68,4 @@ is-written text d cs count old new bytes within utf8 e has back none before p it
     let vs = certificate_values cs in
     let rs = rules_in cs in
     let read = values-read cs back in
-    record {
-      written = writes text bytes d p.value has.plan has.claims vs rs value is has.listed read p.is t.utf8 t.back;
-      compact = compact text bytes d p.value has.plan has.claims vs rs value is has.listed read p.is t.utf8 t.back t.compact;
-      kept = keeps-values text bytes d p.value has.plan has.claims vs rs value is has.listed read p.is t.utf8 t.back;
-    }
+    grind (arith, common_steps, writes, compact, keeps-values)

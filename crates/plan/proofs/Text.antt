@@ -9,6 +9,7 @@ use Rattle.volume_model.specs.declared.fault.Fault.TheVariants.{Malformed, OverL
 use Rattle.quorum_expr.specs.Common.{found_or_malformed}
 use Rattle.plan.specs.declared.fault.PlanFault.TheVariants.{Text}
 use Rattle.plan.specs.PlanText.{◌>=>◌, in_text, plan_in, json_of, value_of, plan_of}
+use Rattle.std.proofs.lemmas.Grind.{common_steps}
 
 pub is_json : (bytes : List ℕ) (d : Data) → IsUtf8 bytes → read bytes ≡ Some d → json_of bytes ≡ Ok d
 unfolding json_of
@@ -30,13 +31,9 @@ text-long text h = let no : nat_le (length text) 16777216 ≡ false = grind (ari
 
 pub text-bad : (text : List ℕ) → length text ≤ 16777216 → ¬ (IsUtf8 text) → plan_of text ≡ Err (Text Malformed)
 unfolding plan_of value_of
-text-bad text h bad =
-    let yes : nat_le (length text) 16777216 ≡ true = grind (arith, nat_tests) in
-    rw (yes, no_json text (λ utf8. absurd (bad utf8))) refl
+text-bad text h bad = grind (arith, common_steps, nat_tests, no_json)
 
 -- a text within the limits spells what its value does
 pub text-read : (text : List ℕ) → length text ≤ 16777216 → IsUtf8 text → plan_of text ≡ (in_text (found_or_malformed (read text)) >=> plan_in)
 unfolding plan_of value_of json_of
-text-read text h utf8 =
-    let yes : nat_le (length text) 16777216 ≡ true = grind (arith, nat_tests) in
-    rw (yes, is_utf8-from_IsUtf8 text utf8) refl
+text-read text h utf8 = grind (arith, common_steps, nat_tests, is_utf8-from_IsUtf8)

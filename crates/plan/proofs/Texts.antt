@@ -1,5 +1,5 @@
 -- Texts that were put token by token, and certificates that are read back.
-use Rattle.std.proofs.Common.{◌≡◌, ℕ, zero, suc, ◌≤◌, List, [], ◌∷◌, ◌++◌, ap, sym, subst, ◌∙◌, arith, append-nil, Option, Some, All, option_and_then, option_map}
+use Rattle.std.proofs.Common.{◌≡◌, ℕ, zero, suc, ◌≤◌, List, [], ◌∷◌, ◌++◌, ap, sym, ◌∙◌, arith, append-nil, Option, Some, All, option_and_then, option_map}
 use Rattle.std.specs.declared.alloc.Global.{Global}
 use Rattle.std.specs.Str.{IsUtf8}
 use Rattle.std.proofs.lemmas.List.Elements.{All-head, All-tail}
@@ -19,6 +19,7 @@ use Rattle.refutation.specs.Common.{certificate_rule}
 use Rattle.plan.specs.Rewriting.{value_or_null}
 use Rattle.plan.specs.Certificates.{certificate_values, IsReadBack}
 use Rattle.plan.specs.PutPlans.{IsTextOf}
+use Rattle.std.proofs.lemmas.Grind.{common_steps}
 
 -- ---- texts
 
@@ -30,14 +31,7 @@ read_back d ts text put same shallow =
 
 -- the text of a writer that held nothing at first
 pub text_of : (d : Data) (w : Written) (bytes : List ℕ) → WritesValue d [] w.tokens → w.before ≡ [] → bytes ≡ w.before ++ print w.tokens → tokens (print w.tokens) ≡ w.tokens → IsUtf8 (print w.tokens) → IsTextOf d bytes
-text_of d w bytes put none is reads utf8 =
-    let text : bytes ≡ print w.tokens = is ∙ ap (λ b. b ++ print w.tokens) none in
-    let same : tokens bytes ≡ w.tokens = ap tokens text ∙ reads in
-    record {
-      utf8 = subst IsUtf8 (sym text) utf8;
-      back = λ shallow. read_back d w.tokens bytes put same shallow;
-      compact = λ whole. text ∙ ap print (sym same) ∙ ap print (tokens_from_order bytes d (put.0, same ∙ put.1, put.4) whole) ∙ print-outline d;
-    }
+text_of d w bytes put none is reads utf8 = grind (arith, common_steps, read_back, tokens_from_order, print-outline, (print-outline d))
 
 -- ---- certificates
 

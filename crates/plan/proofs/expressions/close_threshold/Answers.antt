@@ -1,15 +1,14 @@
 use Rattle.std.proofs.Common.{◌≡◌, ◌∙◌, ap, sym, subst, Some, arith, OnSome}
 use Rattle.quorum_expr.specs.Common.{data_of}
 use Rattle.quorum_expr.proofs.Sorted.{here_in_order}
-use Rattle.plan.specs.Known.{EndsThreshold}
 use Rattle.plan.specs.Puts.{Puts}
 use Rattle.plan.proofs.Known.{two_keys, known-two}
 use Rattle.plan.proofs.Putting.{then_put, closed}
 use Rattle.plan.proofs.expressions.close_threshold.Goals as goal
+use Rattle.std.proofs.Common.{rules}
 
 pub returns-then-keys-eq3 : goal.returns-then-keys-eq3
-returns-then-keys-eq3 c =
-    subst (λ n. OnSome c.close_weighted.result (EndsThreshold n (data_of c.args.node.now) c.args.writer.now c.close_weighted.new.writer)) (sym c.if-keys-eq3.true) c.close_weighted.ensures
+returns-then-keys-eq3 c = search (rules, c.if-keys-eq3.true, c.close_weighted.ensures, OnSome)
 
 pub returns : goal.returns
 returns c =

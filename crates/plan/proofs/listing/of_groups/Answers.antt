@@ -1,12 +1,13 @@
-use Rattle.std.proofs.Common.{◌<◌, ◌∙◌, length, map, ap, sym, get_or, slice_index_or, [], arith, Ok}
-use Rattle.std.proofs.lemmas.List.{length-map, map-append}
+use Rattle.std.proofs.Common.{◌<◌, ◌∙◌, length, map, ap, sym, get_or, slice_index_or, [], arith}
+use Rattle.std.proofs.lemmas.List.{length-map}
 use Rattle.std.proofs.lemmas.Result.{err_from_is_err_and}
 use Rattle.plan.specs.Plan.{configuration_data, group_data}
-use Rattle.plan.specs.LentClaims.{lent_placed, all_lent}
+use Rattle.plan.specs.LentClaims.{all_lent}
 use Rattle.plan.specs.PlanClaims.{group_claims}
 use Rattle.plan.proofs.Lookups.{item-at}
-use Rattle.plan.proofs.Listed.{claims-more, Reads-below}
+use Rattle.plan.proofs.Listed.{Reads-below}
 use Rattle.plan.proofs.listing.of_groups.Goals as goal
+use Rattle.std.proofs.lemmas.Grind.{common_steps}
 
 pub returns-in_err-claims : goal.returns-in_err-claims
 returns-in_err-claims c =
@@ -18,10 +19,4 @@ returns-in_err-claims c =
     (λ other. ap (group_claims c.loop-group.group) here ∙ c.in_err-claims.ensures other))
 
 pub loop-group-preserved : goal.loop-group-preserved
-loop-group-preserved c =
-    claims-more c.loop-group.group (λ g. group_claims g (slice_index_or (map group_data c.args.groups.now) g [])) (all_lent c.loop-group.list.items) (all_lent c.in_ok-claims.claims.items) c.loop-group.invariant
-    (ap (group_claims c.loop-group.group)
-    (item-at group_data c.args.groups.now c.loop-group.group c.index-groups-from.result [] c.loop-group-test.true (c.index-groups-from.is ∙ ap (λ i. get_or c.args.groups.now i c.index-groups-from.result) c.from.ensures)
-    ∙ ap (λ y. map configuration_data y.configurations.items) c.index-groups-from.is ∙ ap (map configuration_data) (sym c.deref.ensures.value))
-    ∙ c.in_ok-claims.ensures)
-    ∙ ap Ok (sym (ap all_lent c.in_ok-append.ensures.items ∙ map-append lent_placed c.loop-group.list.items c.in_ok-claims.claims.items))
+loop-group-preserved c = grind (arith, common_steps)

@@ -1,9 +1,10 @@
 use Rattle.std.proofs.Common.{arith, subst}
-use Rattle.refutation.specs.Common.{number_data, numbers_data}
+use Rattle.refutation.specs.Common.{number_data}
 use Rattle.plan.specs.Puts.{Puts}
 use Rattle.plan.proofs.Putting.{then_put, one_of, all_of}
 use Rattle.plan.proofs.Joined.{joined-numbers}
 use Rattle.plan.proofs.puts.put_numbers.Goals as goal
+use Rattle.std.proofs.Common.{rules}
 
 pub loop-number-preserved : goal.loop-number-preserved
 loop-number-preserved c = record {
@@ -11,6 +12,4 @@ loop-number-preserved c = record {
 }
 
 pub returns : goal.returns
-returns c =
-    then_put c.close_array.result c.close_array.ensures
-    (λ t. all_of number_data c.args.numbers.now c.loop-number.number-index (numbers_data c.args.numbers.now) c.args.writer.now c.loop-number.writer c.close_array.new.writer (omega arith) (joined-numbers c.args.numbers.now) c.loop-number.invariant.puts t)
+returns c = search (rules, c.close_array.ensures, c.loop-number.invariant.puts, then_put, all_of, joined-numbers)

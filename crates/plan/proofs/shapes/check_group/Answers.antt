@@ -5,6 +5,7 @@ use Rattle.plan.specs.Plan.{configuration_data}
 use Rattle.plan.specs.PlanClaims.{configuration_claims}
 use Rattle.plan.proofs.Admitted.{has-more, has-fault}
 use Rattle.plan.proofs.shapes.check_group.Goals as goal
+use Rattle.std.proofs.lemmas.Grind.{common_steps}
 
 pub returns-in_err-check_configuration : goal.returns-in_err-check_configuration
 returns-in_err-check_configuration c =
@@ -15,5 +16,4 @@ returns-in_err-check_configuration c =
     c.in_err-check_configuration.field-0.0 within c.loop-configuration.invariant c.in_err-check_configuration.ensures)
 
 pub loop-configuration-preserved : goal.loop-configuration-preserved
-loop-configuration-preserved c =
-    has-more c.loop-configuration.configuration (configuration_claims c.args.group (map configuration_data c.args.configurations.now)) c.loop-configuration.invariant c.in_ok-check_configuration.ensures
+loop-configuration-preserved c = grind (arith, common_steps, c.loop-configuration.invariant, c.in_ok-check_configuration.ensures, has-more)

@@ -1,10 +1,9 @@
 use Rattle.std.proofs.Common.{refl, codes}
 use Rattle.serde_json.specs.Data.{no_members}
-use Rattle.quorum_expr.specs.Common.{items_in, data_of}
-use Rattle.plan.specs.Certificates.{certificate_values}
 use Rattle.plan.proofs.Made.{made-whole}
 use Rattle.plan.proofs.Putting.{then_put, opened, one_more, closed}
 use Rattle.plan.proofs.written.put_group.Goals as goal
+use Rattle.std.proofs.Common.{rules}
 
 pub returns : goal.returns
 returns c =
@@ -12,9 +11,4 @@ returns c =
     let start = c.args.writer.now in
     let none = opened start c.open_object.new.writer c.in_ok-open_object.ensures in
     let one = one_more no_members (codes "configurations") p.value start c.open_object.new.writer c.put_configurations.new.writer refl none (record { between = c.put_key.new.writer; key = c.in_ok-put_key.ensures; value = p.puts }) in
-    then_put c.close_object.result c.close_object.ensures
-    (λ t. record {
-      value = _;
-      is = made-whole (items_in (data_of c.args.list.now)) (certificate_values c.args.certificates.now) p.value p.is;
-      puts = closed _ start c.put_configurations.new.writer c.close_object.new.writer one t;
-    })
+    search (rules, c.close_object.ensures, then_put, made-whole, closed)

@@ -1,7 +1,7 @@
 use Rattle.plan.proofs.Shown.{shows-at}
 use Rattle.plan.proofs.checked.CheckedPlan.configuration.Goals as goal
+use Rattle.std.proofs.lemmas.Grind.{common_steps}
+use Rattle.std.proofs.Common.{arith}
 
 pub returns : goal.returns
-returns c =
-    shows-at c.args.self.now.plan c.deref.result.now c.from.result c.args.group c.in_ok-group.group.now c.deref-2.result.now c.from-2.result c.args.configuration c.get-2.result
-    c.deref.ensures.value c.from.ensures c.in_ok-group.ensures.lookup.3.0 c.in_ok-group.ensures.lookup.1 c.deref-2.ensures.value c.from-2.ensures c.get-2.ensures.lookup
+returns c = grind (arith, common_steps, c.deref.ensures.value, c.from.ensures, c.in_ok-group.ensures.lookup.3.0, c.in_ok-group.ensures.lookup.1, c.deref-2.ensures.value, c.from-2.ensures, c.get-2.ensures.lookup, shows-at)
