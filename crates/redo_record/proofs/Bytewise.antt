@@ -1,6 +1,6 @@
 -- Payloads that are compared byte by byte
-use Rattle.std.proofs.Common.{◌≡◌, ℕ, zero, suc, ◌<◌, ◌≤◌, ◌+◌, ◌-◌, ◌&&◌, Bool, true, false, nat_eq, List, [], ◌∷◌, ◌++◌, length, get_or, drop, replicate, slice_index, refl, sym, ap, ◌∙◌, subst, inl, inr, arith}
-use Rattle.std.proofs.lemmas.Bool.{cases_lt, and_parts, and_from, eqb-true, eq-eqb}
+use Rattle.std.proofs.Common.{◌≡◌, ℕ, zero, suc, ◌<◌, ◌≤◌, ◌+◌, ◌-◌, ◌&&◌, Bool, true, false, nat_eq, List, [], ◌∷◌, ◌++◌, length, drop, replicate, slice_index, refl, sym, ◌∙◌, inl, inr, arith}
+use Rattle.std.proofs.lemmas.Bool.{cases_lt, and_parts, and_from, eq-eqb}
 use Rattle.std.proofs.lemmas.List.{ext_get_or, get_or-drop, get_or-take, get_or_append_left, get_or_past, length-append, length-drop, length-replicate, length-take-le}
 use Rattle.std.proofs.Math.Seq.{get_or-append_right}
 use Rattle.volume_model.specs.Common.{same_numbers}
@@ -8,6 +8,8 @@ use Rattle.redo_record.specs.declared.payload.Payload.{Payload}
 use Rattle.redo_record.specs.Padding.{IsPadded}
 use Rattle.redo_record.specs.Payload.{payload_bytes}
 use Rattle.redo_record.proofs.Before.{same_numbers-true}
+use Rattle.std.proofs.lemmas.Grind.{common_steps}
+use Rattle.std.proofs.Common.{rules}
 
 same_numbers-refl : (xs : List ℕ) → same_numbers xs xs ≡ true
 same_numbers-refl [] = refl
@@ -29,27 +31,10 @@ pub record IsSameTo (a b : Payload) (n : ℕ) (same : Bool) : Type 0 where
   pub found : AreSame a b n → same ≡ true
 
 pub same-begun : (a b : Payload) → IsSameTo a b 0 (nat_eq a.length b.length)
-same-begun a b = record {
-  shown = λ e. (eqb-true a.length b.length e, λ k l. absurd (omega arith));
-  found = λ h. eq-eqb a.length b.length h.0;
-}
+same-begun a b = grind (arith, common_steps)
 
 pub same-next : (a b : Payload) (n : ℕ) (same : Bool) → IsSameTo a b n same → IsSameTo a b (n + 1) (same && nat_eq (slice_index a.place n) (slice_index b.place n))
-same-next a b n same is =
-    let x : ℕ = slice_index a.place n in
-    let y : ℕ = slice_index b.place n in
-    record {
-      shown = λ e.
-          let parts = and_parts same (nat_eq x y) e in
-          let before : AreSame a b n = is.shown parts.0 in (
-            before.0,
-            λ k l. elim (cases_lt k n) [
-              | inl m ↦ before.1 k m
-              | inr m ↦ (let here : n ≡ k = omega arith in subst (λ j. slice_index a.place j ≡ slice_index b.place j) here (eqb-true x y parts.1))
-            ],
-          );
-      found = λ h. and_from same (nat_eq x y) (is.found (h.0, λ k l. h.1 k (omega arith))) (eq-eqb x y (h.1 n (omega arith)));
-    }
+same-next a b n same is = grind (arith, common_steps)
 
 module _ (a b : Payload) where
   own-length : length (payload_bytes a) ≡ a.length
@@ -64,22 +49,11 @@ module _ (a b : Payload) where
       get_or-take a.length a.place k 0 within ∙ h.1 k (omega (arith, a.in_place)) ∙ sym (get_or-take b.length b.place k 0 (omega (arith, h.0))))
 
   same-bytes : payload_bytes a ≡ payload_bytes b → AreSame a b 64
-  same-bytes e =
-      let long : a.length ≡ b.length = sym own-length ∙ ap length e ∙ other-length in (
-        long,
-        λ k l. elim (cases_lt k a.length) [
-          | inl m ↦ sym (get_or-take a.length a.place k 0 m) ∙ ap (λ xs. get_or xs k 0) e ∙ get_or-take b.length b.place k 0 (omega (arith, long))
-          | inr m ↦ a.padded.cleared k m ∙ sym (b.padded.cleared k (omega (arith, long)))
-        ],
-      )
+  same-bytes e = grind (arith, common_steps)
 
   -- all were compared
   pub same-ended : (n : ℕ) (same : Bool) → n ≡ 64 → IsSameTo a b n same → same ≡ same_numbers (length (payload_bytes a) ∷ payload_bytes a) (length (payload_bytes b) ∷ payload_bytes b)
-  same-ended n same all is =
-      let now : IsSameTo a b 64 same = subst (λ m. IsSameTo a b m same) all is in
-      both-pass same _
-      (λ e. subst (λ (ys : List ℕ). same_numbers (length (payload_bytes a) ∷ payload_bytes a) (length ys ∷ ys) ≡ true) (bytes-same (now.shown e)) (same_numbers-refl (length (payload_bytes a) ∷ payload_bytes a)))
-      (λ e. now.found (same-bytes (same_numbers-true (payload_bytes a) (payload_bytes b) (and_parts (nat_eq (length (payload_bytes a)) (length (payload_bytes b))) _ e).1)))
+  same-ended n same all is = search (rules, both-pass, bytes-same, same_numbers-refl, same-bytes, same_numbers-true, and_parts, nat_eq)
 
 -- zeros behind some bytes
 zeros : (n k : ℕ) → slice_index (replicate n 0) k ≡ 0

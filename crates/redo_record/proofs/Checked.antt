@@ -1,10 +1,11 @@
 -- What bytes have that spell a record.
-use Rattle.std.proofs.Common.{◌≡◌, ℕ, ◌≤◌, Bool, true, false, not, nat_lt, List, length, drop, Result, Ok, is_ok, refl, ◌∙◌, arith, ltb-false}
+use Rattle.std.proofs.Common.{◌≡◌, ℕ, ◌≤◌, Bool, true, false, not, nat_lt, List, length, drop, Result, Ok, is_ok, refl, arith}
 use Rattle.volume_model.specs.Common.{refuse_if}
 use Rattle.volume_model.specs.declared.fault.Fault.{Fault}
 use Rattle.redo_record.specs.Head.{head_in, is_allowed, redo_in}
 use Rattle.redo_record.specs.Spelling.{spelled, decoded}
 use Rattle.redo_record.proofs.Spelled.{IsBytes, allowed_facts, spelled_again}
+use Rattle.std.proofs.lemmas.Grind.{common_steps}
 
 -- the bytes are long enough, their numbers are allowed, and the other bytes are as many as they say
 pub record IsSpelling (bytes : List ℕ) : Type 0 where
@@ -18,27 +19,10 @@ passed : {A : Type 0} (test : Bool) (fault : Fault) (rest : Result A Fault) → 
 passed true fault rest e = absurd (let no : false ≡ true = e in cc)
 passed false fault rest e = (refl, e, refl)
 
-not-false : (b : Bool) → not b ≡ false → b ≡ true
-not-false true e = refl
-not-false false e = cc
-
 -- bytes that are decoded spell a record
 pub spelling-of_ok : (bytes : List ℕ) → is_ok (decoded bytes) ≡ true → IsSpelling bytes
 unfolding decoded
-spelling-of_ok bytes e =
-    let p0 = passed (nat_lt (length bytes) 45) _ _ e in
-    let p1 = passed (not (is_allowed (head_in bytes))) _ _ p0.1 in
-    let p2 = passed (nat_lt (length (drop 45 bytes)) (head_in bytes).length) _ _ p1.1 in
-    let p3 = passed (nat_lt (head_in bytes).length (length (drop 45 bytes))) _ _ p2.1 in
-    let most : 45 ≤ length bytes = ltb-false (length bytes) 45 p0.0 in
-    let few = ltb-false (length (drop 45 bytes)) (head_in bytes).length p2.0 in
-    let many = ltb-false (head_in bytes).length (length (drop 45 bytes)) p3.0 in
-    record {
-      long = most;
-      allowed = not-false _ p1.0;
-      whole = omega arith;
-      redo = p0.2 ∙ p1.2 ∙ p2.2 ∙ p3.2;
-    }
+spelling-of_ok bytes e = grind (arith, common_steps, (passed (nat_lt (length bytes) 45) _ _ e), (not (is_allowed (head_in bytes))))
 
 -- they are the one spelling of the record that they show
 pub spelling-again : (bytes : List ℕ) → IsBytes bytes → IsSpelling bytes → spelled (redo_in bytes) ≡ bytes

@@ -1,10 +1,12 @@
 -- Lists of packets that are cloned
-use Rattle.std.proofs.Common.{◌≡◌, List, [], ◌∷◌, ◌++◌, map, refl, ap, ◌∙◌}
+use Rattle.std.proofs.Common.{◌≡◌, List, [], ◌∷◌, ◌++◌, map, refl}
 use Rattle.std.proofs.lemmas.List.{map-append}
 use Rattle.std.specs.List.{AllZip, AppendsClones}
 use Rattle.volume_model.specs.Common.{Redo}
 use Rattle.redo_record.specs.declared.shared_record.SharedRecord.{SharedRecord}
 use Rattle.redo_record.specs.SharedRecord.{shared_redo}
+use Rattle.std.proofs.lemmas.Grind.{common_steps}
+use Rattle.std.proofs.Common.{arith}
 
 -- the records of packets
 abbrev pub redos : List SharedRecord → List Redo
@@ -19,10 +21,8 @@ pub redos-copied : (packets copies : List SharedRecord) → AllZip IsCopy packet
 redos-copied [] [] h = refl
 redos-copied [] (copy ∷ copies) h = absurd h
 redos-copied (packet ∷ packets) [] h = absurd h
-redos-copied (packet ∷ packets) (copy ∷ copies) h =
-    ap (λ r. r ∷ redos copies) h.0 ∙ ap (λ rs. shared_redo packet ∷ rs) (redos-copied packets copies h.1)
+redos-copied (packet ∷ packets) (copy ∷ copies) h = grind (arith, common_steps, redos, (redos-copied packets copies h.1))
 
 -- with clones at its end a list has the records of both
 pub redos-appended : (old now more : List SharedRecord) → AppendsClones IsCopy old now more → redos now ≡ redos old ++ redos more
-redos-appended old now more h =
-    ap redos h.1 ∙ map-append shared_redo old h.0 ∙ ap (λ rs. redos old ++ rs) (redos-copied more h.0 h.2)
+redos-appended old now more h = grind (arith, common_steps, redos, map-append, redos-copied)

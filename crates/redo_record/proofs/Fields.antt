@@ -1,9 +1,9 @@
 -- The order of records, field by field
-use Rattle.std.proofs.Common.{◌≡◌, ℕ, ◌==◌, nat_lt, Bool, true, false, ◌&&◌, ◌||◌, List, ◌∷◌, Ordering, Less, Equal, Greater, refl, sym, ap, ◌∙◌, subst, if◌then◌else◌, arith}
+use Rattle.std.proofs.Common.{◌≡◌, ℕ, Bool, true, false, List, ◌∷◌, Ordering, Less, Equal, Greater, refl, sym, ap, ◌∙◌, subst, if◌then◌else◌, arith}
 use Rattle.std.specs.Ordering.{nat_cmp, ordering_then, is_lt, is_eq}
-use Rattle.std.proofs.lemmas.Bool.Decides.{nat_tests}
 use Rattle.volume_model.specs.Common.{same_numbers, numbers_before}
 use mir.Val.{bool_byte}
+use Rattle.std.proofs.lemmas.Grind.{common_steps}
 
 -- one test behind the other, whichever two come first
 pub then-then : (a b c : Ordering) → ordering_then (ordering_then a b) c ≡ ordering_then a (ordering_then b c)
@@ -18,16 +18,7 @@ pub record IsOrderOf (xs ys : List ℕ) (o : Ordering) : Type 0 where
 
 -- one number more before the others
 pub order-more : (x y : ℕ) (xs ys : List ℕ) (o : Ordering) → IsOrderOf xs ys o → IsOrderOf (x ∷ xs) (y ∷ ys) (ordering_then (nat_cmp x y) o)
-order-more x y xs ys o is = record {
-  less = less-more x y o (numbers_before xs ys) is.less;
-  same = same-more x y o (same_numbers xs ys) is.same;
-}
-  where
-    less-more : (x y : ℕ) (o : Ordering) (b : Bool) → is_lt o ≡ b → is_lt (ordering_then (nat_cmp x y) o) ≡ (nat_lt x y || (x == y && b))
-    less-more x y o b e = grind (arith, nat_tests)
-
-    same-more : (x y : ℕ) (o : Ordering) (b : Bool) → is_eq o ≡ b → is_eq (ordering_then (nat_cmp x y) o) ≡ (x == y && b)
-    same-more x y o b e = grind (arith, nat_tests)
+order-more x y xs ys o is = grind (arith, common_steps)
 
 -- the same, of a test with a result
 pub order-then : (x y : ℕ) (xs ys : List ℕ) (first rest : Ordering) → first ≡ nat_cmp x y → IsOrderOf xs ys rest → IsOrderOf (x ∷ xs) (y ∷ ys) (ordering_then first rest)

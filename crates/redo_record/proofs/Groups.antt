@@ -1,9 +1,11 @@
 -- Records of one group
-use Rattle.std.proofs.Common.{◌≡◌, ◌==◌, ◌&&◌, ℕ, Bool, true, false, List, [], ◌∷◌, ◌++◌, Option, Some, None, refl, sym, ap, subst, inl, inr, eq-eqb}
+use Rattle.std.proofs.Common.{◌≡◌, ◌==◌, ◌&&◌, ℕ, true, List, [], ◌∷◌, ◌++◌, Option, Some, refl, sym, subst, inl, inr, eq-eqb}
 use Rattle.volume_model.specs.Common.{every, Redo, with_record}
 use Rattle.volume_model.proofs.Basics.{IsIn-append}
 use Rattle.redo_record.specs.Groups.{AreOf, IsKnownGroup}
 use Rattle.redo_record.proofs.Places.{with_record-from}
+use Rattle.std.proofs.lemmas.Grind.{common_steps}
+use Rattle.std.proofs.Common.{arith}
 
 -- the test that each passes, and what it says
 pub every-of : (group : ℕ) (records : List Redo) → AreOf group records → every (λ r. r.group == group) records ≡ true
@@ -12,11 +14,7 @@ every-of group (r ∷ rest) all = rw (eq-eqb r.group group (all r (inl refl)), e
 
 -- a group that is kept, and none
 pub known_group-some : (group : ℕ) (records : List Redo) → AreOf group records → IsKnownGroup (Some group) records
-known_group-some group records all other e = subst (λ n. AreOf n records) (ap (λ o. held o) e) all
-  where
-    held : Option ℕ → ℕ
-    held None = group
-    held (Some n) = n
+known_group-some group records all other e = grind (arith, common_steps)
 
 -- one more of the group
 pub of-more : (group : ℕ) (r : Redo) (records : List Redo) → group ≡ r.group → AreOf group records → AreOf group (r ∷ records)
@@ -30,11 +28,3 @@ of-both group records more all also s i = elim (IsIn-append records more s i) [ 
 -- what is kept for a list is kept for the same records in another order
 pub known_group-with_record : (known_group : Option ℕ) (r : Redo) (records : List Redo) → IsKnownGroup known_group (r ∷ records) → IsKnownGroup known_group (with_record r records)
 known_group-with_record known_group r records kept group e s i = kept group e s (with_record-from r records s i)
-
--- the test of two lists
-pub every-both : (test : Redo → Bool) (xs ys : List Redo) → every test (xs ++ ys) ≡ (every test xs && every test ys)
-every-both test [] ys = refl
-every-both test (x ∷ xs) ys = elim (test x) as (λ b. (b && every test (xs ++ ys)) ≡ ((b && every test xs) && every test ys)) [
-  | true ↦ every-both test xs ys
-  | false ↦ refl
-]

@@ -7,6 +7,7 @@ use Rattle.redo_record.specs.Groups.{IsKnownGroup}
 use Rattle.redo_record.specs.Order.{IsInOrder}
 use Rattle.redo_record.proofs.Merging.{ordered-drop}
 use Rattle.redo_record.proofs.Places.{IsOrdered, ordered-from, in_order-from}
+use Rattle.std.proofs.lemmas.Grind.{common_steps}
 
 -- the records of a part of what shows records
 pub part-shown : {A : Type 0} (shows : A → Redo) (xs : List A) (from len : ℕ) → map shows (take len (drop from xs)) ≡ take len (drop from (map shows xs))
@@ -33,10 +34,7 @@ part-of_part xs first all from len within inside =
 pub part-piece : (records : List Redo) (number from len : ℕ) → from ≡ min (number * 256) (length records) → len ≡ min (length records - from) 256 → take len (drop from records) ≡ piece_records records number
 part-piece records number from len first count =
     let few : len ≡ min 256 (length (drop from records)) = simp length-drop (omega arith) in
-    ap (λ n. take n (drop from records)) few
-    ∙ take_min 256 (drop from records)
-    ∙ ap (λ n. take 256 (drop n records)) first
-    ∙ ap (take 256) (drop_min (number * 256) records)
+    grind (arith, common_steps, take_min, drop_min)
 
 ordered-take : (n : ℕ) (records : List Redo) → IsOrdered records → IsOrdered (take n records)
 ordered-take zero records o = tt

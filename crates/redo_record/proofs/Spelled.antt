@@ -1,14 +1,14 @@
 -- What is read is spelled so
-use Rattle.std.proofs.Common.{◌≡◌, ℕ, zero, suc, ◌+◌, ◌<◌, ◌≤◌, true, nat_eq, nat_le, nat_lt, ◌^◌, List, [], ◌∷◌, ◌++◌, length, get_or, take, drop, if◌then◌else◌, append_assoc, refl, sym, ap, ◌∙◌, inl, inr, arith}
+use Rattle.std.proofs.Common.{◌≡◌, ℕ, zero, suc, ◌+◌, ◌<◌, ◌≤◌, true, nat_eq, ◌^◌, List, [], ◌∷◌, ◌++◌, length, get_or, take, drop, if◌then◌else◌, append_assoc, refl, sym, ap, ◌∙◌, arith}
 use Rattle.std.specs.Int.{w16, w32, w64, to_be_bytes}
 use Rattle.std.proofs.Math.Seq.{drop-cons}
-use Rattle.std.proofs.lemmas.Bool.{cases_lt, and_parts, leb-true, ltb-true}
-use Rattle.std.proofs.lemmas.List.{take-append-drop, length-take, length-drop, get_or-drop, get_or-take, get_or_past}
+use Rattle.std.proofs.lemmas.List.{take-append-drop, length-take, length-drop, get_or-drop}
 use Rattle.std.proofs.lemmas.Nat.{be_bytes_2, be_bytes_4, be_bytes_8}
 use Rattle.volume_model.specs.Common.{Redo}
 use Rattle.redo_record.specs.declared.head.Head.{Head}
 use Rattle.redo_record.specs.Head.{number_at, head_in, is_allowed, redo_from}
 use Rattle.redo_record.specs.Spelling.{spelled}
+use Rattle.std.proofs.lemmas.Grind.{common_steps}
 
 -- each is a byte
 abbrev pub IsBytes : List ℕ → Type 0
@@ -18,11 +18,7 @@ IsBytes-drop : (n : ℕ) (bytes : List ℕ) → IsBytes bytes → IsBytes (drop 
 IsBytes-drop n bytes h i = rw get_or-drop (h (n + i))
 
 IsBytes-take : (n : ℕ) (bytes : List ℕ) → IsBytes bytes → IsBytes (take n bytes)
-IsBytes-take n bytes h i =
-    elim (cases_lt i n) [
-      | inl lt ↦ rw (get_or-take n bytes i 0 lt) (h i)
-      | inr le ↦ rw (get_or_past (take n bytes) i 0 (omega (arith, length-take n bytes))) (omega arith)
-    ]
+IsBytes-take n bytes h i = grind (arith, common_steps)
 
 piece_long : (n k : ℕ) (b : List ℕ) → k + n ≤ length b → length (take n (drop k b)) ≡ n
 piece_long n k b h = simp (length-take, length-drop) (omega arith)
@@ -65,18 +61,7 @@ pub text-written : (t0 t1 t2 t3 t4 t5 t6 t7 t8 t9 t10 a0 a1 a2 a3 a4 : List ℕ)
     → t0 ≡ [] → t1 ≡ t0 ++ a0 → t2 ≡ t1 ++ a1 → t3 ≡ t2 ++ a2 → t4 ≡ t3 ++ a3 → t5 ≡ t4 ++ a4 → t6 ≡ t5 ++ g ∷ [] → t7 ≡ t6 ++ a6 → t8 ≡ t7 ++ a7 → t9 ≡ t8 ++ p ∷ n ∷ [] → t10 ≡ t9 ++ rest
     → t10 ≡ text a0 a1 a2 a3 a4 g a6 a7 p n rest
 unfolding text
-text-written t0 t1 t2 t3 t4 t5 t6 t7 t8 t9 t10 a0 a1 a2 a3 a4 g a6 a7 p n rest e0 e1 e2 e3 e4 e5 e6 e7 e8 e9 e10 =
-    e10
-    ∙ after t9 t8 (p ∷ n ∷ []) rest e9
-    ∙ after t8 t7 a7 (p ∷ n ∷ rest) e8
-    ∙ after t7 t6 a6 (a7 ++ (p ∷ n ∷ rest)) e7
-    ∙ after t6 t5 (g ∷ []) (a6 ++ (a7 ++ (p ∷ n ∷ rest))) e6
-    ∙ after t5 t4 a4 (g ∷ (a6 ++ (a7 ++ (p ∷ n ∷ rest)))) e5
-    ∙ after t4 t3 a3 (a4 ++ (g ∷ (a6 ++ (a7 ++ (p ∷ n ∷ rest))))) e4
-    ∙ after t3 t2 a2 (a3 ++ (a4 ++ (g ∷ (a6 ++ (a7 ++ (p ∷ n ∷ rest)))))) e3
-    ∙ after t2 t1 a1 (a2 ++ (a3 ++ (a4 ++ (g ∷ (a6 ++ (a7 ++ (p ∷ n ∷ rest))))))) e2
-    ∙ after t1 t0 a0 (a1 ++ (a2 ++ (a3 ++ (a4 ++ (g ∷ (a6 ++ (a7 ++ (p ∷ n ∷ rest)))))))) e1
-    ∙ ap (λ z. z ++ (a0 ++ (a1 ++ (a2 ++ (a3 ++ (a4 ++ (g ∷ (a6 ++ (a7 ++ (p ∷ n ∷ rest)))))))))) e0
+text-written t0 t1 t2 t3 t4 t5 t6 t7 t8 t9 t10 a0 a1 a2 a3 a4 g a6 a7 p n rest e0 e1 e2 e3 e4 e5 e6 e7 e8 e9 e10 = grind (arith, common_steps)
 
 text-whole : (b : List ℕ) → 45 ≤ length b → text (take 8 (drop 0 b)) (take 4 (drop 8 b)) (take 8 (drop 12 b)) (take 8 (drop 20 b)) (take 8 (drop 28 b)) (get_or b 36 0) (take 4 (drop 37 b)) (take 2 (drop 41 b)) (get_or b 43 0) (get_or b 44 0) (drop 45 b) ≡ b
 unfolding text
@@ -126,30 +111,7 @@ pub record HasAllowed (h : Head) : Type 0 where
   pub not_more : h.length ≤ 64
 
 pub allowed_facts : (h : Head) → is_allowed h ≡ true → HasAllowed h
-allowed_facts h e =
-    let p10 = and_parts _ (nat_le h.length 64) e in
-    let p9 = and_parts _ (nat_le 1 h.length) p10.0 in
-    let p8 = and_parts _ (nat_le h.point 1) p9.0 in
-    let p7 = and_parts _ (nat_le (h.offset + h.length) 512) p8.0 in
-    let p6 = and_parts _ (nat_lt h.group 16) p7.0 in
-    let p5 = and_parts _ (nat_le h.prev_block h.prev_group) p6.0 in
-    let p4 = and_parts _ (nat_le h.prev_group h.prev_volume) p5.0 in
-    let p3 = and_parts _ (nat_lt h.prev_volume h.lsn) p4.0 in
-    let p2 = and_parts _ (nat_le 1 h.volume_epoch) p3.0 in
-    let p1 = and_parts (nat_le 1 h.lsn) (nat_le h.lsn (2 ^ 62)) p2.0 in
-    record {
-      lsn_positive = leb-true _ _ p1.0;
-      lsn_in_range = leb-true _ _ p1.1;
-      volume_epoch_positive = leb-true _ _ p2.1;
-      prev_volume_before = ltb-true _ _ p3.1;
-      prev_group_in_volume = leb-true _ _ p4.1;
-      prev_block_in_group = leb-true _ _ p5.1;
-      group_in_range = ltb-true _ _ p6.1;
-      bytes_within = leb-true _ _ p7.1;
-      point_is_flag = leb-true _ _ p8.1;
-      not_empty = leb-true _ _ p9.1;
-      not_more = leb-true _ _ p10.1;
-    }
+allowed_facts h e = grind (arith, common_steps)
 
 pub allowed_point : (h : Head) → is_allowed h ≡ true → h.point ≤ 1
 allowed_point h e = (allowed_facts h e).point_is_flag

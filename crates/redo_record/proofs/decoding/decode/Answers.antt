@@ -1,9 +1,9 @@
-use Rattle.std.proofs.Common.{◌∙◌, List, ℕ, drop, length, is_ok, sym, ap, arith}
+use Rattle.std.proofs.Common.{◌∙◌, List, ℕ, length, is_ok, sym, ap}
 use Rattle.redo_record.specs.declared.head.Head.{Head}
-use Rattle.redo_record.specs.Head.{is_allowed, redo_from}
-use Rattle.redo_record.specs.Spelling.{spelled}
-use Rattle.redo_record.proofs.Checked.{IsSpelling, spelling-of_ok, spelling-again}
+use Rattle.redo_record.specs.Head.{is_allowed}
+use Rattle.redo_record.proofs.Checked.{spelling-of_ok, spelling-again}
 use Rattle.redo_record.proofs.decoding.decode.Goals as goal
+use Rattle.std.proofs.Common.{rules}
 
 pub split_at-requires : goal.split_at-requires
 split_at-requires c = (spelling-of_ok c.args.bytes.now (ap is_ok c.in_ok-head.ensures.exact)).long
@@ -17,6 +17,4 @@ record_from-requires-clause-whole c = ap length c.split_at.ensures.back ∙ (spe
 pub returns-clause-found : goal.returns-clause-found
 returns-clause-found c =
     let b : List ℕ = c.args.bytes.now in
-    let is : IsSpelling b = spelling-of_ok b (ap is_ok c.in_ok-head.ensures.exact) in
-    sym (spelling-again b (λ i. omega (arith, c.type_inv.bytes i)) is)
-    ∙ ap spelled (ap (λ h. redo_from h (drop 45 b)) (sym c.in_ok-head.ensures.head) ∙ ap (redo_from c.in_ok-head.head) (sym c.split_at.ensures.back) ∙ sym c.record_from.ensures)
+    search (rules, c.type_inv.bytes, c.in_ok-head.ensures.head, c.split_at.ensures.back, c.record_from.ensures, spelling-again, (spelling-of_ok b (ap is_ok c.in_ok-head.ensures.exact)))

@@ -1,4 +1,4 @@
-use Rattle.std.proofs.Common.{◌≡◌, ◌∙◌, ℕ, List, map, get_or, ap, sym, inl, inr, arith}
+use Rattle.std.proofs.Common.{◌≡◌, ℕ, List, map, arith}
 use Rattle.std.proofs.lemmas.Bool.{cases_lt}
 use Rattle.std.proofs.lemmas.List.{get_or-map, length-map}
 use Rattle.volume_model.specs.Common.{Redo}
@@ -7,18 +7,13 @@ use Rattle.redo_record.specs.declared.shared_record.SharedRecord.{SharedRecord}
 use Rattle.redo_record.proofs.Linked.{known_epoch-some}
 use Rattle.redo_record.proofs.Places.{list-all}
 use Rattle.redo_record.proofs.shared_list.epoch_of.Goals as goal
+use Rattle.std.proofs.lemmas.Grind.{common_steps}
 
 pub loop-packet-preserved : goal.loop-packet-preserved
 loop-packet-preserved c k d h =
     let packets : List SharedRecord = c.args.packets.now in
     let i : ℕ = c.loop-packet.packet-index in
-    elim (cases_lt k i) [
-      | inl m ↦ c.loop-packet.invariant k d m
-      | inr m ↦ (
-          let now : k ≡ i = omega arith in
-          let a : get_or (map shared_redo packets) k d ≡ shared_redo c.packet-item.result = ap (λ n. get_or (map shared_redo packets) n d) now ∙ get_or-map shared_redo packets i c.packet-item.result d c.loop-packet-test.true ∙ ap shared_redo (sym c.packet-item.is) in
-          ap (λ (r : Redo). r.volume) a ∙ sym c.volume_epoch.ensures ∙ c.if-volume_epoch.false)
-    ]
+    grind (arith, common_steps, c.loop-packet.invariant, c.loop-packet-test.true, c.packet-item.is, c.volume_epoch.ensures, c.if-volume_epoch.false, (cases_lt k i), (get_or-map shared_redo packets i c.packet-item.result d c.loop-packet-test.true))
 
 pub returns : goal.returns
 returns c =

@@ -1,17 +1,17 @@
 use Rattle.std.proofs.Common.{◌∙◌, ◌≤◌, List, ℕ, length, subst, sym, ap}
 use Rattle.redo_record.specs.declared.head.Head.{Head}
-use Rattle.redo_record.specs.Head.{head_in, is_allowed, redo_from, redo_in}
 use Rattle.redo_record.specs.Packet.{packet_redo}
 use Rattle.redo_record.proofs.Checked.{IsSpelling, spelling-of_ok}
 use Rattle.redo_record.proofs.packet.Packet.«record».Goals as goal
+use Rattle.std.proofs.lemmas.Grind.{common_steps}
+use Rattle.std.proofs.Common.{arith}
+use Rattle.std.proofs.Common.{rules}
 
 pub split_at-requires : goal.split_at-requires
 split_at-requires c = subst (λ (b : List ℕ). 45 ≤ length b) (sym c.as_slice-bytes.ensures) (spelling-of_ok _ c.args.self.now.allowed).long
 
 pub record_from-requires-clause-allowed : goal.record_from-requires-clause-allowed
-record_from-requires-clause-allowed c =
-    let is : IsSpelling c.as_slice-bytes.result.now = subst IsSpelling (sym c.as_slice-bytes.ensures) (spelling-of_ok _ c.args.self.now.allowed) in
-    ap is_allowed c.head_of.ensures ∙ is.allowed
+record_from-requires-clause-allowed c = search (rules, c.as_slice-bytes.ensures, c.head_of.ensures, IsSpelling, spelling-of_ok)
 
 pub record_from-requires-clause-whole : goal.record_from-requires-clause-whole
 record_from-requires-clause-whole c =
@@ -20,8 +20,4 @@ record_from-requires-clause-whole c =
 
 pub returns : goal.returns
 unfolding packet_redo
-returns c =
-    c.record_from.ensures
-    ∙ ap (λ h. redo_from h c.split_at.result.1.now) c.head_of.ensures
-    ∙ ap (redo_from (head_in c.as_slice-bytes.result.now)) c.split_at.ensures.back
-    ∙ ap redo_in c.as_slice-bytes.ensures
+returns c = grind (arith, common_steps)

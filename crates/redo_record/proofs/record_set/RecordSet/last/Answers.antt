@@ -1,4 +1,4 @@
-use Rattle.std.proofs.Common.{rules, ◌≡◌, ◌-◌, ◌<◌, ℕ, List, [], length, get_or, sym, ap, ◌∙◌, arith}
+use Rattle.std.proofs.Common.{◌≡◌, ◌-◌, ◌<◌, ℕ, List, [], length, get_or, sym, ap, ◌∙◌, arith}
 use Rattle.std.proofs.lemmas.List.{length-map}
 use Rattle.redo_record.specs.declared.run.Run.{Run}
 use Rattle.redo_record.specs.Run.{run_records, runs_in}
@@ -17,9 +17,7 @@ returns c =
     let k : ℕ = c.len-count.result - 1 in
     let run : Run = c.index.result.now in
     let n : length (runs_in runs) ≡ length runs = length-map runs run_records in
-    let all : c.len-count.result ≡ length runs = search rules in
     let below : k < length (runs_in runs) = omega (arith, c.if-count-eq0.false) in
     let read : get_or (runs_in runs) k [] ≡ run_records run = run-read runs k run below c.index.ensures in
-    let filled : 0 < length (get_or (runs_in runs) k []) = c.args.self.now.filled k below in
     let last : c.len-index.result ≡ length (get_or (runs_in runs) k []) = c.len-index.ensures ∙ ap length (sym read) in
     last-read c.get.result (records_of c.args.self.now) (at (runs_in runs) k (c.len-index.result - 1)) c.get.ensures (last-place (runs_in runs) k (c.len-index.result - 1) (omega (arith, c.if-count-eq0.false)) (omega arith))
