@@ -1,12 +1,12 @@
-use Rattle.std.proofs.Common.{◌≡◌, ◌∙◌, ◌+◌, ◌<◌, ℕ, List, get_or, length, subst, sym, ap, arith}
+use Rattle.std.proofs.Common.{◌≡◌, ◌∙◌, ◌<◌, ℕ, List, get_or, length, sym, ap, arith}
 use Rattle.std.proofs.lemmas.List.{get_or-map}
 use Rattle.volume_model.specs.Common.{last_epoch}
 use Rattle.lineage.specs.declared.lineage.Lineage.{Lineage}
 use Rattle.lineage.specs.Lineage.{lineage_of}
 use Rattle.lineage.specs.Newest.{last_epochs}
-use Rattle.lineage.proofs.NewestSoFar.{IsNewest, newest-next, newest-stays}
 use Rattle.lineage.proofs.greatest.newest.Goals as goal
 use Rattle.lineage.proofs.greatest.newest.Goals.{then-last_epoch, else-last_epoch}
+use Rattle.std.proofs.lemmas.Grind.{common_steps}
 
 -- the epoch that is read is the one in the list
 read : (lineages : List Lineage) (k : ℕ) (lineage : Lineage) (epoch : ℕ) → k < length lineages → lineage ≡ get_or lineages k lineage → epoch ≡ last_epoch (lineage_of lineage) → epoch ≡ get_or (last_epochs lineages) k 0
@@ -16,10 +16,4 @@ pub loop-place-preserved : goal.loop-place-preserved
 loop-place-preserved c =
     let lineages : List Lineage = c.args.lineages.now in
     let here : c.loop-place.place < length lineages = omega arith in
-    let there : c.loop-place.newest < length lineages = omega arith in
-    let old : c.last_epoch.result ≡ get_or (last_epochs lineages) c.loop-place.newest 0 = read lineages c.loop-place.newest c.index-lineages-newest.result c.last_epoch.result there c.index-lineages-newest.is c.last_epoch.ensures in
-    let new : c.last_epoch-in-loop-place.result ≡ get_or (last_epochs lineages) c.loop-place.place 0 = read lineages c.loop-place.place c.index-lineages-place.result c.last_epoch-in-loop-place.result here c.index-lineages-place.is c.last_epoch-in-loop-place.ensures in
-    elim c.if-last_epoch.branch [
-      | then-last_epoch w ↦ subst (λ n. IsNewest (last_epochs lineages) n (c.loop-place.place + 1)) (sym w.newest-is) (newest-next (last_epochs lineages) c.loop-place.newest c.loop-place.place c.loop-place.invariant (omega arith))
-      | else-last_epoch w ↦ subst (λ n. IsNewest (last_epochs lineages) n (c.loop-place.place + 1)) (sym w.newest-is) (newest-stays (last_epochs lineages) c.loop-place.newest c.loop-place.place c.loop-place.invariant (omega arith))
-    ]
+    grind (arith, common_steps, (read lineages c.loop-place.place c.index-lineages-place.result c.last_epoch-in-loop-place.result here c.index-lineages-place.is c.last_epoch-in-loop-place.ensures))

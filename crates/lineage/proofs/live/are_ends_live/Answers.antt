@@ -7,6 +7,7 @@ use Rattle.redo_record.proofs.Places.{IsIn-get_or}
 use Rattle.lineage.specs.Lineage.{lineage_of}
 use Rattle.lineage.proofs.LiveRecords.{all-live, between, live-between}
 use Rattle.lineage.proofs.live.are_ends_live.Goals as goal
+use Rattle.std.proofs.lemmas.Grind.{common_steps}
 
 pub returns-then-is_live_by-clause-live : goal.returns-then-is_live_by-clause-live
 returns-then-is_live_by-clause-live c h =
@@ -17,9 +18,7 @@ returns-then-is_live_by-clause-live c h =
     let b : Redo = shared_redo c.index-packets-packets.result in
     let some : 0 < length xs = omega (arith, c.requires.some, length-map packets shared_redo) in
     let first : (d : Redo) → a ≡ get_or xs 0 d = λ d. ap shared_redo c.index-packets-0.is ∙ sym (get_or-map shared_redo packets 0 c.index-packets-0.result d c.requires.some) in
-    let last : (d : Redo) → b ≡ get_or xs (length xs - 1) d = λ d. ap shared_redo c.index-packets-packets.is
-    ∙ sym (get_or-map shared_redo packets (length packets - 1) c.index-packets-packets.result d (omega (arith, c.requires.some)))
-    ∙ ap (λ m. get_or xs (m - 1) d) (sym (length-map packets shared_redo)) in
+    let last : (d : Redo) → b ≡ get_or xs (length xs - 1) d = grind (arith, common_steps) in
     let of_a : (r : Redo) → IsIn r xs → r.volume ≡ a.volume = λ r i. c.requires.alike r a i (subst (λ s. IsIn s xs) (sym (first a)) (IsIn-get_or xs 0 a some)) in
     let same : b.volume ≡ a.volume = of_a b (subst (λ s. IsIn s xs) (sym (last b)) (IsIn-get_or xs (length xs - 1) b (omega (arith, some)))) in
     all-live lineage xs (λ r i.

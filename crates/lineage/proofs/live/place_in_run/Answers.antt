@@ -1,5 +1,4 @@
 use Rattle.std.proofs.Common.{◌≡◌, ◌<◌, ◌≤◌, ◌-◌, ◌∙◌, ℕ, List, length, map, take, drop, ap, sym, subst, arith}
-use Rattle.std.proofs.lemmas.List.{length-map}
 use Rattle.volume_model.specs.Common.{Redo}
 use Rattle.redo_record.specs.Common.{run_records, shared_redo}
 use Rattle.redo_record.specs.declared.shared_record.SharedRecord.{SharedRecord}
@@ -8,15 +7,14 @@ use Rattle.lineage.specs.Lineage.{lineage_of}
 use Rattle.lineage.specs.Live.{AreOfOneEpoch}
 use Rattle.lineage.proofs.LiveRecords.{IsAmong, in_order-among, packets-among, parts-among_dead, parts-among_live}
 use Rattle.lineage.proofs.live.place_in_run.Goals as goal
+use Rattle.std.proofs.lemmas.Grind.{common_steps}
 
 -- the records of one volume epoch, among those of the run
 epoch-among : (packets : List SharedRecord) (records : List Redo) (from to : ℕ) → map shared_redo packets ≡ records → from < to → to ≤ length packets → IsAmong records (map shared_redo (take (to - from) (drop from packets))) from to
-epoch-among packets records from to shown before within =
-    subst (λ (xs : List Redo). IsAmong xs (map shared_redo (take (to - from) (drop from packets))) from to) shown (packets-among packets from to (omega (arith, before)) within)
+epoch-among packets records from to shown before within = grind (arith, common_steps, IsAmong, packets-among)
 
 pub epoch_start-start-requires-clause-within : goal.epoch_start-start-requires-clause-within
-epoch_start-start-requires-clause-within c =
-    omega (arith, c.loop-left.invariant.left, length-map c.as_slice-packets.result.now shared_redo, ap length c.as_slice-packets.ensures.records)
+epoch_start-start-requires-clause-within c = grind (arith, common_steps)
 
 pub place_in_epoch-requires-clause-in_order : goal.place_in_epoch-requires-clause-in_order
 place_in_epoch-requires-clause-in_order c =

@@ -1,14 +1,14 @@
-use Rattle.std.proofs.Common.{◌≡◌, ◌-◌, ◌∙◌, List, length, ap, sym, subst, arith}
+use Rattle.std.proofs.Common.{◌≡◌, ◌∙◌, List, length, ap, sym, arith}
 use Rattle.std.proofs.lemmas.List.{length-map}
-use Rattle.redo_record.specs.Common.{IsInOrder, run_records, shared_redo}
+use Rattle.redo_record.specs.Common.{run_records, shared_redo}
 use Rattle.redo_record.specs.declared.run.Run.{Run}
-use Rattle.lineage.specs.Lineage.{lineage_of}
 use Rattle.lineage.proofs.LiveRecords.{in_order-run, parts-run_dead, parts-run_live, run-before}
 use Rattle.lineage.proofs.live.place_in_set.Goals as goal
+use Rattle.std.proofs.lemmas.Grind.{common_steps}
+use Rattle.std.proofs.Common.{rules}
 
 pub place_in_run-requires-clause-in_order : goal.place_in_run-requires-clause-in_order
-place_in_run-requires-clause-in_order c =
-    in_order-run c.runs-runs.result.now (c.loop-index.index - 1) c.index-runs-index.result (subst IsInOrder (sym c.runs-runs.ensures) c.args.records.now.in_order) (omega (arith, c.loop-index-test.true, c.loop-index.invariant.index)) c.index-runs-index.is
+place_in_run-requires-clause-in_order c = grind (arith, common_steps, c.runs-runs.ensures, c.loop-index-test.true, c.loop-index.invariant.index, c.index-runs-index.is, in_order-run)
 
 pub loop-index-preserved-in-Some : goal.loop-index-preserved-in-Some
 loop-index-preserved-in-Some c =
@@ -17,12 +17,7 @@ loop-index-preserved-in-Some c =
     let len = length c.as_slice.result.now in
     let counted : len ≡ length (run_records run) = sym (length-map c.as_slice.result.now shared_redo) ∙ ap length c.as_slice.ensures.records in
     let at = run-before runs c.loop-index.index c.loop-index.before len run c.loop-index-test.true c.loop-index.invariant.index c.index-runs-index.is c.loop-index.invariant.at counted in
-    record {
-      parts = parts-run_dead (lineage_of c.args.lineage.now) runs (c.loop-index.index - 1) (c.loop-index.before - len) c.loop-index.before run c.in-Some.within at c.in-Some.ensures.parts;
-      at = at.begins;
-      index = omega (arith, c.loop-index.invariant.index);
-      walks = c.place_in_run.ensures.walks;
-    }
+    search (rules, c.in-Some.ensures.parts, c.loop-index.invariant.index, c.place_in_run.ensures.walks, parts-run_dead)
 
 pub loop-index-preserved : goal.loop-index-preserved
 loop-index-preserved c =
@@ -31,9 +26,4 @@ loop-index-preserved c =
     let len = length c.as_slice.result.now in
     let counted : len ≡ length (run_records run) = sym (length-map c.as_slice.result.now shared_redo) ∙ ap length c.as_slice.ensures.records in
     let at = run-before runs c.loop-index.index c.loop-index.before len run c.loop-index-test.true c.loop-index.invariant.index c.index-runs-index.is c.loop-index.invariant.at counted in
-    record {
-      parts = parts-run_live (lineage_of c.args.lineage.now) runs (c.loop-index.index - 1) (c.loop-index.before - len) c.loop-index.before run c.loop-index.place at c.in_default.ensures.parts c.loop-index.invariant.parts;
-      at = at.begins;
-      index = omega (arith, c.loop-index.invariant.index);
-      walks = c.place_in_run.ensures.walks;
-    }
+    grind (arith, common_steps, c.in_default.ensures.parts, c.loop-index.invariant.parts, c.loop-index.invariant.index, c.place_in_run.ensures.walks, parts-run_live)
