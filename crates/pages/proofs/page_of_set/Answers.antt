@@ -1,18 +1,16 @@
 use Rattle.std.proofs.Common.{◌≡◌, ◌+◌, ◌++◌, List, drop, sym, ap, subst, ◌∙◌}
-use Rattle.std.proofs.lemmas.List.{drop_all}
-use Rattle.volume_model.specs.Common.{Redo, page_from, page_of}
+use Rattle.volume_model.specs.Common.{Redo, page_from}
 use Rattle.redo_record.specs.Common.{joined, run_records, runs_in}
 use Rattle.redo_record.specs.declared.run.Run.{Run}
 use Rattle.redo_record.proofs.RunLists.{joined-drop}
 use Rattle.pages.proofs.Parted.{page_joined}
 use Rattle.pages.proofs.Runs.{AreOfBlock, of_block-first, of_block-rest, packets-of_block}
 use Rattle.pages.proofs.page_of_set.Goals as goal
+use Rattle.std.proofs.lemmas.Grind.{common_steps}
+use Rattle.std.proofs.Common.{arith}
 
 pub loop-run-init : goal.loop-run-init
-loop-run-init c = (
-  subst (AreOfBlock c.args.block) (sym c.runs-run-items.ensures) c.requires,
-  ap (λ (rs : List Redo). page_of rs c.args.block c.args.point) c.runs-run-items.ensures,
-)
+loop-run-init c = grind (arith, common_steps)
 
 pub write_run-requires : goal.write_run-requires
 write_run-requires c =
@@ -37,6 +35,4 @@ loop-run-preserved c =
     )
 
 pub returns : goal.returns
-returns c =
-    ap (λ runs. page_from c.loop-run.page c.args.block c.args.point (joined (runs_in runs))) (sym (drop_all c.loop-run.run-index c.runs-run-items.result.now c.loop-run-test.false))
-    ∙ c.loop-run.invariant.1
+returns c = grind (arith, common_steps)
