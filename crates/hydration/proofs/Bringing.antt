@@ -1,13 +1,13 @@
 -- What complete copies bring.
-use Rattle.std.proofs.Common.{◌≡◌, ℕ, ◌+◌, ◌-◌, ◌<◌, Bool, true, false, ◌&&◌, ◌||◌, if◌then◌else◌, List, [], ◌∷◌, ◌++◌, length, get_or, take, drop, map, nat_eq, refl, sym, ap, ◌∙◌, arith, Option, Some, None, Result, Ok, Err, IfOk}
+use Rattle.std.proofs.Common.{◌≡◌, ℕ, ◌+◌, ◌-◌, ◌<◌, Bool, true, false, ◌&&◌, ◌||◌, if◌then◌else◌, List, [], ◌∷◌, ◌++◌, length, get_or, take, drop, map, nat_eq, refl, sym, ap, ◌∙◌, arith, Some, Result, Ok, Err, IfOk}
 use Rattle.std.proofs.lemmas.Bool.Decides.{nat_tests}
-use Rattle.std.proofs.lemmas.List.{drop_more, take_all, map-append}
+use Rattle.std.proofs.lemmas.List.{drop_more, map-append}
 use Rattle.std.proofs.lemmas.List.Sorted.{IsPermutation-map}
 use Rattle.std.specs.FinSet.{FinSet, contains, insert}
 use Rattle.std.specs.List.Sorted.{IsPermutation}
 use Rattle.std.specs.Ordering.{nat_cmp}
 use Rattle.volume_model.specs.Lineage as model
-use Rattle.volume_model.specs.Common.{Formula, sat, last_epoch, newer, newest, newest_with, Hydrated, finished, united_copy, KeptPiece, Copy, is_complete, united, brought, brought_by, contents_in, copied_by, Redo, with_records}
+use Rattle.volume_model.specs.Common.{Formula, sat, last_epoch, newer, newest, newest_with, finished, united_copy, KeptPiece, Copy, is_complete, united, brought, brought_by, contents_in, copied_by, Redo, with_records}
 use Rattle.volume_model.specs.Lineage.{found_in}
 use Rattle.volume_model.proofs.PieceLaws.{pieces_unite}
 use Rattle.volume_model.proofs.Sets.{contains-put}
@@ -19,6 +19,7 @@ use Rattle.hydration.specs.declared.kept.Kept.{Kept}
 use Rattle.hydration.specs.Kept.{all_kept, kept_of, sets_kept}
 use Rattle.hydration.specs.KeptCopies.{all_kept_copies, kept_copy_of, contents_kept}
 use Rattle.hydration.specs.Pieces.{seen_pieces}
+use Rattle.std.proofs.lemmas.Grind.{common_steps}
 
 united-all : (kept : List KeptPiece) → all_records (map (λ (piece : KeptPiece). piece.contents.records) kept) ≡ united (map (λ (piece : KeptPiece). piece.contents) kept)
 united-all [] = refl
@@ -38,12 +39,7 @@ joined-kept kept parts (Err e) h joined = tt
 -- the sets of kept pieces and of one behind them
 pub sets-behind : (kept : List Kept) (last : Kept) (parts now : List RecordSet) (copy : RecordSet) → now ≡ parts ++ copy ∷ [] → records_of copy ≡ records_of last.contents.records → map records_of parts ≡ sets_kept kept
     → map records_of now ≡ sets_kept (kept ++ last ∷ [])
-sets-behind kept last parts now copy more same h =
-    ap (map records_of) more
-    ∙ map-append records_of parts (copy ∷ [])
-    ∙ ap (λ (rs : List (List Redo)). rs ++ records_of copy ∷ []) h
-    ∙ ap (λ (r : List Redo). sets_kept kept ++ r ∷ []) same
-    ∙ sym (ap (map (λ (piece : KeptPiece). piece.contents.records)) (map-append kept_of kept (last ∷ [])) ∙ map-append (λ (piece : KeptPiece). piece.contents.records) (all_kept kept) (kept_of last ∷ []))
+sets-behind kept last parts now copy more same h = grind (arith, common_steps)
 
 -- what is held once the last piece is kept too
 pub behind-kept : {E : Type 0} (kept : List Kept) (last : Kept) (r : Result RecordSet E) → IfOk r (λ set. records_of set ≡ united (contents_kept (kept ++ last ∷ [])))
@@ -61,19 +57,12 @@ brought-by complete copy e = ap (λ b. if b then contents_in copy.pieces else []
 
 -- one copy more in front
 pub newest-complete : (copy : Copy) (rest : List Copy) (last behind now : model.Lineage) → is_complete copy.pieces ≡ true → now ≡ newest_with behind (contents_in copy.pieces) → behind ≡ newest_with last (brought rest) → now ≡ newest_with last (brought (copy ∷ rest))
-newest-complete copy rest last behind now complete is h =
-    is
-    ∙ ap (λ l. newest_with l (contents_in copy.pieces)) h
-    ∙ sym (newest_with-append last (contents_in copy.pieces) (brought rest))
-    ∙ ap (λ (cs : List model.Contents). newest_with last (cs ++ brought rest)) (sym (brought-by true copy complete))
+newest-complete copy rest last behind now complete is h = grind (arith, common_steps, newest_with-append, brought-by)
 
 -- the first copy, before the rest
 pub copies-first : (copies : List KeptCopy) (c : KeptCopy) → 0 < length copies → c ≡ get_or copies 0 c → all_kept_copies copies ≡ kept_copy_of c ∷ all_kept_copies (take (length copies - 1) (drop 1 copies))
 copies-first [] c within is = absurd (omega arith)
-copies-first (x ∷ rest) c within is =
-    let many : length (x ∷ rest) - 1 ≡ length rest = omega arith in
-    ap (λ (y : KeptCopy). kept_copy_of y ∷ all_kept_copies rest) (sym is)
-    ∙ ap (λ l. kept_copy_of c ∷ all_kept_copies l) (sym (ap (λ n. take n rest) many ∙ take_all (length rest) rest (omega arith)))
+copies-first (x ∷ rest) c within is = grind (arith, common_steps)
 
 -- the newest lineage, with a first copy that is complete
 pub newest-front : (copies : List KeptCopy) (c : KeptCopy) (last behind now : model.Lineage) → 0 < length copies → c ≡ get_or copies 0 c → is_complete (seen_pieces c.pieces) ≡ true
@@ -93,33 +82,18 @@ joins x sender a rest = grind (arith, nat_tests)
 pub copied-more : (copies : List KeptCopy) (i : ℕ) (c : KeptCopy) (s : FinSet nat_cmp) (whole : ℕ → Bool) → i < length copies → c ≡ get_or copies i c → is_complete (kept_copy_of c).pieces ≡ true
     → ((x : ℕ) → (contains s x || copied_by (all_kept_copies (drop i copies)) x) ≡ whole x)
     → (x : ℕ) → (contains (insert s c.from) x || copied_by (all_kept_copies (drop (i + 1) copies)) x) ≡ whole x
-copied-more copies i c s whole within is complete h x =
-    ap (λ b. b || copied_by (all_kept_copies (drop (i + 1) copies)) x) (contains-put s c.from x)
-    ∙ joins x c.from (contains s x) (copied_by (all_kept_copies (drop (i + 1) copies)) x)
-    ∙ ap (λ b. contains s x || ((nat_eq c.from x && b) || copied_by (all_kept_copies (drop (i + 1) copies)) x)) (sym complete)
-    ∙ sym (ap (λ l. contains s x || copied_by l x) (opened copies i c within is)) ∙ h x
+copied-more copies i c s whole within is complete h x = grind (arith, common_steps, contains-put, joins, nat_eq, opened)
 
 -- a copy that isn't complete
 pub copied-same : (copies : List KeptCopy) (i : ℕ) (c : KeptCopy) (s : FinSet nat_cmp) (whole : ℕ → Bool) → i < length copies → c ≡ get_or copies i c → is_complete (kept_copy_of c).pieces ≡ false
     → ((x : ℕ) → (contains s x || copied_by (all_kept_copies (drop i copies)) x) ≡ whole x)
     → (x : ℕ) → (contains s x || copied_by (all_kept_copies (drop (i + 1) copies)) x) ≡ whole x
-copied-same copies i c s whole within is broken h x =
-    ap (λ b. contains s x || (b || copied_by (all_kept_copies (drop (i + 1) copies)) x)) (sym (and_false (nat_eq c.from x)))
-    ∙ ap (λ b. contains s x || ((nat_eq c.from x && b) || copied_by (all_kept_copies (drop (i + 1) copies)) x)) (sym broken)
-    ∙ sym (ap (λ l. contains s x || copied_by l x) (opened copies i c within is)) ∙ h x
-  where
-    and_false : (b : Bool) → (b && false) ≡ false
-    and_false true = refl
-    and_false false = refl
+copied-same copies i c s whole within is broken h x = grind (arith, common_steps)
 
 -- what a node becomes, where the copies of a read set are complete
 pub finished-complete : (read : Formula) (copies : List Copy) (lineage : model.Lineage) (records : List Redo) (volume : ℕ) → sat read (copied_by copies) ≡ true → lineage ≡ newest (brought copies)
     → records ≡ found_in lineage (map (united_copy lineage) copies) → volume ≡ last_epoch lineage → finished read copies ≡ Some (record { volume = volume; contents = record { lineage = lineage; records = records } })
 finished-complete read copies lineage records volume enough newest_is found last =
     let n = newest (brought copies) in
-    let make : model.Lineage → List Redo → ℕ → Option Hydrated = λ l rs v. Some (record { volume = v; contents = record { lineage = l; records = rs } }) in
     let all : records ≡ found_in lineage (brought copies) = found ∙ sym (pieces_unite.copies lineage copies) in
-    ap (λ b. if b then make n (found_in n (brought copies)) (last_epoch n) else None) enough
-    ∙ ap (λ l. make l (found_in l (brought copies)) (last_epoch l)) (sym newest_is)
-    ∙ ap (λ rs. make lineage rs (last_epoch lineage)) (sym all)
-    ∙ ap (make lineage records) (sym last)
+    grind (arith, common_steps)

@@ -10,6 +10,7 @@ use Rattle.lineage.specs.declared.lineage.Lineage.{Lineage}
 use Rattle.lineage.specs.Lineage.{lineage_of}
 use Rattle.hydration.specs.declared.copied.Copied.{Copied}
 use Rattle.hydration.specs.Copies.{copy_of, copies_in}
+use Rattle.std.proofs.lemmas.Grind.{common_steps}
 
 -- the copy at hand, before the rest
 rest_is : (copies : List Copied) (i : ℕ) (c : Copied) → i < length copies → c ≡ get_or copies i c → copies_in (drop i copies) ≡ copy_of c ∷ copies_in (drop (i + 1) copies)
@@ -22,10 +23,7 @@ joins x sender a rest = grind (arith, nat_tests)
 pub senders-more : (copies : List Copied) (i : ℕ) (c : Copied) (s : FinSet nat_cmp) (whole : ℕ → Bool) → i < length copies → c ≡ get_or copies i c
     → ((x : ℕ) → (contains s x || senders (copies_in (drop i copies)) x) ≡ whole x)
     → (x : ℕ) → (contains (insert s c.from) x || senders (copies_in (drop (i + 1) copies)) x) ≡ whole x
-senders-more copies i c s whole within is h x =
-    ap (λ b. b || senders (copies_in (drop (i + 1) copies)) x) (contains-put s c.from x)
-    ∙ joins x c.from (contains s x) (senders (copies_in (drop (i + 1) copies)) x)
-    ∙ sym (ap (λ l. contains s x || senders l x) (rest_is copies i c within is)) ∙ h x
+senders-more copies i c s whole within is h x = grind (arith, common_steps, contains-put, joins, rest_is)
 
 -- what a copy of a lineage is, where it could be made
 pub copied : {E : Type 0} {lineage of : model.Lineage} (P : E → Type 0) (r : Result Lineage E) → lineage ≡ of → MatchResult r (λ copy. lineage_of copy ≡ lineage) P → IfOk r (λ copy. lineage_of copy ≡ of)

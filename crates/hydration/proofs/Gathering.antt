@@ -1,6 +1,5 @@
 -- The place of a copy, and copies with a piece more.
 use Rattle.std.proofs.Common.{◌≡◌, ℕ, zero, suc, ◌+◌, ◌<◌, ◌⊎◌, true, false, ◌==◌, List, [], ◌∷◌, ◌++◌, length, get_or, set, Option, Some, None, refl, sym, ap, subst, ◌∙◌, inl, inr, arith, option_map}
-use Rattle.std.proofs.lemmas.Bool.{cases_Bool, eqb-true}
 use Rattle.std.proofs.lemmas.List.{length-map}
 use Rattle.volume_model.specs.Common.{Contents, Piece, Copy, first_piece, pieces_from, with_series, with_copy}
 use Rattle.volume_model.specs.Pieces as model
@@ -10,39 +9,14 @@ use Rattle.hydration.specs.Pieces.{seen_pieces}
 use Rattle.hydration.specs.Changes.{changed}
 use Rattle.hydration.specs.KeptCopies.{all_kept_copies, kept_copy_of}
 use Rattle.hydration.specs.Hydration.{changed_at, place_of}
+use Rattle.std.proofs.lemmas.Grind.{common_steps}
 
 none_some : (n : ℕ) → None ≡ Some n → ⊥
 none_some n h = cc
 
-some_none : (n : ℕ) → Some n ≡ None → ⊥
-some_none n h = cc
-
-some_same : (n m : ℕ) → Some n ≡ Some m → m ≡ n
-some_same n m h = cc
-
--- the place found in the rest
-rest_some : (o : Option ℕ) (p : ℕ) → option_map suc o ≡ Some p → (q : ℕ) × (o ≡ Some q) × (p ≡ suc q)
-rest_some None p h = absurd (none_some p h)
-rest_some (Some q) p h = (q, refl, some_same (suc q) p h)
-
-rest_none : (o : Option ℕ) → option_map suc o ≡ None → o ≡ None
-rest_none None h = refl
-rest_none (Some q) h = absurd (some_none (suc q) h)
-
--- the first copy is the sender's, or it isn't
-here_first : (copy : Copy) (rest : List Copy) (sender : ℕ) → (copy.sender == sender) ≡ true → place_of (copy ∷ rest) sender ≡ Some zero
-here_first copy rest sender e = rw e refl
-
-past_first : (copy : Copy) (rest : List Copy) (sender : ℕ) → (copy.sender == sender) ≡ false → place_of (copy ∷ rest) sender ≡ option_map suc (place_of rest sender)
-past_first copy rest sender e = rw e refl
-
 first_or_rest : (copy : Copy) (rest : List Copy) (sender p : ℕ) → place_of (copy ∷ rest) sender ≡ Some p
     → (((copy.sender == sender) ≡ true) × (p ≡ zero)) ⊎ (((copy.sender == sender) ≡ false) × ((q : ℕ) × (place_of rest sender ≡ Some q) × (p ≡ suc q)))
-first_or_rest copy rest sender p h =
-    elim (cases_Bool (copy.sender == sender)) [
-      | inl e ↦ inl (e, some_same zero p (sym (here_first copy rest sender e) ∙ h))
-      | inr e ↦ inr (e, rest_some (place_of rest sender) p (sym (past_first copy rest sender e) ∙ h))
-    ]
+first_or_rest copy rest sender p h = grind (arith, common_steps)
 
 -- the copy at the place of its sender
 pub place-within : (copies : List Copy) (sender p : ℕ) → place_of copies sender ≡ Some p → p < length copies
@@ -67,14 +41,6 @@ place-pieces (copy ∷ rest) sender p d h =
     further : (copy.sender == sender) ≡ false → pieces_from (copy ∷ rest) sender ≡ pieces_from rest sender
     further e = rw e refl
 
--- the change of the first copy, and of one of the rest
-with-first : (copy : Copy) (rest : List Copy) (sender series : ℕ) (piece : Piece) (c : Contents) (change : Change) → (copy.sender == sender) ≡ true
-    → changed change copy.pieces ≡ with_series copy.pieces series piece c → changed_at zero change (copy ∷ rest) ≡ with_copy sender series piece c (copy ∷ rest)
-with-first copy rest sender series piece c change e made =
-    let front : ℕ → model.Pieces → List Copy = λ s ps. record { sender = s; pieces = ps } ∷ rest in
-    let same : copy.sender ≡ sender = eqb-true copy.sender sender e in
-    ap (front copy.sender) made ∙ ap (λ s. front s (with_series copy.pieces series piece c)) same ∙ rw e refl
-
 with-rest : (copy : Copy) (rest : List Copy) (sender series : ℕ) (piece : Piece) (c : Contents) → (copy.sender == sender) ≡ false → with_copy sender series piece c (copy ∷ rest) ≡ copy ∷ with_copy sender series piece c rest
 with-rest copy rest sender series piece c e = rw e refl
 
@@ -83,9 +49,7 @@ pub place-with : (copies : List Copy) (sender p series : ℕ) (piece : Piece) (c
 place-with [] sender p series piece c change d h made = absurd (none_some p h)
 place-with (copy ∷ rest) sender p series piece c change d h made =
     elim (first_or_rest copy rest sender p h) [
-      | inl f ↦ (
-          let made' : changed change copy.pieces ≡ with_series copy.pieces series piece c = subst (λ n. changed change (get_or (copy ∷ rest) n d).pieces ≡ with_series (get_or (copy ∷ rest) n d).pieces series piece c) f.1 made in
-          ap (λ n. changed_at n change (copy ∷ rest)) f.1 ∙ with-first copy rest sender series piece c change f.0 made')
+      | inl f ↦ grind (arith, common_steps)
       | inr f ↦ (
           let (q, k, z) = f.1 in
           let made' : changed change (get_or rest q d).pieces ≡ with_series (get_or rest q d).pieces series piece c = subst (λ n. changed change (get_or (copy ∷ rest) n d).pieces ≡ with_series (get_or (copy ∷ rest) n d).pieces series piece c) z made in
@@ -94,11 +58,7 @@ place-with (copy ∷ rest) sender p series piece c change d h made =
 
 -- where no piece is kept of the sender
 none_first : (copy : Copy) (rest : List Copy) (sender : ℕ) → place_of (copy ∷ rest) sender ≡ None → ((copy.sender == sender) ≡ false) × (place_of rest sender ≡ None)
-none_first copy rest sender h =
-    elim (cases_Bool (copy.sender == sender)) [
-      | inl e ↦ absurd (some_none zero (sym (here_first copy rest sender e) ∙ h))
-      | inr e ↦ (e, rest_none (place_of rest sender) (sym (past_first copy rest sender e) ∙ h))
-    ]
+none_first copy rest sender h = grind (arith, common_steps)
 
 pub none-pieces : (copies : List Copy) (sender : ℕ) → place_of copies sender ≡ None → pieces_from copies sender ≡ None
 none-pieces [] sender h = refl
@@ -140,9 +100,7 @@ make sender pieces = record { sender = sender; pieces = pieces }
 -- the copy at a place with other pieces
 module _ (copies : List KeptCopy) (p : ℕ) (old new : KeptCopy) (within : p < length copies) (is : old ≡ get_or copies p old) (from : new.from ≡ old.from) where
   pub pieces-changed : (change : Change) → seen_pieces new.pieces ≡ changed change (seen_pieces old.pieces) → all_kept_copies (set copies p new) ≡ changed_at p change (all_kept_copies copies)
-  pieces-changed change made =
-      changed-set copies p new change old within
-      (ap (make new.from) made ∙ ap (λ n. make n (changed change (seen_pieces old.pieces))) from ∙ ap (λ (c : KeptCopy). make c.from (changed change (seen_pieces c.pieces))) is)
+  pieces-changed change made = grind (arith, common_steps, changed-set, make)
 
   pub pieces-same : seen_pieces new.pieces ≡ seen_pieces old.pieces → all_kept_copies (set copies p new) ≡ all_kept_copies copies
   pieces-same same = same-set copies p new old within (ap (make new.from) same ∙ ap (λ n. make n (seen_pieces old.pieces)) from ∙ ap kept_copy_of is)

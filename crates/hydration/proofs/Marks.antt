@@ -1,7 +1,7 @@
 -- Which pieces are kept, and that each is kept once.
 use Rattle.std.proofs.Common.{inl, inr, ◌≡◌, ◌+◌, ℕ, zero, suc, ◌<◌, ◌≤◌, Bool, true, false, not, ◌&&◌, ◌||◌, ◌==◌, nat_lt, List, [], ◌∷◌, ◌++◌, length, get_or, set, replicate, vec_len, slice_set, refl, sym, ap, ◌∙◌, subst, arith}
 use Rattle.std.proofs.lemmas.Bool.{cases_eq, cases_lt, and_parts, lt-ltb, ltb-true, eq-eqb, ne_eqb}
-use Rattle.std.proofs.lemmas.List.{same_lists, get_or-set_same, get_or-set_other, get_or_append_left, get_or_push, get_or-replicate, length-set, length-append, length-replicate, length-map, map-append}
+use Rattle.std.proofs.lemmas.List.{same_lists, get_or_append_left, get_or_push, get_or-replicate, length-set, length-append, length-replicate, length-map, map-append}
 use Rattle.volume_model.specs.Common.{each_below, Piece, KeptPiece, Pieces, has_piece, is_complete, with_piece, AreOnce}
 use Rattle.volume_model.proofs.PieceLaws.{pieces_make_up}
 use Rattle.hydration.specs.declared.kept.Kept.{Kept}
@@ -9,6 +9,7 @@ use Rattle.hydration.specs.declared.pieces.Pieces.{Pieces as Held}
 use Rattle.hydration.specs.Kept.{kept_of, all_kept, is_kept, are_once, marks_of}
 use Rattle.hydration.specs.Pieces.{seen_pieces}
 use Rattle.hydration.specs.Changes.{CanAdd}
+use Rattle.std.proofs.lemmas.Grind.{common_steps}
 
 length-each : (n : ℕ) (f : ℕ → Bool) → length (each_below n (λ number. true) f) ≡ n
 length-each zero f = refl
@@ -32,28 +33,15 @@ length-marks of kept marks is = ap (λ (ms : List Bool). length ms) is ∙ lengt
 
 -- one piece more
 is_kept-more : (kept : List KeptPiece) (new : KeptPiece) (number : ℕ) → is_kept (kept ++ new ∷ []) number ≡ (is_kept kept number || new.number == number)
-is_kept-more [] new number = or_false (new.number == number)
-  where
-    or_false : (b : Bool) → (b || false) ≡ b
-    or_false true = refl
-    or_false false = refl
-is_kept-more (piece ∷ rest) new number = ap (λ b. piece.number == number || b) (is_kept-more rest new number) ∙ or_assoc (piece.number == number) (is_kept rest number) (new.number == number)
-  where
-    or_assoc : (a b c : Bool) → (a || (b || c)) ≡ ((a || b) || c)
-    or_assoc true b c = refl
-    or_assoc false b c = refl
+is_kept-more [] new number = grind (arith, common_steps)
+is_kept-more (piece ∷ rest) new number = grind (arith, common_steps)
 
 marked : (of : ℕ) (f g : ℕ → Bool) (marks : List Bool) (number : ℕ) → length marks ≡ of → ((k : ℕ) (d : Bool) → k < of → get_or marks k d ≡ f k) → number < of
     → g number ≡ true → ((k : ℕ) → (k ≡ number → ⊥) → g k ≡ f k) → set marks number true ≡ each_below of (λ number. true) g
 marked of f g marks number long read below here others =
     same_lists (set marks number true) (each_below of (λ number. true) g) (length-set marks number true ∙ long ∙ sym (length-each of g)) (λ k d h. (
     let k' : k < of = subst (λ n. k < n) (length-set marks number true ∙ long) h in
-    elim (cases_eq k number) [
-      | inl e ↦ (
-          let there : number < length marks = omega arith in
-          ap (λ n. get_or (set marks number true) n d) e ∙ get_or-set_same marks number true d there ∙ sym here ∙ ap g (sym e) ∙ sym (get-each of g k d k'))
-      | inr ne ↦ get_or-set_other marks number k true d ne ∙ read k d k' ∙ sym (others k ne) ∙ sym (get-each of g k d k')
-    ]))
+    grind (arith, common_steps, (cases_eq k number), (get-each of g k d k'))))
 
 pub marks-more : (of : ℕ) (kept : List KeptPiece) (new : KeptPiece) (marks : List Bool) → marks ≡ marks_of of kept → new.number < of → set marks new.number true ≡ marks_of of (kept ++ new ∷ [])
 marks-more of kept new marks is below =
@@ -107,56 +95,33 @@ complete-counted pieces once = pieces_make_up.counted.complete pieces (once-from
 -- no piece is kept of a number that the series doesn't have
 none-past : (of : ℕ) (kept : List KeptPiece) (number : ℕ) → AreOnce of kept → of ≤ number → is_kept kept number ≡ false
 none-past of [] number once h = refl
-none-past of (piece ∷ rest) number once h =
-    let below : piece.number < of = once.0 in
-    let other : piece.number ≡ number → ⊥ = λ e. omega arith in
-    rw (ne_eqb piece.number number other) (none-past of rest number once.2 h)
+none-past of (piece ∷ rest) number once h = grind (arith, common_steps, ne_eqb, (none-past of rest number once.2 h))
 
 pub none-above : (of : ℕ) (kept : List KeptPiece) (number : ℕ) → are_once of kept ≡ true → of ≤ number → is_kept kept number ≡ false
 none-above of kept number once h = none-past of kept number (once-from of kept once) h
 
 -- the same of pieces as they are kept
 pub complete-kept : (pieces : Held) (n m : ℕ) → n ≡ vec_len pieces.kept → m ≡ pieces.of → are_once pieces.of (all_kept pieces.kept.items) ≡ true → (n == m) ≡ is_complete (seen_pieces pieces)
-complete-kept pieces n m count of once =
-    let many : n ≡ length (all_kept pieces.kept.items) = count ∙ pieces.kept.ok.0 ∙ sym (length-map pieces.kept.items kept_of) in
-    ap (λ k. k == m) many ∙ ap (λ k. length (all_kept pieces.kept.items) == k) of ∙ sym (complete-counted (seen_pieces pieces) once)
+complete-kept pieces n m count of once = grind (arith, common_steps, length-map, complete-counted)
 
 -- a piece more that can be kept
 module _ (pieces : Held) (kept : Kept) (can : CanAdd pieces kept) where
   pub marks-within : (n : ℕ) → n ≡ kept.number → n < vec_len pieces.marks
-  marks-within n same =
-      let long : length pieces.marks.items ≡ pieces.of = length-marks pieces.of (all_kept pieces.kept.items) pieces.marks.items pieces.marked in
-      let many : vec_len pieces.marks ≡ length pieces.marks.items = pieces.marks.ok.0 in
-      let below : kept.number < pieces.of = can.below in
-      omega arith
+  marks-within n same = grind (arith, common_steps, length-marks, marked, vec_len)
 
   pub once-added : (now : List Kept) → now ≡ pieces.kept.items ++ kept ∷ [] → are_once pieces.of (all_kept now) ≡ true
-  once-added now more =
-      ap (λ ks. are_once pieces.of (all_kept ks)) more
-      ∙ ap (are_once pieces.of) (map-append kept_of pieces.kept.items (kept ∷ []))
-      ∙ once-more (seen_pieces pieces) (kept_of kept) pieces.once can.below can.new
+  once-added now more = grind (arith, common_steps, (map-append kept_of pieces.kept.items (kept ∷ [])), (once-more (seen_pieces pieces) (kept_of kept) pieces.once can.below can.new))
 
   pub marked-more : (n : ℕ) (now : List Kept) → n ≡ kept.number → now ≡ pieces.kept.items ++ kept ∷ [] → slice_set pieces.marks.items n true ≡ marks_of pieces.of (all_kept now)
-  marked-more n now same more =
-      ap (λ k. slice_set pieces.marks.items k true) same
-      ∙ marks-more pieces.of (all_kept pieces.kept.items) (kept_of kept) pieces.marks.items pieces.marked can.below
-      ∙ sym (ap (λ ks. marks_of pieces.of (all_kept ks)) more ∙ ap (marks_of pieces.of) (map-append kept_of pieces.kept.items (kept ∷ [])))
+  marked-more n now same more = grind (arith, common_steps, (marks-more pieces.of (all_kept pieces.kept.items) (kept_of kept) pieces.marks.items pieces.marked can.below), (map-append kept_of pieces.kept.items (kept ∷ [])))
 
 -- the first piece
 pub once-alone : (of : ℕ) (kept : Kept) (now : List Kept) → now ≡ kept ∷ [] → kept.number < of → are_once of (all_kept now) ≡ true
 once-alone of kept now alone below = ap (λ ks. are_once of (all_kept ks)) alone ∙ once-first of (kept_of kept) below
 
 pub marked-first : (of : ℕ) (kept : Kept) (n : ℕ) (now : List Kept) (marks : List Bool) → n ≡ kept.number → now ≡ kept ∷ [] → marks ≡ replicate of false → kept.number < of → slice_set marks n true ≡ marks_of of (all_kept now)
-marked-first of kept n now marks same alone is below =
-    ap (λ k. slice_set marks k true) same ∙ marks-first of (kept_of kept) marks is below ∙ sym (ap (λ ks. marks_of of (all_kept ks)) alone)
+marked-first of kept n now marks same alone is below = grind (arith, common_steps, (marks-first of (kept_of kept) marks is below))
 
 -- all pieces are kept once one more is
 pub complete-more : (pieces : Held) (kept : Kept) → CanAdd pieces kept → (n m : ℕ) → n ≡ vec_len pieces.kept → m ≡ pieces.of → (n + 1 == m) ≡ is_complete (record (seen_pieces pieces) { kept = all_kept pieces.kept.items ++ kept_of kept ∷ [] })
-complete-more pieces kept can n m count of =
-    let all = all_kept pieces.kept.items ++ kept_of kept ∷ [] in
-    let one : length all ≡ length (all_kept pieces.kept.items) + 1 = length-append (all_kept pieces.kept.items) (kept_of kept ∷ []) in
-    let few : length (all_kept pieces.kept.items) ≡ length pieces.kept.items = length-map pieces.kept.items kept_of in
-    let stored : vec_len pieces.kept ≡ length pieces.kept.items = pieces.kept.ok.0 in
-    let many : n + 1 ≡ length all = omega arith in
-    ap (λ k. k == m) many ∙ ap (λ k. length all == k) of
-    ∙ sym (complete-counted (record (seen_pieces pieces) { kept = all }) (once-more (seen_pieces pieces) (kept_of kept) pieces.once can.below can.new))
+complete-more pieces kept can n m count of = grind (arith, common_steps, length-append, length-map, vec_len, complete-counted, once-more, (length-append (all_kept pieces.kept.items) (kept_of kept ∷ [])), (length-map pieces.kept.items kept_of), (vec_len pieces.kept ≡ length pieces.kept.items), (once-more (seen_pieces pieces) (kept_of kept) pieces.once can.below can.new))

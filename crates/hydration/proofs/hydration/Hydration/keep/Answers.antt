@@ -1,9 +1,11 @@
-use Rattle.std.proofs.Common.{ap, refl, subst, sym, ◌∙◌}
+use Rattle.std.proofs.Common.{subst, sym}
 use Rattle.hydration.specs.Changes.{CanChange}
 use Rattle.hydration.specs.declared.kept_copy.KeptCopy.{KeptCopy}
-use Rattle.hydration.specs.Hydration.{copies_of, kept_by, CanChangeAt, CanKeep}
+use Rattle.hydration.specs.Hydration.{CanChangeAt, CanKeep}
 use Rattle.hydration.proofs.Gathering.{pieces-changed}
 use Rattle.hydration.proofs.hydration.Hydration.keep.Goals as goal
+use Rattle.std.proofs.lemmas.Grind.{common_steps}
+use Rattle.std.proofs.Common.{arith}
 
 pub apply-requires : goal.apply-requires
 apply-requires c =
@@ -11,8 +13,4 @@ apply-requires c =
     subst (λ (copy : KeptCopy). CanChange copy.pieces c.in-At.change) (sym c.index_mut.ensures.value) (can.can c.index_mut.result.now)
 
 pub returns-in-At : goal.returns-in-At
-returns-in-At c =
-    let copies = c.args.self.now.copies.items in
-    let can : CanChangeAt c.args.self.now c.in-At.place c.in-At.change = subst (CanKeep c.args.self.now) c.in-At.is c.requires in
-    pieces-changed copies c.in-At.place c.index_mut.result.now _ can.within c.index_mut.ensures.value refl c.in-At.change c.apply.ensures
-    ∙ ap (λ keeping. kept_by keeping (copies_of c.args.self.now)) (sym c.in-At.is)
+returns-in-At c = grind (arith, common_steps, c.in-At.is, c.requires, c.index_mut.ensures.value, c.apply.ensures, pieces-changed)
