@@ -1,6 +1,6 @@
 -- What was written is read again.
-use Rattle.std.proofs.Common.{◌≡◌, ℕ, suc, ◌+◌, ◌^◌, ◌<◌, true, false, nat_lt, List, [], ◌∷◌, ◌++◌, length, get_or, drop, Ok, refl, sym, ap, ap₂, subst, ◌∙◌, append_assoc, arith}
-use Rattle.std.specs.Int.{w32, w64, to_be_bytes}
+use Rattle.std.proofs.Common.{◌≡◌, ℕ, suc, ◌+◌, ◌^◌, ◌<◌, true, List, [], ◌∷◌, ◌++◌, length, get_or, drop, Ok, refl, sym, ap, ap₂, subst, ◌∙◌, append_assoc, arith}
+use Rattle.std.specs.Int.{w32, to_be_bytes}
 use Rattle.std.proofs.lemmas.Bool.{and_parts, le-ltb}
 use Rattle.std.proofs.lemmas.List.{take_at, drop-drop, drop_at, append-nil, length-append, get_or_append_left, get_or_at}
 use Rattle.volume_model.specs.Common.{Redo, spelling, numbers_before, Lineage, Contents}
@@ -10,8 +10,9 @@ use Rattle.redo_record.proofs.Again.{length-spelled}
 use Rattle.lineage.specs.Entries.{is_lineage}
 use Rattle.message_bytes.specs.Contents.{redo_at, entry_at, entries_at, is_next, records_at, lineage_at, set_at, contents_at}
 use Rattle.message_bytes.specs.Spelling.{entry_spelled, entries_spelled, lineage_spelled, records_spelled, set_spelled, contents_spelled, IsEntry, AreEntries, AreReadBack}
-use Rattle.message_bytes.proofs.Fields.{wide32, wide64, number_again}
+use Rattle.message_bytes.proofs.Fields.{wide32, number_again}
 use Rattle.message_bytes.proofs.Next.{next-at}
+use Rattle.std.proofs.lemmas.Grind.{common_steps}
 
 pub three : (o a b c : List ℕ) → ((o ++ a) ++ b) ++ c ≡ o ++ (a ++ (b ++ c))
 three o a b c = append_assoc (o ++ a) b c ∙ append_assoc o a (b ++ c)
@@ -22,29 +23,18 @@ length_at r rest = refl
 
 pub redo_again : (r : Redo) (rest : List ℕ) → decoded (spelled r) ≡ Ok r → redo_at (spelled r ++ rest) ≡ Ok (r, rest)
 unfolding redo_at
-redo_again r rest reads =
-    let b = spelled r ++ rest in
-    let n : 45 + get_or b 44 0 ≡ length (spelled r) = ap (λ (k : ℕ). 45 + k) (length_at r rest) ∙ sym (length-spelled r) in
-    let t0 : nat_lt (length b) 45 ≡ false = le-ltb (length b) 45 (omega (arith, length-append (spelled r) rest, length-spelled r)) in
-    let t1 : nat_lt (length b) (length (spelled r)) ≡ false = le-ltb (length b) (length (spelled r)) (omega (arith, length-append (spelled r) rest)) in
-    rw (n, t0, t1, take_at (spelled r) rest (length (spelled r)) refl, drop_at (spelled r) rest (length (spelled r)) refl, reads) refl
+redo_again r rest reads = grind (arith, common_steps, length_at, length-spelled, le-ltb, length-append, take_at, drop_at)
 
 pub entry_again : (e : Entry) (rest : List ℕ) → IsEntry e → entry_at (entry_spelled e ++ rest) ≡ Ok (e, rest)
 unfolding entry_at
-entry_again e rest fits =
-    let regrouped : entry_spelled e ++ rest ≡ to_be_bytes w32 e.volume ++ (to_be_bytes w64 e.cut ++ (to_be_bytes w64 e.start ++ rest)) =
-    append_assoc (to_be_bytes w32 e.volume) (to_be_bytes w64 e.cut ++ to_be_bytes w64 e.start) rest ∙ ap (λ (t : List ℕ). to_be_bytes w32 e.volume ++ t) (append_assoc (to_be_bytes w64 e.cut) (to_be_bytes w64 e.start) rest) in
-    ap entry_at regrouped
-    ∙ rw (number_again w32 (2 ^ 32) wide32 e.volume (to_be_bytes w64 e.cut ++ (to_be_bytes w64 e.start ++ rest)) fits.volume, number_again w64 (2 ^ 64) wide64 e.cut (to_be_bytes w64 e.start ++ rest) fits.cut, number_again w64 (2 ^ 64) wide64 e.start rest fits.start) refl
+entry_again e rest fits = grind (arith, common_steps)
 
 pub entries_again : (own : Lineage) (m : ℕ) (rest : List ℕ) → is_lineage own ≡ true → AreEntries own → entries_at (length own + m) [] (entries_spelled own ++ rest) ≡ entries_at m own rest
 unfolding entries_at
 entries_again [] m rest growing fits = ap (λ (k : ℕ). entries_at k [] rest) (omega arith)
 entries_again (e ∷ older) m rest growing fits =
-    let k : length (e ∷ older) + m ≡ length older + suc m = omega arith in
     let before : is_lineage older ≡ true = (and_parts _ _ growing).1 in
-    ap₂ (λ (k : ℕ) (t : List ℕ). entries_at k [] t) k (append_assoc (entries_spelled older) (entry_spelled e) rest)
-    ∙ entries_again older (suc m) (entry_spelled e ++ rest) before fits.1 ∙ rw (entry_again e rest fits.0, growing) refl
+    grind (arith, common_steps, (entries_again older (suc m) (entry_spelled e ++ rest) before fits.1), (append_assoc (entries_spelled older) (entry_spelled e) rest), (entry_again e rest fits.0))
 
 next_passes : (kept : List Redo) (r : Redo) (xs : List Redo) → IsInOrder (kept ++ r ∷ xs) → is_next kept r ≡ true
 next_passes [] r xs order = refl
@@ -62,9 +52,7 @@ records_again [] kept m rest order back = ap₂ (λ (k : ℕ) (t : List Redo). r
 records_again (r ∷ xs) kept m rest order back =
     let k : length (r ∷ xs) + m ≡ suc (length xs + m) = omega arith in
     let more : (kept ++ r ∷ []) ++ xs ≡ kept ++ r ∷ xs = append_assoc kept (r ∷ []) xs in
-    ap₂ (λ (k : ℕ) (t : List ℕ). records_at k kept t) k (append_assoc (spelled r) (records_spelled xs) rest)
-    ∙ rw (redo_again r (records_spelled xs ++ rest) back.0, next_passes kept r xs order) (records_again xs (kept ++ r ∷ []) m rest (subst IsInOrder (sym more) order) back.1)
-    ∙ ap (λ (t : List Redo). records_at m t rest) more
+    grind (arith, common_steps, (records_again xs (kept ++ r ∷ []) m rest (subst IsInOrder (sym more) order) back.1), (append_assoc (spelled r) (records_spelled xs) rest), (redo_again r (records_spelled xs ++ rest) back.0), (next_passes kept r xs order))
 
 pub lineage_again : (own : Lineage) (rest : List ℕ) → length own < 2 ^ 32 → is_lineage own ≡ true → AreEntries own → lineage_at (lineage_spelled own ++ rest) ≡ Ok (own, rest)
 unfolding lineage_at entries_at
@@ -83,14 +71,11 @@ pub contents_again : (c : Contents) (rest : List ℕ)
     → ((rest : List ℕ) → set_at (set_spelled c.records ++ rest) ≡ Ok (c.records, rest))
     → contents_at (contents_spelled c ++ rest) ≡ Ok (c, rest)
 unfolding contents_at
-contents_again c rest lineage_back set_back =
-    ap contents_at (append_assoc (lineage_spelled c.lineage) (set_spelled c.records) rest) ∙ rw (lineage_back (set_spelled c.records ++ rest), set_back rest) refl
+contents_again c rest lineage_back set_back = grind (arith, common_steps)
 
 -- what a CopyReport's fields are written by, one after the other
 pub copied : (o e s p t : List ℕ) (g f : ℕ) → (((((o ++ g ∷ []) ++ e) ++ f ∷ []) ++ s) ++ p) ++ t ≡ o ++ ((g ∷ e) ++ ((f ∷ s) ++ (p ++ t)))
-copied o e s p t g f =
-    let front : (((o ++ g ∷ []) ++ e) ++ f ∷ []) ++ s ≡ (o ++ (g ∷ e)) ++ (f ∷ s) = append_assoc ((o ++ g ∷ []) ++ e) (f ∷ []) s ∙ ap (λ (y : List ℕ). y ++ (f ∷ s)) (append_assoc o (g ∷ []) e) in
-    ap (λ (y : List ℕ). (y ++ p) ++ t) front ∙ append_assoc ((o ++ (g ∷ e)) ++ (f ∷ s)) p t ∙ three o (g ∷ e) (f ∷ s) (p ++ t)
+copied o e s p t g f = grind (arith, common_steps)
 
 -- what follows a place stays as it was, further on too
 pub drop-further : (n m : ℕ) (a b c : List ℕ) → drop (n + m) a ≡ drop (n + m) b → drop n b ≡ drop n c → drop (n + m) a ≡ drop (n + m) c

@@ -6,13 +6,13 @@ use Rattle.volume_model.specs.Common.{◌>>=◌, Redo, Contents, Piece, Label, P
 use Rattle.redo_record.specs.Common.{spelled, decoded}
 use Rattle.wire.specs.declared.label.Place.{Place as WirePlace}
 use Rattle.wire.specs.Common.{place_of}
-use Rattle.message_bytes.specs.Numbers.{number_at}
 use Rattle.message_bytes.specs.Contents.{Read, redo_at, contents_at}
 use Rattle.message_bytes.specs.Reading.{label_at, labelled_at, place_at, places_at, volume_at, view_at, step_at, fence_at, report_at, install_at, write_at, gossip_at, ack_at, copy_ask_at, copy_report_at, page_ask_at, page_at, body_at, version_at, message_in}
 use Rattle.message_bytes.specs.Spelling.{labelled_spelled, place_spelled, places_spelled, contents_spelled, message_spelled, ArePlaces, IsReadBack}
 use Rattle.message_bytes.proofs.Fields.{wide16, wide32, wide64, number_again, number_last, image_last}
 use Rattle.message_bytes.proofs.Again.{redo_again}
 use Rattle.message_bytes.proofs.Fielded.{places_spelled-append}
+use Rattle.std.proofs.lemmas.Grind.{common_steps}
 
 -- contents are read back, whatever follows them
 abbrev pub AreBack : Contents → Type 0
@@ -25,11 +25,7 @@ pub record IsLabel (label : Label) : Type 0 where
 
 pub labelled_again : (group : ℕ) (label : Label) (rest : List ℕ) → IsLabel label → labelled_at (labelled_spelled group label ++ rest) ≡ Ok ((group, label), rest)
 unfolding labelled_at label_at
-labelled_again group label rest fits =
-    let v = to_be_bytes w32 label.volume in
-    let m = to_be_bytes w32 label.member in
-    ap (λ (t : List ℕ). labelled_at (group ∷ t)) (append_assoc v m rest)
-    ∙ rw (number_again w32 (2 ^ 32) wide32 label.volume (m ++ rest) fits.volume, number_again w32 (2 ^ 32) wide32 label.member rest fits.member) refl
+labelled_again group label rest fits = grind (arith, common_steps)
 
 labelled_last : (group : ℕ) (label : Label) → IsLabel label → labelled_at (labelled_spelled group label) ≡ Ok ((group, label), [])
 labelled_last group label fits = ap labelled_at (sym (append-nil (labelled_spelled group label))) ∙ labelled_again group label [] fits
@@ -46,10 +42,7 @@ unfolding places_at
 places_again [] kept m rest fits = ap₂ (λ (k : ℕ) (t : List Place). places_at k t rest) (omega arith) (sym (append-nil kept))
 places_again (place ∷ xs) kept m rest fits =
     let k : length (place ∷ xs) + m ≡ suc (length xs + m) = omega arith in
-    let more : (kept ++ place ∷ []) ++ xs ≡ kept ++ place ∷ xs = append_assoc kept (place ∷ []) xs in
-    ap₂ (λ (k : ℕ) (t : List ℕ). places_at k kept t) k (append_assoc (place_spelled place) (places_spelled xs) rest)
-    ∙ rw (place_again place (places_spelled xs ++ rest) fits.0) (places_again xs (kept ++ place ∷ []) m rest fits.1)
-    ∙ ap (λ (t : List Place). places_at m t rest) more
+    grind (arith, common_steps, append_assoc, place_again, (places_again xs (kept ++ place ∷ []) m rest fits.1))
 
 places_last : (xs : List Place) → ArePlaces xs → places_at (length xs) [] (places_spelled xs) ≡ Ok (xs, [])
 unfolding places_at
@@ -66,13 +59,7 @@ some n positive = ne_eqb n 0 (λ (e : n ≡ 0). omega (arith, e, positive))
 
 pub view_back : (volume : ℕ) (places : List Place) → 1 ≤ volume → volume < 2 ^ 32 → length places < 2 ^ 32 → ArePlaces places → IsReadBack (View volume places)
 unfolding body_at view_at volume_at
-view_back volume places assigned fits few are =
-    rw (
-      number_again w32 (2 ^ 32) wide32 volume (to_be_bytes w32 (length places) ++ places_spelled places) fits,
-      some volume assigned,
-      number_again w32 (2 ^ 32) wide32 (length places) (places_spelled places) few,
-      places_last places are,
-    ) refl
+view_back volume places assigned fits few are = grind (arith, common_steps, number_again, wide32, some, places_last)
 
 pub step_back : (group : ℕ) (place : Place) → place.epoch < 2 ^ 32 → IsReadBack (StepTo group place)
 unfolding body_at step_at
@@ -105,8 +92,7 @@ gossip_back group label r fits reads = rw (labelled_again group label (spelled r
 
 pub ack_back : (group : ℕ) (label : Label) (from scl : ℕ) → IsLabel label → scl < 2 ^ 64 → IsReadBack (Ack group label from scl)
 unfolding body_at ack_at
-ack_back group label from scl fits few =
-    rw (labelled_again group label (from ∷ to_be_bytes w64 scl) fits) (ap (λ (r : Read ℕ). r >>= λ s. Ok (Ack group label from s.0, s.1)) (number_last w64 (2 ^ 64) wide64 scl few))
+ack_back group label from scl fits few = grind (arith, common_steps, labelled_again, Ok, number_last, wide64)
 
 pub copy_ask_back : (group epoch : ℕ) → epoch < 2 ^ 32 → IsReadBack (CopyAsk group epoch)
 unfolding body_at copy_ask_at
@@ -114,27 +100,11 @@ copy_ask_back group epoch fits = ap (λ (r : Read ℕ). r >>= λ e. Ok (CopyAsk 
 
 pub copy_report_back : (group epoch from series : ℕ) (piece : Piece) (c : Contents) → epoch < 2 ^ 32 → series < 2 ^ 64 → piece.number < 2 ^ 16 → piece.of < 2 ^ 16 → AreBack c → IsReadBack (CopyReport group epoch from series piece c)
 unfolding body_at copy_report_at
-copy_report_back group epoch from series piece c fits few number of back =
-    let n = to_be_bytes w16 piece.number in
-    let o = to_be_bytes w16 piece.of in
-    let t = contents_spelled c in
-    let s = to_be_bytes w64 series in
-    ap (λ (u : List ℕ). body_at 10 (group ∷ (to_be_bytes w32 epoch ++ (from ∷ (s ++ u))))) (append_assoc n o t)
-    ∙ rw (
-      number_again w32 (2 ^ 32) wide32 epoch (from ∷ (s ++ (n ++ (o ++ t)))) fits,
-      number_again w64 (2 ^ 64) wide64 series (n ++ (o ++ t)) few,
-      number_again w16 (2 ^ 16) wide16 piece.number (o ++ t) number,
-      number_again w16 (2 ^ 16) wide16 piece.of t of,
-      contents_last c back,
-    ) refl
+copy_report_back group epoch from series piece c fits few number of back = grind (arith, common_steps, (contents_last c back))
 
 pub page_ask_back : (group : ℕ) (label : Label) (block point : ℕ) → IsLabel label → block < 2 ^ 32 → point < 2 ^ 64 → IsReadBack (PageAsk group label block point)
 unfolding body_at page_ask_at
-page_ask_back group label block point fits number few =
-    let p = to_be_bytes w64 point in
-    rw (labelled_again group label (to_be_bytes w32 block ++ p) fits)
-    (ap (λ (r : Read ℕ). r >>= λ b. number_at w64 b.1 >>= λ q. Ok (PageAsk group label b.0 q.0, q.1)) (number_again w32 (2 ^ 32) wide32 block p number)
-    ∙ ap (λ (r : Read ℕ). r >>= λ q. Ok (PageAsk group label block q.0, q.1)) (number_last w64 (2 ^ 64) wide64 point few))
+page_ask_back group label block point fits number few = grind (arith, common_steps, labelled_again, Ok, number_again, wide32, number_last, wide64)
 
 pub page_back : (group : ℕ) (label : Label) (from block point : ℕ) (image : List ℕ) → IsLabel label → block < 2 ^ 32 → point < 2 ^ 64 → length image ≡ 512 → IsReadBack (Page group label from block point image)
 unfolding body_at page_at
@@ -155,9 +125,7 @@ places-more places i d items more old within grown fits (so_far, are) =
     let q = place_of (get_or places i d) in
     let front = map place_of (take i places) in
     let step : front ++ q ∷ [] ≡ map place_of (take (i + 1) places) = sym (map_more place_of places i d within) in
-    let text : more ≡ old ++ places_spelled (front ++ q ∷ []) =
-    grown ∙ ap (λ (t : List ℕ). t ++ place_spelled q) so_far ∙ append_assoc old (places_spelled front) (place_spelled q)
-    ∙ ap (λ (t : List ℕ). old ++ t) (ap (λ (t : List ℕ). places_spelled front ++ t) (sym (append-nil (place_spelled q))) ∙ sym (places_spelled-append front (q ∷ []))) in
+    let text : more ≡ old ++ places_spelled (front ++ q ∷ []) = grind (arith, common_steps, append_assoc, append-nil, places_spelled-append) in
     (text ∙ ap (λ (rs : List Place). old ++ places_spelled rs) step, subst ArePlaces step (pushed front are))
   where
     pushed : (xs : List Place) → ArePlaces xs → ArePlaces (xs ++ place_of (get_or places i d) ∷ [])

@@ -1,5 +1,5 @@
 -- The fields of each kind are spelled by the bytes that they were read from.
-use Rattle.std.proofs.Common.{◌≡◌, ℕ, ◌+◌, ◌^◌, List, [], ◌∷◌, ◌++◌, ◌==◌, length, Result, Ok, sym, ap, ap₂, subst, ◌∙◌, append_assoc, arith, refl, append-nil, length-append}
+use Rattle.std.proofs.Common.{◌≡◌, ℕ, ◌+◌, ◌^◌, List, [], ◌∷◌, ◌++◌, ◌==◌, length, Result, Ok, sym, ap, subst, ◌∙◌, append_assoc, arith, refl, append-nil, length-append}
 use Rattle.std.specs.Int.{w16, w32, w64, to_be_bytes}
 use Rattle.volume_model.specs.declared.fault.Fault.{Fault}
 use Rattle.volume_model.specs.declared.fault.Fault.TheVariants.{BadField}
@@ -11,6 +11,8 @@ use Rattle.message_bytes.specs.Spelling.{label_spelled, place_spelled, places_sp
 use Rattle.message_bytes.proofs.Fields.{IsBytes, bind_ok, guard_ok, ok_is, Takes, Takes-then, wide16, wide32, wide64, byte_takes, number_takes, image_takes}
 use Rattle.message_bytes.proofs.Found.{redo_takes, contents_takes, list_takes}
 use Rattle.message_bytes.proofs.Loop.{places}
+use Rattle.std.proofs.lemmas.Grind.{common_steps}
+use Rattle.std.proofs.Common.{rules}
 
 -- behind a kind
 tagged : (k : ℕ) (bytes body rest : List ℕ) → Takes bytes body rest → Takes (k ∷ bytes) (k ∷ body) rest
@@ -51,9 +53,7 @@ places_spelled-append [] ys = refl
 places_spelled-append (x ∷ xs) ys = ap (λ (t : List ℕ). place_spelled x ++ t) (places_spelled-append xs ys) ∙ sym (append_assoc (place_spelled x) (places_spelled xs) (places_spelled ys))
 
 place_joined : (kept own : List Place) (place : Place) → ◌≡◌ {A = Result (List Place) Fault} (Ok (kept ++ place ∷ [])) (Ok own) → (places_spelled own ≡ places_spelled kept ++ place_spelled place) × (length own ≡ length kept + 1)
-place_joined kept own place e =
-    subst (λ (ps : List Place). (places_spelled ps ≡ places_spelled kept ++ place_spelled place) × (length ps ≡ length kept + 1)) (ok_is (kept ++ place ∷ []) own e)
-    (places_spelled-append kept (place ∷ []) ∙ ap (λ (t : List ℕ). places_spelled kept ++ t) (append-nil (place_spelled place)), omega (arith, length-append kept (place ∷ [])))
+place_joined kept own place e = grind (arith, common_steps, ok_is, places_spelled-append, append-nil, length-append)
 
 pub volume_takes : (bytes : List ℕ) (x : ℕ × List ℕ) → IsBytes bytes → volume_at bytes ≡ Ok x → Takes bytes (to_be_bytes w32 x.0) x.1
 unfolding volume_at
@@ -73,9 +73,7 @@ view_takes bytes x fits e =
     let t0 = volume_takes bytes a.0 fits a.1 in
     let t1 = number_takes w32 (2 ^ 32) wide32 a.0.1 b.0 t0.rest_fits b.1 in
     let t2 = list_takes places place_spelled places_spelled length place_takes place_joined b.0.0 [] b.0.1 d.0 t1.rest_fits d.1 in
-    let long : length d.0.0 ≡ b.0.0 = omega (arith, t2.count) in
-    let listed : Takes a.0.1 (to_be_bytes w32 (length d.0.0) ++ places_spelled d.0.0) d.0.1 =
-    subst (λ (t : List ℕ). Takes a.0.1 t d.0.1) (ap₂ (λ (k : ℕ) (t : List ℕ). to_be_bytes w32 k ++ t) (sym long) (sym t2.spells)) (Takes-then a.0.1 _ b.0.1 _ d.0.1 t1 t2.takes) in
+    let listed : Takes a.0.1 (to_be_bytes w32 (length d.0.0) ++ places_spelled d.0.0) d.0.1 = grind (arith, common_steps) in
     let made : Message × List ℕ = (View a.0.0 d.0.0, d.0.1) in
     subst (λ (y : Message × List ℕ). Takes (1 ∷ bytes) (tagged_spelled y.0) y.1) (ok_is made x d.2) (tagged 1 bytes _ d.0.1 (Takes-then bytes _ a.0.1 _ d.0.1 t0 listed))
 
@@ -106,9 +104,7 @@ report_takes bytes x fits e =
     let t0 = labelled_takes bytes a.0 fits a.1 in
     let t1 = byte_takes a.0.1 b.0 t0.rest_fits b.1 in
     let t2 = contents_takes b.0.1 d.0 t1.rest_fits d.1 in
-    let made : Message × List ℕ = (Report a.0.0.0 a.0.0.1 b.0.0 d.0.0, d.0.1) in
-    subst (λ (y : Message × List ℕ). Takes (4 ∷ bytes) (tagged_spelled y.0) y.1) (ok_is made x d.2)
-    (tagged 4 bytes _ d.0.1 (Takes-then bytes _ a.0.1 _ d.0.1 t0 (Takes-then a.0.1 _ b.0.1 _ d.0.1 t1 t2)))
+    grind (arith, common_steps)
 
 pub install_takes : (bytes : List ℕ) (x : Message × List ℕ) → IsBytes bytes → install_at bytes ≡ Ok x → Takes (5 ∷ bytes) (tagged_spelled x.0) x.1
 unfolding install_at
@@ -121,9 +117,7 @@ install_takes bytes x fits e =
     let t1 = number_takes w16 (2 ^ 16) wide16 a.0.1 b.0 t0.rest_fits b.1 in
     let t2 = number_takes w16 (2 ^ 16) wide16 b.0.1 d.0 t1.rest_fits d.1 in
     let t3 = contents_takes d.0.1 f.0 t2.rest_fits f.1 in
-    let made : Message × List ℕ = (Install a.0.0.0 a.0.0.1 (record { number = b.0.0; of = d.0.0 }) f.0.0, f.0.1) in
-    subst (λ (y : Message × List ℕ). Takes (5 ∷ bytes) (tagged_spelled y.0) y.1) (ok_is made x f.2)
-    (tagged 5 bytes _ f.0.1 (Takes-then bytes _ a.0.1 _ f.0.1 t0 (Takes-then a.0.1 _ d.0.1 _ f.0.1 (Takes-then a.0.1 _ b.0.1 _ d.0.1 t1 t2) t3)))
+    grind (arith, common_steps)
 
 pub write_takes : (bytes : List ℕ) (x : Message × List ℕ) → IsBytes bytes → write_at bytes ≡ Ok x → Takes (6 ∷ bytes) (tagged_spelled x.0) x.1
 unfolding write_at
@@ -154,9 +148,7 @@ ack_takes bytes x fits e =
     let t0 = labelled_takes bytes a.0 fits a.1 in
     let t1 = byte_takes a.0.1 b.0 t0.rest_fits b.1 in
     let t2 = number_takes w64 (2 ^ 64) wide64 b.0.1 d.0 t1.rest_fits d.1 in
-    let made : Message × List ℕ = (Ack a.0.0.0 a.0.0.1 b.0.0 d.0.0, d.0.1) in
-    subst (λ (y : Message × List ℕ). Takes (8 ∷ bytes) (tagged_spelled y.0) y.1) (ok_is made x d.2)
-    (tagged 8 bytes _ d.0.1 (Takes-then bytes _ a.0.1 _ d.0.1 t0 (Takes-then a.0.1 _ b.0.1 _ d.0.1 t1 t2)))
+    grind (arith, common_steps)
 
 pub copy_ask_takes : (bytes : List ℕ) (x : Message × List ℕ) → IsBytes bytes → copy_ask_at bytes ≡ Ok x → Takes (9 ∷ bytes) (tagged_spelled x.0) x.1
 unfolding copy_ask_at
@@ -203,9 +195,7 @@ page_ask_takes bytes x fits e =
     let t0 = labelled_takes bytes a.0 fits a.1 in
     let t1 = number_takes w32 (2 ^ 32) wide32 a.0.1 b.0 t0.rest_fits b.1 in
     let t2 = number_takes w64 (2 ^ 64) wide64 b.0.1 d.0 t1.rest_fits d.1 in
-    let made : Message × List ℕ = (PageAsk a.0.0.0 a.0.0.1 b.0.0 d.0.0, d.0.1) in
-    subst (λ (y : Message × List ℕ). Takes (11 ∷ bytes) (tagged_spelled y.0) y.1) (ok_is made x d.2)
-    (tagged 11 bytes _ d.0.1 (Takes-then bytes _ a.0.1 _ d.0.1 t0 (Takes-then a.0.1 _ b.0.1 _ d.0.1 t1 t2)))
+    grind (arith, common_steps)
 
 pub page_takes : (bytes : List ℕ) (x : Message × List ℕ) → IsBytes bytes → page_at bytes ≡ Ok x → Takes (12 ∷ bytes) (tagged_spelled x.0) x.1
 unfolding page_at
@@ -220,6 +210,4 @@ page_takes bytes x fits e =
     let t2 = number_takes w32 (2 ^ 32) wide32 b.0.1 d.0 t1.rest_fits d.1 in
     let t3 = number_takes w64 (2 ^ 64) wide64 d.0.1 f.0 t2.rest_fits f.1 in
     let t4 = image_takes f.0.1 g.0 t3.rest_fits g.1 in
-    let made : Message × List ℕ = (Page a.0.0.0 a.0.0.1 b.0.0 d.0.0 f.0.0 g.0.0, g.0.1) in
-    subst (λ (y : Message × List ℕ). Takes (12 ∷ bytes) (tagged_spelled y.0) y.1) (ok_is made x g.2)
-    (tagged 12 bytes _ g.0.1 (Takes-then bytes _ a.0.1 _ g.0.1 t0 (Takes-then a.0.1 _ d.0.1 _ g.0.1 (Takes-then a.0.1 _ b.0.1 _ d.0.1 t1 t2) (Takes-then d.0.1 _ f.0.1 _ g.0.1 t3 t4))))
+    search (rules, Takes, ok_is, tagged, Takes-then)

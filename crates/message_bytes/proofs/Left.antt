@@ -1,6 +1,7 @@
 -- Records that a cursor still has to read.
-use Rattle.std.proofs.Common.{◌≡◌, ℕ, zero, suc, ◌+◌, ◌<◌, ◌∙◌, List, [], ◌∷◌, ◌++◌, length, take, drop, ap, arith}
+use Rattle.std.proofs.Common.{◌≡◌, ℕ, zero, suc, ◌+◌, ◌<◌, List, [], ◌∷◌, ◌++◌, length, take, drop, ap, arith}
 use Rattle.volume_model.specs.Common.{Redo}
+use Rattle.std.proofs.lemmas.Grind.{common_steps}
 
 no-more : (r : Redo) (rest : List Redo) → (0 ≡ length (r ∷ rest)) → ⊥
 no-more r rest e = omega (arith, e)
@@ -10,7 +11,4 @@ pub next-taken : (xs rest : List Redo) (n : ℕ) (r : Redo) → drop n xs ≡ r 
 next-taken [] rest zero r is = absurd (no-more r rest (ap (length {A = Redo}) is))
 next-taken [] rest (suc n) r is = absurd (no-more r rest (ap (length {A = Redo}) is))
 next-taken (x ∷ xs) rest zero r is = (omega arith, (ap (λ (rs : List Redo). take 1 rs) is, ap (λ (rs : List Redo). drop 1 rs) is))
-next-taken (x ∷ xs) rest (suc n) r is =
-    let later = next-taken xs rest n r is in
-    let one : suc n + 1 ≡ suc (n + 1) = omega arith in
-    (omega (arith, later.0), (ap (λ (m : ℕ). take m (x ∷ xs)) one ∙ ap (λ (rs : List Redo). x ∷ rs) later.1.0, ap (λ (m : ℕ). drop m (x ∷ xs)) one ∙ later.1.1))
+next-taken (x ∷ xs) rest (suc n) r is = grind (arith, common_steps, (next-taken xs rest n r is))

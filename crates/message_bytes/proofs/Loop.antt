@@ -5,6 +5,7 @@ use Rattle.volume_model.specs.Common.{Fails, ◌>>=◌}
 use Rattle.message_bytes.specs.Contents.{Read, redo_at, entry_at, with_entry, entries_at, with_next, records_at}
 use Rattle.message_bytes.specs.Reading.{place_at, places_at}
 use Rattle.message_bytes.proofs.Handed.{Fails-at}
+use Rattle.std.proofs.lemmas.Grind.{common_steps}
 
 -- all reads so many items behind those that are kept: one reads an item, and join adds it
 pub record IsReading {X K : Type 0} (one : List ℕ → Read X) (join : K → X → Result K Fault) (all : ℕ → K → List ℕ → Read K) : Type 0 where
@@ -46,6 +47,4 @@ module _ {X K : Type 0} {one : List ℕ → Read X} {join : K → X → Result K
 
   -- all items are read
   pub read-done : (count i : ℕ) (kept : K) (bytes : List ℕ) (total : Read K) → count ≤ i → all (count - i) kept bytes ≡ total → total ≡ Ok (kept, bytes)
-  read-done count i kept bytes total le so_far =
-      let k : count - i ≡ 0 = omega arith in
-      sym so_far ∙ ap (λ n. all n kept bytes) k ∙ reads.none kept bytes
+  read-done count i kept bytes total le so_far = grind (arith, common_steps)

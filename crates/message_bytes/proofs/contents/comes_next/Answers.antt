@@ -1,11 +1,12 @@
-use Rattle.std.proofs.Common.{◌∙◌, ◌-◌, ◌<◌, ◌∷◌, [], List, length, sym, ap, arith, refl}
+use Rattle.std.proofs.Common.{◌∙◌, ◌-◌, ◌<◌, ◌∷◌, [], List, length, sym, arith, refl}
 use Rattle.std.proofs.lemmas.Option.{slice_get_within, get_or_from_slice_get}
-use Rattle.volume_model.specs.Common.{Redo, spelling, numbers_before}
+use Rattle.volume_model.specs.Common.{Redo}
 use Rattle.redo_record.specs.Common.{IsInOrder, records_of, shared_redo}
 use Rattle.redo_record.proofs.Places.{before_from}
 use Rattle.redo_record.proofs.Rows.{row-in_order}
 use Rattle.message_bytes.proofs.Next.{next-last}
 use Rattle.message_bytes.proofs.contents.comes_next.Goals as goal
+use Rattle.std.proofs.lemmas.Grind.{common_steps}
 
 -- one record is in order
 one : (r : Redo) → IsInOrder (r ∷ [])
@@ -17,8 +18,7 @@ returns-in-Some-clause-is c =
     let a : Redo = shared_redo c.in-Some.last.now in
     let r : Redo = shared_redo c.args.packet.now in
     let place : length own - 1 < length own = slice_get_within own (length own - 1) a (sym c.in-Some.ensures) in
-    c.is_before.ensures
-    ∙ sym (next-last own r a (omega (arith, place)) ∙ ap (λ (s : Redo). numbers_before (spelling s) (spelling r)) (get_or_from_slice_get own (length own - 1) a a (sym c.in-Some.ensures)))
+    grind (arith, common_steps, c.is_before.ensures, c.in-Some.ensures, (next-last own r a (omega (arith, place))), (get_or_from_slice_get own (length own - 1) a a (sym c.in-Some.ensures)))
 
 pub returns-in-Some-clause-in_order : goal.returns-in-Some-clause-in_order
 returns-in-Some-clause-in_order c h =

@@ -1,10 +1,11 @@
-use Rattle.std.proofs.Common.{◌∙◌, [], List, Ok, ap, sym}
+use Rattle.std.proofs.Common.{[], Ok}
 use Rattle.std.proofs.lemmas.Result.{err_from_is_err_and}
-use Rattle.volume_model.specs.Common.{Redo}
 use Rattle.redo_record.specs.Common.{shared_redo, records_of}
 use Rattle.message_bytes.specs.Contents.{records_at}
 use Rattle.message_bytes.proofs.Loop.{records, read-on, read-short, read-bad, read-done}
 use Rattle.message_bytes.proofs.contents.read_records.Goals as goal
+use Rattle.std.proofs.lemmas.Grind.{common_steps}
+use Rattle.std.proofs.Common.{arith}
 
 pub returns-in_err-packet : goal.returns-in_err-packet
 returns-in_err-packet c =
@@ -21,6 +22,4 @@ loop-preserved c =
     read-on records c.args.count c.loop.counter (records_of c.loop.set) (records_of c.in_ok-set.set) c.loop.rest.now c.in_ok-packet.after.now (shared_redo c.in_ok-packet.packet) (records_at c.args.count [] c.args.bytes.now) c.loop-test.true c.in_ok-packet.ensures c.in_ok-set.ensures c.loop.invariant
 
 pub returns : goal.returns
-returns c =
-    read-done records c.args.count c.loop.counter (records_of c.loop.set) c.loop.rest.now (records_at c.args.count [] c.args.bytes.now) c.loop-test.false c.loop.invariant
-    ∙ ap (λ (rs : List Redo). Ok (rs, c.loop.rest.now)) (sym c.share.ensures)
+returns c = grind (arith, common_steps, c.loop-test.false, c.loop.invariant, c.share.ensures, read-done, records, Ok)

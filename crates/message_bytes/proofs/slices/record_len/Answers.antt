@@ -1,12 +1,10 @@
-use Rattle.std.proofs.Common.{length, ap, arith}
-use Rattle.volume_model.specs.Common.{Redo}
-use Rattle.redo_record.specs.Common.{shared_redo}
+use Rattle.std.proofs.Common.{arith}
 use Rattle.redo_record.proofs.Again.{length-spelled}
 use Rattle.message_bytes.proofs.slices.record_len.Goals as goal
+use Rattle.std.proofs.lemmas.Grind.{common_steps}
 
 pub returns-clause-is : goal.returns-clause-is
-returns-clause-is c =
-    omega (arith, length-spelled (shared_redo c.args.packet.now), ap (λ (r : Redo). length r.bytes) c.record.ensures, ap length c.as_slice.ensures.value)
+returns-clause-is c = grind (arith, common_steps, c.record.ensures, c.as_slice.ensures.value, length-spelled)
 
 pub returns-clause-few : goal.returns-clause-few
 returns-clause-few c = omega (arith, c.as_slice.ensures.room)
