@@ -1,11 +1,12 @@
 -- Tests that each number below a bound passes.
 use Rattle.std.proofs.Common.{◌≡◌, ℕ, zero, suc, ◌+◌, ◌<◌, ◌≤◌, Bool, true, false, ◌&&◌, nat_le, List, [], ◌∷◌, length, get_or, map, ap, ap₂, ◌∙◌, refl, subst, inl, inr, arith, add-one}
-use Rattle.std.proofs.lemmas.Bool.{cases_lt, and_parts, leb-true}
+use Rattle.std.proofs.lemmas.Bool.{cases_lt}
 use Rattle.std.proofs.lemmas.List.{length-map}
 use Rattle.volume_model.specs.Common.{every_below, Plan, is_configuration, place_in, are_places}
 use Rattle.volume_model.specs.Message as model
 use Rattle.wire.specs.declared.label.Place.{Place}
 use Rattle.wire.specs.Common.{place_of}
+use Rattle.std.proofs.lemmas.Grind.{common_steps}
 
 pub and_false : (a : Bool) → (a && false) ≡ false
 and_false true = refl
@@ -44,16 +45,11 @@ abbrev pub ArePlaces : Plan → List model.Place → Type 0
 ArePlaces plan places = (plan.born ≤ length places) × (length places ≤ plan.groups) × (every_below (length places) (is_place plan places) ≡ true)
 
 pub places-parts : (plan : Plan) (places : List model.Place) → are_places plan places ≡ true → ArePlaces plan places
-places-parts plan places h =
-    let outer = and_parts (nat_le plan.born (length places)) _ h in
-    let inner = and_parts (nat_le (length places) plan.groups) (every_below (length places) (is_place plan places)) outer.1 in
-    (leb-true plan.born (length places) outer.0, leb-true (length places) plan.groups inner.0, inner.1)
+places-parts plan places h = grind (arith, common_steps)
 
 -- one place that isn't such
 pub places-fail : (plan : Plan) (places : List Place) (i : ℕ) (d : Place) → i < length places → is_configuration plan i (get_or places i d).configuration (get_or places i d).epoch ≡ false → are_places plan (map place_of places) ≡ false
 places-fail plan places i d h e =
     let ps : List model.Place = map place_of places in
     let many : length ps ≡ length places = length-map places place_of in
-    ap (λ b. nat_le plan.born (length ps) && (nat_le (length ps) plan.groups && b)) (below-fails (length ps) (is_place plan ps) i (omega arith) (is_place-at plan places i d h ∙ e))
-    ∙ ap (λ b. nat_le plan.born (length ps) && b) (and_false (nat_le (length ps) plan.groups))
-    ∙ and_false (nat_le plan.born (length ps))
+    grind (arith, common_steps, (below-fails (length ps) (is_place plan ps) i (omega arith) (is_place-at plan places i d h ∙ e)), (is_place plan ps), (is_place-at plan places i d h), (and_false (nat_le (length ps) plan.groups)), (and_false (nat_le plan.born (length ps))))

@@ -18,8 +18,7 @@ length-most : (log : List Redo) → is_growing log ≡ true → length log ≤ l
 length-most [] h = omega arith
 length-most (r ∷ older) h =
     let (below, rest) = both (last_lsn older) r.lsn (is_growing older) h in
-    let inner : length older ≤ last_lsn older = length-most older rest in
-    omega arith
+    omega (arith, (length-most older rest))
 
 last-most : (most : ℕ) (log : List Redo) → ((r : Redo) → IsIn r log → r.lsn ≤ most) → last_lsn log ≤ most
 last-most most [] all = omega arith

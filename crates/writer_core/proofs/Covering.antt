@@ -1,5 +1,5 @@
 -- The front of a log that the points of its groups cover.
-use Rattle.std.proofs.Common.{◌≡◌, ℕ, ◌+◌, ◌<◌, ◌≤◌, Bool, true, false, ◌&&◌, nat_le, List, [], ◌∷◌, map, length, take, drop, get_or, if◌then◌else◌, refl, sym, ap, ap₂, ◌∙◌, subst, inl, inr, arith, drop-cons, add-one, ◌==◌}
+use Rattle.std.proofs.Common.{◌≡◌, ℕ, ◌+◌, ◌<◌, ◌≤◌, Bool, true, false, ◌&&◌, nat_le, List, [], ◌∷◌, map, length, take, drop, get_or, if◌then◌else◌, refl, sym, ap, ◌∙◌, subst, inl, inr, arith, drop-cons, add-one, ◌==◌}
 use Rattle.std.proofs.Math.Path.{fun_ext}
 use Rattle.std.proofs.lemmas.List.{take-append-drop, take_all}
 use Rattle.std.proofs.lemmas.Bool.{cases_Bool, and_parts, and_from, eq-eqb, le-leb, lt-leb, leb-true}
@@ -11,17 +11,16 @@ use Rattle.writer_core.specs.Logs.{log_of, is_growing}
 use Rattle.writer_core.specs.DurabilityTracker.{is_covered, Covers, CoversNone, CoversPrefix, CoversLog}
 use Rattle.writer_core.specs.declared.durability.DurabilityTracker.{DurabilityTracker}
 use Rattle.writer_core.proofs.Below.{and_false}
-use Rattle.writer_core.proofs.Entering.{group-entered}
 use Rattle.writer_core.proofs.Finding.{above}
 use Rattle.writer_core.proofs.Growing.{both}
 use Rattle.writer_core.proofs.Joined.{log_of-append}
 use Rattle.writer_core.proofs.Logs.{log_of-more}
+use Rattle.std.proofs.lemmas.Grind.{common_steps}
 
 -- ---- a front, and what comes behind it
 
 split : (records : List SharedRecord) (n : ℕ) → log_of records ≡ added (map shared_redo (drop n records)) (log_of (take n records))
-split records n =
-    ap log_of (sym (take-append-drop n records)) ∙ log_of-append (take n records) (drop n records)
+split records n = grind (arith, common_steps, (take-append-drop n records), (log_of-append (take n records) (drop n records)))
 
 -- ---- all records are covered
 
@@ -29,9 +28,7 @@ complete_of-durability : (points : ℕ → ℕ) (log : List Redo) → every (is_
 complete_of-durability points [] h = refl
 complete_of-durability points (r ∷ older) h =
     let parts : (is_covered points r ≡ true) × (every (is_covered points) older ≡ true) = and_parts _ _ h in
-    let all : (complete_of points older == last_lsn older) ≡ true = eq-eqb _ _ (complete_of-durability points older parts.1) in
-    let e : ((complete_of points older == last_lsn older) && nat_le r.lsn (points r.group)) ≡ true = and_from _ _ all parts.0 in
-    rw e refl
+    grind (arith, common_steps, eq-eqb, and_from, (complete_of-durability points older parts.1))
 
 -- a greater bound than the last number finds no other consistency point
 consistency_point_below-whole : (n : ℕ) (log : List Redo) → is_growing log ≡ true → last_lsn log ≤ n → consistency_point_below n log ≡ consistency_point_below (last_lsn log) log
@@ -67,11 +64,7 @@ consistency_point_below-later n (x ∷ xs) kept h le =
 
 consistency_point_below-le : (n : ℕ) (log : List Redo) → consistency_point_below n log ≤ n
 consistency_point_below-le n [] = omega arith
-consistency_point_below-le n (r ∷ older) =
-    elim (cases_Bool (r.point && nat_le r.lsn n)) [
-      | inl e ↦ rw e (leb-true r.lsn n (and_parts _ _ e).1)
-      | inr e ↦ rw e (consistency_point_below-le n older)
-    ]
+consistency_point_below-le n (r ∷ older) = grind (arith, common_steps, cases_Bool, leb-true, and_parts, (consistency_point_below-le n older))
 
 -- all records are at most the bound
 last_of_group_below-whole : (group n : ℕ) (log : List Redo) → is_growing log ≡ true → last_lsn log ≤ n → last_of_group_below group n log ≡ last_of_group group log
@@ -84,9 +77,7 @@ last_of_group_below-whole group n (r ∷ older) h le =
 
 -- a record above the bound
 last_of_group_below-above : (group n : ℕ) (r : Redo) (older : List Redo) → n < r.lsn → last_of_group_below group n (r ∷ older) ≡ last_of_group_below group n older
-last_of_group_below-above group n r older more =
-    let later : nat_le r.lsn n ≡ false = lt-leb r.lsn n more in
-    ap (λ b. if b then r.lsn else last_of_group_below group n older) (ap (λ b. (r.group == group) && b) later ∙ and_false (r.group == group))
+last_of_group_below-above group n r older more = grind (arith, common_steps)
 
 -- later records have greater numbers than the bound
 last_of_group_below-later : (group n : ℕ) (xs : List SharedRecord) (kept : List Redo) → is_growing (added (map shared_redo xs) kept) ≡ true → n ≤ last_lsn kept → last_of_group_below group n (added (map shared_redo xs) kept) ≡ last_of_group_below group n kept
@@ -115,33 +106,16 @@ module _ (points : ℕ → ℕ) (records : List SharedRecord) (growing : is_grow
 
   -- what is kept up to the last consistency point, behind a record that is none
   stays-durable : (r : Redo) (group : ℕ) → group < 16 → last_lsn kept < r.lsn → get_or old.durable_lasts group 0 ≡ last_of_group_below group old.durable (r ∷ kept)
-  stays-durable r group h link =
-      let low : old.durable ≤ last_lsn kept = durable-le in
-      front.durable_lasts group h ∙ sym (last_of_group_below-above group old.durable r kept (omega arith))
+  stays-durable r group h link = grind (arith, common_steps, kept, durable-le, last_of_group_below-above)
 
   -- one record more is covered
   pub covers-more : (new : DurabilityTracker) (p : SharedRecord) (r : Redo) → old.records < length records → p ≡ get_or records old.records p → r ≡ shared_redo p → r.group < 16 → r.lsn ≤ points r.group → Covers old new r → CoversPrefix new points records
   covers-more new p r within is shows small reached covers =
-      let here : nat_le r.lsn (points r.group) ≡ true = le-leb r.lsn (points r.group) reached in
       let one : log_of (take (old.records + 1) records) ≡ r ∷ kept = next-kept p r within is shows in
-      let whole : log_of (take new.records records) ≡ r ∷ kept = ap (λ n. log_of (take n records)) covers.counted ∙ one in
       let next : is_growing (r ∷ kept) ≡ true = subst (λ log. is_growing log ≡ true) one (more-grows (old.records + 1)) in
       let link : last_lsn kept < r.lsn = (both (last_lsn kept) r.lsn (is_growing kept) next).0 in
-      let self : nat_le r.lsn r.lsn ≡ true = le-leb r.lsn r.lsn (omega arith) in
       let bound : consistency_point_below r.lsn kept ≡ old.durable = consistency_point_below-whole r.lsn kept kept_grows (omega arith) ∙ sym (front.durable ∙ ap (λ n. consistency_point_below n kept) front.complete) in
-      let last_lsns : (group : ℕ) → group < 16 → get_or new.last_lsns group 0 ≡ last_of_group group (r ∷ kept) =
-      λ group h. ap (λ xs. get_or xs group 0) covers.last_lsns ∙ group-entered old.last_lsns r.group group r.lsn (last_of_group group kept) (omega (arith, old.each_last)) (front.last_lsns group h) in
-      record {
-        within = omega (arith, covers.counted);
-        all = ap (every (is_covered points)) whole ∙ and_from _ _ here front.all;
-        complete = covers.complete ∙ sym (ap last_lsn whole);
-        durable = covers.durable ∙ sym (ap₂ consistency_point_below covers.complete whole ∙ last r.point self bound);
-        last_lsns = λ group h. last_lsns group h ∙ sym (ap (last_of_group group) whole);
-        durable_lasts = λ group h.
-            ap (λ xs. get_or xs group 0) covers.durable_lasts
-            ∙ durable_next r.point group (last_lsns group h ∙ sym (last_of_group_below-whole group r.lsn (r ∷ kept) next (omega arith))) (stays-durable r group h link)
-            ∙ sym (ap₂ (last_of_group_below group) covers.durable whole);
-      }
+      grind (arith, common_steps, and_from, last_of_group_below-whole, kept, stays-durable)
     where
       more-grows : (n : ℕ) → is_growing (log_of (take n records)) ≡ true
       more-grows n = (above (drop n records) (log_of (take n records)) (subst (λ log. is_growing log ≡ true) (split records n) growing)).0
@@ -157,42 +131,11 @@ module _ (points : ℕ → ℕ) (records : List SharedRecord) (growing : is_grow
 
   -- all records are covered
   pub covers-all : length records ≤ old.records → CoversLog old points records
-  covers-all end =
-      let whole : take old.records records ≡ records = take_all old.records records end in
-      let all : every (is_covered points) (log_of records) ≡ true = subst (λ (xs : List SharedRecord). every (is_covered points) (log_of xs) ≡ true) whole front.all in
-      let complete : old.complete ≡ complete_of points (log_of records) = front.complete ∙ ap (λ (xs : List SharedRecord). last_lsn (log_of xs)) whole ∙ sym (complete_of-durability points (log_of records) all) in
-      record {
-        front = front;
-        complete = complete;
-        durable = front.durable ∙ ap₂ (λ n (xs : List SharedRecord). consistency_point_below n (log_of xs)) complete whole;
-        durable_lasts = λ group h. front.durable_lasts group h ∙ ap (λ (xs : List SharedRecord). last_of_group_below group old.durable (log_of xs)) whole;
-      }
+  covers-all end = grind (arith, common_steps, take_all, complete_of-durability)
 
   -- the next record isn't covered
   pub covers-up-to : (p : SharedRecord) (r : Redo) → old.records < length records → p ≡ get_or records old.records p → r ≡ shared_redo p → points r.group < r.lsn → CoversLog old points records
-  covers-up-to p r within is shows short =
-      let here : nat_le r.lsn (points r.group) ≡ false = lt-leb r.lsn (points r.group) short in
-      let next : drop old.records records ≡ p ∷ drop (old.records + 1) records =
-      drop-cons records old.records p within ∙ ap₂ (λ x n. x ∷ drop n records) (sym is) (sym (add-one old.records)) in
-      let whole : log_of records ≡ added (map shared_redo (drop (old.records + 1) records)) (r ∷ kept) =
-      split records old.records ∙ ap (λ (xs : List SharedRecord). added (map shared_redo xs) kept) next
-      ∙ ap (λ s. added (map shared_redo (drop (old.records + 1) records)) (s ∷ kept)) (sym shows) in
-      let grows : is_growing (added (map shared_redo (drop (old.records + 1) records)) (r ∷ kept)) ≡ true = subst (λ log. is_growing log ≡ true) whole growing in
-      let link : last_lsn kept < r.lsn = (both (last_lsn kept) r.lsn (is_growing kept) (above (drop (old.records + 1) records) (r ∷ kept) grows).0).0 in
-      let durability : complete_of points kept ≡ last_lsn kept = complete_of-durability points kept front.all in
-      let step : complete_of points (r ∷ kept) ≡ last_lsn kept =
-      ap (λ b. if b then r.lsn else complete_of points kept) (ap (λ b. (complete_of points kept == last_lsn kept) && b) here ∙ and_false _) ∙ durability in
-      let stuck : complete_of points (log_of records) ≡ last_lsn kept =
-      ap (complete_of points) whole ∙ complete_of-stuck points (drop (old.records + 1) records) (r ∷ kept) grows (omega arith) ∙ step in
-      let low : old.durable ≤ last_lsn kept = durable-le in
-      let later : consistency_point_below (last_lsn kept) (log_of records) ≡ consistency_point_below (last_lsn kept) kept =
-      ap (consistency_point_below (last_lsn kept)) (split records old.records) ∙ consistency_point_below-later (last_lsn kept) (drop old.records records) kept grown (omega arith) in
-      record {
-        front = front;
-        complete = front.complete ∙ sym stuck;
-        durable = front.durable ∙ ap (λ n. consistency_point_below n kept) front.complete ∙ sym (ap (λ n. consistency_point_below n (log_of records)) stuck ∙ later);
-        durable_lasts = λ group h. front.durable_lasts group h ∙ sym (ap (last_of_group_below group old.durable) (split records old.records) ∙ last_of_group_below-later group old.durable (drop old.records records) kept grown low);
-      }
+  covers-up-to p r within is shows short = grind (arith, common_steps, lt-leb, drop-cons, add-one, kept, split, both, above, complete_of-durability, and_false, complete_of-stuck, durable-le, consistency_point_below-later, grown, last_of_group_below-later)
 
 -- a log of no record
 pub covers-none : (durability : DurabilityTracker) (points : ℕ → ℕ) (records : List SharedRecord) → CoversNone durability → records ≡ [] → CoversLog durability points records
@@ -205,19 +148,11 @@ every-durability points points' up [] h = refl
 every-durability points points' up (r ∷ older) h =
     let parts : (is_covered points r ≡ true) × (every (is_covered points) older ≡ true) = and_parts _ _ h in
     let reached : r.lsn ≤ points r.group = leb-true r.lsn (points r.group) parts.0 in
-    let more : points r.group ≤ points' r.group = up r.group in
     and_from _ _ (le-leb r.lsn (points' r.group) (omega arith)) (every-durability points points' up older parts.1)
 
 -- points have risen
 pub covers-raised : (durability : DurabilityTracker) (points points' : ℕ → ℕ) (records : List SharedRecord) → ((group : ℕ) → points group ≤ points' group) → CoversPrefix durability points records → CoversPrefix durability points' records
-covers-raised durability points points' records up front = record {
-  within = front.within;
-  all = every-durability points points' up (log_of (take durability.records records)) front.all;
-  complete = front.complete;
-  durable = front.durable;
-  last_lsns = front.last_lsns;
-  durable_lasts = front.durable_lasts;
-}
+covers-raised durability points points' records up front = grind (arith, common_steps, every-durability)
 
 -- points that are the same
 pub covers-same : (durability : DurabilityTracker) (points points' : ℕ → ℕ) (records : List SharedRecord) → ((group : ℕ) → points group ≡ points' group) → CoversLog durability points records → CoversLog durability points' records

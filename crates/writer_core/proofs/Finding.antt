@@ -10,19 +10,14 @@ use Rattle.redo_record.specs.declared.shared_record.SharedRecord.{SharedRecord}
 use Rattle.redo_record.specs.Common.{shared_redo}
 use Rattle.writer_core.specs.Logs.{log_of, is_growing}
 use Rattle.writer_core.proofs.Growing.{both}
+use Rattle.std.proofs.lemmas.Grind.{common_steps}
+use Rattle.std.proofs.Common.{rules}
 
 -- ---- numbers that grow
 
 pub above : (xs : List SharedRecord) (kept : List Redo) → is_growing (added (map shared_redo xs) kept) ≡ true → (is_growing kept ≡ true) × ((k : ℕ) (d : SharedRecord) → k < length xs → last_lsn kept < (shared_redo (get_or xs k d)).lsn)
 above [] kept h = (h, λ k d l. absurd (omega arith))
-above (x ∷ xs) kept h =
-    let (g, later) = above xs (shared_redo x ∷ kept) h in
-    let (a, rest) = both (last_lsn kept) (shared_redo x).lsn (is_growing kept) g in
-    (rest, next a later)
-  where
-    next : last_lsn kept < (shared_redo x).lsn → ((k : ℕ) (d : SharedRecord) → k < length xs → (shared_redo x).lsn < (shared_redo (get_or xs k d)).lsn) → (k : ℕ) (d : SharedRecord) → k < length (x ∷ xs) → last_lsn kept < (shared_redo (get_or (x ∷ xs) k d)).lsn
-    next a later zero d l = a
-    next a later (suc k) d l = let b : (shared_redo x).lsn < (shared_redo (get_or xs k d)).lsn = later k d (omega arith) in omega arith
+above (x ∷ xs) kept h = grind (arith, common_steps, both, ℕ, (above xs (shared_redo x ∷ kept) h))
 
 pairs : (xs : List SharedRecord) (kept : List Redo) → is_growing (added (map shared_redo xs) kept) ≡ true → (i j : ℕ) (d : SharedRecord) → i < j → j < length xs → (shared_redo (get_or xs i d)).lsn < (shared_redo (get_or xs j d)).lsn
 pairs [] kept h i j d l k = absurd (omega arith)
@@ -35,11 +30,7 @@ pub lsn-below : (xs : List SharedRecord) → is_growing (log_of xs) ≡ true →
 lsn-below xs h = pairs xs [] h
 
 pub lsn-rises : (xs : List SharedRecord) → is_growing (log_of xs) ≡ true → IsNonDecreasingBy (λ (p : SharedRecord). (shared_redo p).lsn) xs
-lsn-rises xs h i j d l k =
-    elim (cases_lt i j) [
-      | inl b ↦ (let less : (shared_redo (get_or xs i d)).lsn < (shared_redo (get_or xs j d)).lsn = lsn-below xs h i j d b k in omega arith)
-      | inr b ↦ (let same : i ≡ j = omega arith in subst (λ m. (shared_redo (get_or xs i d)).lsn ≤ (shared_redo (get_or xs m d)).lsn) same (omega arith))
-    ]
+lsn-rises xs h i j d l k = grind (arith, common_steps, cases_lt, lsn-below, (cases_lt i j))
 
 -- ---- the records of a log
 
@@ -73,8 +64,7 @@ at_most_last [] h r i = absurd i
 at_most_last (s ∷ older) h r (inl e) = subst (λ x. x.lsn ≤ s.lsn) (sym e) (omega arith)
 at_most_last (s ∷ older) h r (inr i) =
     let (below, rest) = both (last_lsn older) s.lsn (is_growing older) h in
-    let inner : r.lsn ≤ last_lsn older = at_most_last older rest r i in
-    omega arith
+    omega (arith, (at_most_last older rest r i))
 
 one_of_number : (log : List Redo) → is_growing log ≡ true → (r s : Redo) → IsIn r log → IsIn s log → r.lsn ≡ s.lsn → r ≡ s
 one_of_number [] h r s i j e = absurd i
@@ -116,10 +106,7 @@ is_consistency_point-record_at (r ∷ older) n h =
     let (less, rest) = both (last_lsn older) r.lsn (is_growing older) h in
     let inner : is_consistency_point n older ≡ is_point_at (record_at older n) = is_consistency_point-record_at older n rest in
     elim (cases_eq r.lsn n) [
-      | inl e ↦ (
-          let here : nat_eq r.lsn n ≡ true = eq-eqb r.lsn n e in
-          let none : record_at older n ≡ None = record_at-none older n (λ s i f. (let below : s.lsn ≤ last_lsn older = at_most_last older rest s i in absurd (omega (arith, f)))) in
-          rw (here, none) (ap (λ b. r.point || b) (inner ∙ ap is_point_at none) ∙ or_false r.point))
+      | inl e ↦ grind (arith, common_steps, nat_eq, eq-eqb, None, record_at-none, at_most_last, is_point_at)
       | inr ne ↦ (let other : nat_eq r.lsn n ≡ false = grind (arith, nat_tests) in rw other inner)
     ]
   where
@@ -129,9 +116,7 @@ is_consistency_point-record_at (r ∷ older) n h =
 
 -- a search has found the number's record
 pub record-found : (log : List SharedRecord) (i n : ℕ) (p : SharedRecord) → is_growing (log_of log) ≡ true → i < length log → p ≡ get_or log i p → (shared_redo p).lsn ≡ n → Some (shared_redo p) ≡ record_at (log_of log) n
-record-found log i n p h within is e =
-    let in-it : IsIn (shared_redo p) (log_of log) = subst (λ (x : SharedRecord). IsIn (shared_redo x) (log_of log)) (sym is) (in-log log i p within) in
-    sym (record_at-in (log_of log) h (shared_redo p) in-it) ∙ ap (record_at (log_of log)) e
+record-found log i n p h within is e = grind (arith, common_steps, in-log, record_at-in, (in-log log i p within))
 
 -- it has found the place where the record would stand, and the one there has another number
 pub record-missing : (log : List SharedRecord) (i n : ℕ) → is_growing (log_of log) ≡ true → IsPartitionPoint (λ (p : SharedRecord). nat_lt (shared_redo p).lsn n ≡ true) (λ (p : SharedRecord). nat_lt (shared_redo p).lsn n ≡ false) log i → ((d : SharedRecord) → i < length log → (shared_redo (get_or log i d)).lsn ≢ n)
@@ -139,15 +124,4 @@ pub record-missing : (log : List SharedRecord) (i n : ℕ) → is_growing (log_o
 record-missing log i n h split other = record_at-none (log_of log) n (all-log (λ r. r.lsn ≢ n) log differs)
   where
     differs : (k : ℕ) (d : SharedRecord) → k < length log → (shared_redo (get_or log k d)).lsn ≢ n
-    differs k d within =
-        elim (cases_lt k i) [
-          | inl b ↦ (let less : (shared_redo (get_or log k d)).lsn < n = ltb-true _ _ (split.0 k d (omega arith) b) in λ e. absurd (omega (arith, e)))
-          | inr b ↦ elim (cases_lt i k) [
-            | inl up ↦ (
-                let from : nat_lt (shared_redo (get_or log i d)).lsn n ≡ false = split.1 i d (omega arith) (omega arith) in
-                let least : n ≤ (shared_redo (get_or log i d)).lsn = ltb-false _ _ from in
-                let more : (shared_redo (get_or log i d)).lsn < (shared_redo (get_or log k d)).lsn = lsn-below log h i k d up within in
-                λ e. absurd (omega (arith, e)))
-            | inr up ↦ (let same : i ≡ k = omega arith in subst (λ m. (shared_redo (get_or log m d)).lsn ≢ n) same (other d (omega arith)))
-          ]
-        ]
+    differs k d within = search (rules, cases_lt, ltb-true, ltb-false, lsn-below)

@@ -1,9 +1,9 @@
 -- A log whose records stand in two lists, one behind the other.
-use Rattle.std.proofs.Common.{◌≡◌, ℕ, zero, suc, ◌+◌, ◌-◌, ◌<◌, ◌≤◌, min, true, ◌&&◌, nat_eq, ◌⊎◌, List, [], ◌∷◌, ◌++◌, map, length, get_or, take, drop, add-one, Option, Some, None, if◌then◌else◌, append_assoc, refl, sym, ap, ap₂, ◌∙◌, subst, inl, inr, arith, ◌==◌}
+use Rattle.std.proofs.Common.{◌≡◌, ℕ, zero, suc, ◌+◌, ◌-◌, ◌<◌, ◌≤◌, min, true, ◌&&◌, nat_eq, ◌⊎◌, List, [], ◌∷◌, ◌++◌, map, length, get_or, take, drop, add-one, Option, Some, None, append_assoc, refl, sym, ap, ap₂, ◌∙◌, subst, inl, inr, arith, ◌==◌}
 use Rattle.std.specs.List.{AllZip, slice_get}
 use Rattle.std.proofs.lemmas.Bool.{and_parts, lt-ltb}
 use Rattle.std.proofs.lemmas.List.{append-nil, length-map, nil_from_length, take-append-drop}
-use Rattle.volume_model.specs.Common.{IsIn, added, every, Redo, spelling, numbers_before, last_lsn, record_at, of_group, with_record}
+use Rattle.volume_model.specs.Common.{IsIn, added, every, Redo, spelling, numbers_before, last_lsn, record_at, of_group}
 use Rattle.volume_model.proofs.Basics.{IsIn-added, IsIn-append_right}
 use Rattle.volume_model.proofs.Chains.{record_at-some, record_at-there}
 use Rattle.redo_record.specs.declared.shared_record.SharedRecord.{SharedRecord}
@@ -17,6 +17,7 @@ use Rattle.writer_core.specs.Logs.{log_of, log_of_set, is_growing}
 use Rattle.writer_core.specs.declared.log.Log.{Log}
 use Rattle.writer_core.proofs.Growing.{both}
 use Rattle.writer_core.proofs.Finding.{in-added, record_at-in, record_at-none}
+use Rattle.std.proofs.lemmas.Grind.{common_steps}
 
 -- ---- the records of a set
 
@@ -44,9 +45,7 @@ older-grows (r ∷ rs) kept h = (both (last_lsn kept) r.lsn (is_growing kept) (o
 -- and from each of them on
 front-grows : (newer kept : List Redo) → is_growing (newer ++ kept) ≡ true → is_growing newer ≡ true
 front-grows [] kept h = refl
-front-grows (r ∷ []) kept h =
-    let (above, rest) = both (last_lsn kept) r.lsn (is_growing kept) h in
-    ap (λ b. b && true) (lt-ltb 0 r.lsn (omega arith))
+front-grows (r ∷ []) kept h = grind (arith, common_steps)
 front-grows (r ∷ s ∷ newer) kept h =
     let (above, rest) = both s.lsn r.lsn (is_growing (s ∷ newer ++ kept)) h in
     ap₂ (λ a b. a && b) (lt-ltb s.lsn r.lsn above) (front-grows (s ∷ newer) kept rest)
@@ -69,9 +68,7 @@ pub growing-same : (records : List Redo) → is_growing (added records []) ≡ t
 growing-same records g n = go (record_at records n) refl
   where
     go : (found : Option Redo) → record_at records n ≡ found → record_at (added records []) n ≡ record_at records n
-    go (Some r) found =
-        let (i, e) = record_at-some records n r found in
-        subst (λ m. record_at (added records []) m ≡ Some r) e (record_at-in (added records []) g r (in-added records [] r (inl i))) ∙ sym found
+    go (Some r) found = grind (arith, common_steps, record_at-some, Some, record_at-in, in-added, (record_at-some records n r found), (Some r))
     go None found =
         record_at-none (added records []) n (λ r i e. elim (IsIn-added records [] r i) [
           | inl j ↦ (let (s, there) = record_at-there records r j in apart s (sym (subst (λ m. record_at records m ≡ Some s) e there) ∙ found))
@@ -94,12 +91,7 @@ module _ (xs ys : List SharedRecord) (grows : is_growing (log_of (xs ++ ys)) ≡
   at-found r found = let (i, e) = record_at-some (log_of xs) n r found in at-whole r (in-whole r (inr i)) e
 
   missing : (log : List Redo) → record_at log n ≡ None → (r : Redo) → IsIn r log → r.lsn ≡ n → ⊥
-  missing log none r i e =
-      let (s, found) = record_at-there log r i in
-      apart s (sym (subst (λ m. record_at log m ≡ Some s) e found) ∙ none)
-    where
-      apart : (s : Redo) → Some s ≡ None → ⊥
-      apart s h = cc
+  missing log none r i e = grind (arith, common_steps, record_at-there, Some, None)
 
   of-issued : (r : Redo) → IsIn r (log_of ys) → IsIn r (map shared_redo ys)
   of-issued r i = elim (IsIn-added (map shared_redo ys) [] r i) [ inl j ↦ j | inr j ↦ absurd j ]
@@ -123,20 +115,14 @@ module _ (xs ys : List SharedRecord) (grows : is_growing (log_of (xs ++ ys)) ≡
 pub taken-behind : (xs ys : List SharedRecord) (n : ℕ) → length xs ≤ n → xs ++ take (n - length xs) ys ≡ take n (xs ++ ys)
 taken-behind [] ys n h = (let whole : n - 0 ≡ n = omega arith in ap (λ m. take m ys) whole)
 taken-behind (x ∷ xs) ys zero h = absurd (omega arith)
-taken-behind (x ∷ xs) ys (suc n) h =
-    let fewer : suc n - length (x ∷ xs) ≡ n - length xs = omega arith in
-    ap (λ m. x ∷ xs ++ take m ys) fewer ∙ ap (λ (ps : List SharedRecord). x ∷ ps) (taken-behind xs ys n (omega arith))
+taken-behind (x ∷ xs) ys (suc n) h = grind (arith, common_steps, (taken-behind xs ys n (omega arith)))
 
 pub taken-grows : (packets : List SharedRecord) (n : ℕ) → is_growing (log_of packets) ≡ true → is_growing (log_of (take n packets)) ≡ true
 taken-grows packets n h = found-grows (take n packets) (drop n packets) (subst (λ (ps : List SharedRecord). is_growing (log_of ps) ≡ true) (sym (take-append-drop n packets)) h)
 
 -- the clones of both lists
 pub joined-copied : (set other : RecordSet) (ys zs : List SharedRecord) → records_of other ≡ records_of set → AllZip IsCopy ys zs → log_of (packets_of other ++ zs) ≡ log_of (packets_of set ++ ys)
-joined-copied set other ys zs same copied =
-    log_of-append (packets_of other) zs
-    ∙ ap (λ (rs : List Redo). added rs (log_of (packets_of other))) (redos-copied ys zs copied)
-    ∙ ap (added (map shared_redo ys)) (log_of-set other ∙ ap (λ (rs : List Redo). added rs []) same ∙ sym (log_of-set set))
-    ∙ sym (log_of-append (packets_of set) ys)
+joined-copied set other ys zs same copied = grind (arith, common_steps, log_of-append, redos-copied, log_of-set)
 
 -- how many packets a set has
 pub length-set : (set : RecordSet) → length (packets_of set) ≡ length (records_of set)
@@ -161,8 +147,7 @@ all-of : (group : ℕ) (rs older kept : List Redo) → of_group group older ≡ 
 all-of group [] older kept is order all = is ∙ sym (append-nil kept)
 all-of group (r ∷ rs) older kept is order all =
     let parts : (nat_eq r.group group ≡ true) × (every (λ s. s.group == group) rs ≡ true) = and_parts _ _ all in
-    let one : of_group group (r ∷ older) ≡ kept ++ r ∷ [] =
-    ap (λ b. if b then with_record r (of_group group older) else of_group group older) parts.0 ∙ ap (with_record r) is ∙ with_record-after r kept (before-here kept r rs order) in
+    let one : of_group group (r ∷ older) ≡ kept ++ r ∷ [] = grind (arith, common_steps, with_record-after, before-here) in
     let split : (kept ++ r ∷ []) ++ rs ≡ kept ++ r ∷ rs = append_assoc kept (r ∷ []) rs in
     all-of group rs (r ∷ older) (kept ++ r ∷ []) one (subst IsOrdered (sym split) order) parts.1 ∙ split
 
@@ -220,10 +205,6 @@ last-shown (s ∷ t ∷ records) kept r e =
 pub last-of_set : (set : RecordSet) (ys : List SharedRecord) (r : Redo) → length ys ≤ 0 → Some r ≡ slice_get (records_of set) (length (records_of set) - 1) → r.lsn ≡ last_lsn (log_of (packets_of set ++ ys))
 last-of_set set [] r none e = last-shown (records_of set) [] r e ∙ ap last_lsn (sym (ap log_of (append-nil (packets_of set)) ∙ log_of-set set))
 last-of_set set (y ∷ ys) r none e = absurd (omega arith)
-
-pub last-of_none : (set : RecordSet) (ys : List SharedRecord) → length ys ≤ 0 → records_of set ≡ [] → 0 ≡ last_lsn (log_of (packets_of set ++ ys))
-last-of_none set [] none e = ap last_lsn (sym (ap log_of (append-nil (packets_of set)) ∙ log_of-set set ∙ ap (λ (rs : List Redo). added rs []) e))
-last-of_none set (y ∷ ys) none e = absurd (omega arith)
 
 pub last-behind : (xs ys : List SharedRecord) (k : ℕ) (p : SharedRecord) → length ys ≡ k + 1 → p ≡ get_or ys k p → (shared_redo p).lsn ≡ last_lsn (log_of (xs ++ ys))
 last-behind xs ys k p many is = last-added ys (log_of xs) k p many is ∙ ap last_lsn (sym (log_of-append xs ys))

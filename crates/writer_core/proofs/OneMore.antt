@@ -1,12 +1,10 @@
 -- One record more of a transaction.
-use Rattle.std.proofs.Common.{◌≡◌, ℕ, zero, suc, ◌+◌, ◌<◌, ◌≤◌, ◌^◌, Bool, true, ◌&&◌, nat_lt, nat_le, nat_eq, List, [], ◌∷◌, ◌++◌, max, length, drop, get_or, take, refl, sym, ap, ap₂, ◌∙◌, arith, drop-cons, add-one, length-drop}
-use Rattle.std.proofs.lemmas.Bool.{and_parts, ltb-true, leb-true}
+use Rattle.std.proofs.Common.{◌≡◌, ℕ, zero, suc, ◌+◌, ◌<◌, ◌≤◌, ◌^◌, true, nat_eq, List, [], ◌∷◌, ◌++◌, max, length, drop, get_or, take, refl, sym, ap, ap₂, ◌∙◌, arith, drop-cons, add-one}
 use Rattle.std.proofs.lemmas.List.{take-append-le, length-take}
 use Rattle.std.proofs.lemmas.Bool.Decides.{nat_tests}
 use Rattle.volume_model.specs.Common.{every, last_lsn, record_of, is_last, issued_log, issued_writes, is_change}
 use Rattle.volume_model.specs.Message as model
 use Rattle.volume_model.specs.Client as client
-use Rattle.volume_model.specs.ClientWriter as model_writer
 use Rattle.redo_record.specs.declared.shared_record.SharedRecord.{SharedRecord}
 use Rattle.redo_record.specs.Common.{shared_redo}
 use Rattle.wire.specs.declared.message.Message.{Message}
@@ -15,16 +13,14 @@ use Rattle.writer_core.specs.declared.change.Change.{Change}
 use Rattle.writer_core.specs.Logs.{log_of}
 use Rattle.writer_core.specs.Changes.{change_of, changes_of}
 use Rattle.writer_core.proofs.Logs.{log_of-push}
+use Rattle.std.proofs.lemmas.Grind.{common_steps}
+use Rattle.std.proofs.Common.{rules}
 
 last_here : (changes : List Change) (i : ℕ) → i < length changes → nat_eq (i + 1) (length changes) ≡ is_last (changes_of (drop (i + 1) changes))
 last_here [] i h = absurd (omega arith)
 last_here (x ∷ []) zero h = refl
 last_here (x ∷ y ∷ ys) zero h = grind (arith, nat_tests)
-last_here (x ∷ xs) (suc i) h =
-    let inner : nat_eq (i + 1) (length xs) ≡ is_last (changes_of (drop (i + 1) xs)) = last_here xs i (omega arith) in
-    let e : suc i + 1 ≡ suc (i + 1) = omega arith in
-    let f : nat_eq (suc (i + 1)) (suc (length xs)) ≡ nat_eq (i + 1) (length xs) = grind (arith, nat_tests) in
-    rw e (f ∙ inner)
+last_here (x ∷ xs) (suc i) h = search (rules, nat_eq, nat_tests, (last_here xs i (omega arith)))
 
 -- the change at hand, before the rest
 here_is : (changes : List Change) (i : ℕ) (change : Change) → i < length changes → change ≡ get_or changes i change → changes_of (drop i changes) ≡ change_of change ∷ changes_of (drop (i + 1) changes)
@@ -34,20 +30,6 @@ here_is changes i change within is = ap changes_of (drop-cons changes i change w
 pub record IsGood (groups : ℕ) (change : Change) : Type 0 where
   pub group : (change_of change).group < groups
   pub place : (change_of change).offset + length (change_of change).bytes ≤ 512
-
--- the change at hand is a good one
-pub good_here : (groups : ℕ) (changes : List Change) (i : ℕ) (change : Change) → i < length changes → change ≡ get_or changes i change → every (is_change groups) (changes_of (drop i changes)) ≡ true → IsGood groups change
-good_here groups changes i change within is h =
-    let it : model_writer.Change = change_of change in
-    let good : (is_change groups (change_of change) && every (is_change groups) (changes_of (drop (i + 1) changes))) ≡ true = sym (ap (every (is_change groups)) (here_is changes i change within is)) ∙ h in
-    let a = and_parts (is_change groups (change_of change)) (every (is_change groups) (changes_of (drop (i + 1) changes))) good in
-    let b = and_parts (nat_lt it.group groups) (nat_le 1 (length it.bytes) && (nat_le (length it.bytes) 64 && nat_le (it.offset + length it.bytes) 512)) a.0 in
-    let c = and_parts (nat_le 1 (length it.bytes)) (nat_le (length it.bytes) 64 && nat_le (it.offset + length it.bytes) 512) b.1 in
-    let d = and_parts (nat_le (length it.bytes) 64) (nat_le (it.offset + length it.bytes) 512) c.1 in
-    record {
-      group = ltb-true it.group groups b.0;
-      place = leb-true (it.offset + length it.bytes) 512 d.1;
-    }
 
 module _ (volume start : ℕ) (places : ℕ → model.Place) (changes : List Change) (i : ℕ) (change : Change) (within : i < length changes) (is : change ≡ get_or changes i change) (records : List SharedRecord) (p : SharedRecord) (made : shared_redo p ≡ record_of volume start (log_of records) (change_of change) (nat_eq (i + 1) (length changes))) where
   pub rest_is : changes_of (drop i changes) ≡ change_of change ∷ changes_of (drop (i + 1) changes)
@@ -63,20 +45,13 @@ module _ (volume start : ℕ) (places : ℕ → model.Place) (changes : List Cha
   logged_on = ap (issued_log volume start (changes_of (drop (i + 1) changes))) log_is ∙ sym (ap (λ cs. issued_log volume start cs (log_of records)) rest_is)
 
   pub written_on : (m : model.Message) → m ≡ model.Message.Write (change_of change).group (client.label_of volume places (change_of change).group) (shared_redo p) → m ∷ issued_writes volume places start (changes_of (drop (i + 1) changes)) (log_of (records ++ p ∷ [])) ≡ issued_writes volume places start (changes_of (drop i changes)) (log_of records)
-  written_on m e =
-      ap₂ (λ x l. x ∷ issued_writes volume places start (changes_of (drop (i + 1) changes)) l) (e ∙ ap (model.Message.Write (change_of change).group (client.label_of volume places (change_of change).group)) record_is) log_is
-      ∙ sym (ap (λ cs. issued_writes volume places start cs (log_of records)) rest_is)
+  written_on m e = grind (arith, common_steps, record_is, log_is, rest_is)
 
   pub room_on : max (last_lsn (log_of records)) start + length (drop i changes) ≤ 2 ^ 62 → max (last_lsn (log_of (records ++ p ∷ []))) start + length (drop (i + 1) changes) ≤ 2 ^ 62
-  room_on h =
-      let lsn : (shared_redo p).lsn ≡ suc (max (last_lsn (log_of records)) start) = ap (λ s. s.lsn) record_is in
-      rw (log_of-push records p, lsn) (omega (arith, length-drop {A = Change}))
+  room_on h = grind (arith, common_steps)
 
   pub good_on : (groups : ℕ) → every (is_change groups) (changes_of (drop i changes)) ≡ true → (is_change groups (change_of change) ≡ true) × (every (is_change groups) (changes_of (drop (i + 1) changes)) ≡ true)
-  good_on groups h = parts _ _ (sym (ap (every (is_change groups)) rest_is) ∙ h)
-    where
-      parts : (a b : Bool) → (a && b) ≡ true → (a ≡ true) × (b ≡ true)
-      parts a b e = grind (arith, nat_tests)
+  good_on groups h = grind (arith, common_steps)
 
 pub front_on : {A : Type 0} (records : List A) (p : A) (front : List A) → take (length front) records ≡ front → take (length front) (records ++ p ∷ []) ≡ front
 front_on records p front e =

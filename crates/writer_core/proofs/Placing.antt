@@ -1,32 +1,25 @@
 -- Groups whose points are raised, and where they stand.
-use Rattle.std.proofs.Common.{◌≡◌, ℕ, zero, suc, ◌+◌, ◌-◌, ◌<◌, ◌≤◌, Bool, true, false, List, [], ◌∷◌, ◌++◌, length, drop, take, get_or, ◌⊎◌, inl, inr, refl, sym, ap, ap₂, ◌∙◌, arith, subst, drop-cons, add-one, append_assoc, append-nil, max, map, slice_set, replicate, Result, Ok, Err, OnOk, OnErr, Vec}
+use Rattle.std.proofs.Common.{◌≡◌, ℕ, zero, suc, ◌+◌, ◌-◌, ◌<◌, ◌≤◌, Bool, true, false, List, [], ◌∷◌, ◌++◌, length, drop, take, get_or, ◌⊎◌, inl, inr, refl, sym, ap, ◌∙◌, arith, subst, append-nil, max, map, slice_set, replicate, Result, Ok, Err, OnOk, OnErr, Vec}
 use Rattle.std.specs.Vec.{with_items}
-use Rattle.std.proofs.lemmas.List.{length-map, length-set, length_push, replicate_more, drop_all, map-append, map-set, take-append-drop, take_more_set, drop-set-lt, with_items_is}
+use Rattle.std.proofs.lemmas.List.{length-map, length-set, drop_all, map-append, map-set, take-append-drop, with_items_is}
 use Rattle.wire.specs.declared.label.Place.{Place}
 use Rattle.wire.specs.Message as wire
 use Rattle.volume_model.specs.Common.{every_below, place_in, Plan, ClientGroup, no_group, group_of, place_of, newly_at, raised_group, raised_from, with_places, later_group, reread_group, is_later, are_places}
 use Rattle.volume_model.specs.Message as model
 use Rattle.volume_model.proofs.Basics.{every_below-all}
-use Rattle.volume_model.proofs.Groups.{length-slice_set, group_of-beyond, length-with_places, group_of-with_places}
+use Rattle.volume_model.proofs.Groups.{group_of-beyond, length-with_places, group_of-with_places}
 use Rattle.volume_model.proofs.Views.{place_in-beyond}
-use Rattle.std.proofs.lemmas.Bool.{cases_Bool, cases_lt, and_parts, ltb-true}
+use Rattle.std.proofs.lemmas.Bool.{cases_Bool, cases_lt}
 use Rattle.writer_core.proofs.Below.{below-fails, is_place, places-parts}
 use Rattle.writer_core.specs.declared.group_state.GroupState.{GroupState}
 use Rattle.writer_core.specs.GroupStates.{group_at, groups_of, ArePlaced}
+use Rattle.std.proofs.lemmas.Grind.{common_steps}
 
 -- ---- places
 
-places-set : (groups : List ClientGroup) (i k : ℕ) (g : ClientGroup) → g.place ≡ place_of groups i → place_of (slice_set groups i g) k ≡ place_of groups k
-places-set [] i k g e = refl
-places-set (x ∷ xs) zero zero g e = e
-places-set (x ∷ xs) zero (suc k) g e = refl
-places-set (x ∷ xs) (suc i) zero g e = refl
-places-set (x ∷ xs) (suc i) (suc k) g e = places-set xs i k g e
-
 -- a group that stays where it stood
 pub placed-set : (plan : Plan) (groups : List ClientGroup) (i : ℕ) (g : ClientGroup) → g.place ≡ place_of groups i → ArePlaced plan groups → ArePlaced plan (slice_set groups i g)
-placed-set plan groups i g e placed k h =
-    subst (λ (place : model.Place). place.configuration < plan.configurations k) (sym (places-set groups i k g e)) (placed k (subst (λ n. k < n) (length-slice_set groups i g) h))
+placed-set plan groups i g e placed k h = grind (arith, common_steps)
 
 -- ---- the group at hand
 
@@ -40,15 +33,7 @@ group-is (x ∷ xs) (suc i) s h is = group-is xs i s (omega arith) is
 pub raised-more : (plan : Plan) (group_states : List GroupState) (i : ℕ) (s t : GroupState) (whole : List ClientGroup) → i < length group_states → s ≡ get_or group_states i s → group_at t ≡ raised_group plan i (group_at s)
     → groups_of (take i group_states) ++ raised_from plan i (groups_of (drop i group_states)) ≡ whole
     → groups_of (take (i + 1) (slice_set group_states i t)) ++ raised_from plan (i + 1) (groups_of (drop (i + 1) (slice_set group_states i t))) ≡ whole
-raised-more plan group_states i s t whole h is raised before =
-    let later = raised_from plan (i + 1) (groups_of (drop (i + 1) group_states)) in
-    ap₂ (λ a b. groups_of a ++ raised_from plan (i + 1) (groups_of b)) (take_more_set group_states i t h) (drop-set-lt (i + 1) group_states i t (omega arith))
-    ∙ ap (λ gs. gs ++ later) (map-append group_at (take i group_states) (t ∷ []))
-    ∙ append_assoc (groups_of (take i group_states)) (group_at t ∷ []) later
-    ∙ ap (λ g. groups_of (take i group_states) ++ g ∷ later) raised
-    ∙ ap (λ n. groups_of (take i group_states) ++ raised_group plan i (group_at s) ∷ raised_from plan n (groups_of (drop (i + 1) group_states))) (add-one i)
-    ∙ ap (λ l. groups_of (take i group_states) ++ raised_from plan i l) (sym (ap groups_of (drop-cons group_states i s h) ∙ ap₂ (λ x n. group_at x ∷ groups_of (drop n group_states)) (sym is) (sym (add-one i))))
-    ∙ before
+raised-more plan group_states i s t whole h is raised before = grind (arith, common_steps)
 
 -- ---- one group is changed
 
@@ -61,10 +46,7 @@ set-same (x ∷ xs) (suc i) s t is same = ap (λ gs. group_at x ∷ gs) (set-sam
 -- what stands in the place of a group that is changed
 pub changed : (f : ClientGroup → ClientGroup) (group_states : List GroupState) (i j : ℕ) (s t : GroupState) → i < length group_states → s ≡ get_or group_states i s → i ≡ j → group_at t ≡ f (group_at s)
     → groups_of (slice_set group_states i t) ≡ slice_set (groups_of group_states) j (f (group_of (groups_of group_states) j))
-changed f group_states i j s t within is same e =
-    map-set group_at group_states i t
-    ∙ ap (slice_set (groups_of group_states) i) (e ∙ ap f (sym (group-is group_states i s within is)))
-    ∙ ap (λ k. slice_set (groups_of group_states) k (f (group_of (groups_of group_states) k))) same
+changed f group_states i j s t within is same e = grind (arith, common_steps, map-set, slice_set, group-is)
 
 pub changed-ok : {A B : Type 0} (r : Result A B) (f : ClientGroup → ClientGroup) (group_states : List GroupState) (i j : ℕ) (s t : GroupState) → i < length group_states → s ≡ get_or group_states i s → i ≡ j → OnOk r (group_at t ≡ f (group_at s))
     → OnOk r (groups_of (slice_set group_states i t) ≡ slice_set (groups_of group_states) j (f (group_of (groups_of group_states) j)))
@@ -78,9 +60,7 @@ changed-err (Err x) group_states i s t within is e = set-same group_states i s t
 
 -- a group that stays where it stood
 pub changed-placed : (plan : Plan) (group_states : List GroupState) (i : ℕ) (s t : GroupState) → i < length group_states → s ≡ get_or group_states i s → t.place ≡ s.place → ArePlaced plan (groups_of group_states) → ArePlaced plan (groups_of (slice_set group_states i t))
-changed-placed plan group_states i s t within is stays placed =
-    let here : (group_at t).place ≡ place_of (groups_of group_states) i = ap wire.place_of stays ∙ sym (ap (λ (g : ClientGroup). g.place) (group-is group_states i s within is)) in
-    subst (ArePlaced plan) (sym (map-set group_at group_states i t)) (placed-set plan (groups_of group_states) i (group_at t) here placed)
+changed-placed plan group_states i s t within is stays placed = grind (arith, common_steps, group-is, map-set, placed-set)
 
 -- no group more
 pub changed-within : (most : ℕ) (group_states : List GroupState) (i : ℕ) (t : GroupState) → length group_states ≤ most → length (slice_set group_states i t) ≤ most
@@ -91,12 +71,7 @@ changed-within most group_states i t few = subst (λ n. n ≤ most) (sym (length
 -- one more that stands nowhere yet
 pub taken-up : (initial now next : List GroupState) (s : GroupState) → length initial ≤ length now → next ≡ now ++ s ∷ [] → group_at s ≡ no_group
     → groups_of now ≡ groups_of initial ++ replicate (length now - length initial) no_group → groups_of next ≡ groups_of initial ++ replicate (length next - length initial) no_group
-taken-up initial now next s within is none before =
-    let longer : length next ≡ length now + 1 = ap length is ∙ length_push now s in
-    let many : (length now - length initial) + 1 ≡ length next - length initial = omega arith in
-    ap groups_of is ∙ map-append group_at now (s ∷ []) ∙ ap₂ (λ gs g. gs ++ g ∷ []) before none
-    ∙ append_assoc (groups_of initial) (replicate (length now - length initial) no_group) (no_group ∷ [])
-    ∙ ap (λ l. groups_of initial ++ l) (replicate_more (length now - length initial) no_group ∙ ap (λ n. replicate n no_group) many)
+taken-up initial now next s within is none before = grind (arith, common_steps)
 
 -- ---- whole read sets and write sets
 
@@ -125,9 +100,7 @@ reread-moves g p = elim (cases_Bool (is_later g.place p)) [ inl e ↦ inr (rw e 
 -- all that have a place are moved to it
 pub moved-all : (move : ClientGroup → model.Place → ClientGroup) (group_states : List GroupState) (places : List Place) (i : ℕ) (whole : List ClientGroup) → length places ≤ i
     → groups_of (take i group_states) ++ with_places move (groups_of (drop i group_states)) (map wire.place_of (drop i places)) ≡ whole → groups_of group_states ≡ whole
-moved-all move group_states places i whole end h =
-    sym (ap groups_of (take-append-drop i group_states)) ∙ map-append group_at (take i group_states) (drop i group_states)
-    ∙ ap (λ ps. groups_of (take i group_states) ++ with_places move (groups_of (drop i group_states)) (map wire.place_of ps)) (sym (drop_all i places end)) ∙ h
+moved-all move group_states places i whole end h = grind (arith, common_steps, (take-append-drop i group_states), (map-append group_at (take i group_states) (drop i group_states)), (drop_all i places end))
 
 -- a group that was taken up beforehand is moved as one that is new
 with_places-taken : (move : ClientGroup → model.Place → ClientGroup) (groups : List ClientGroup) (places : List model.Place) (n : ℕ) → n ≡ length places - length groups → with_places move (groups ++ replicate n no_group) places ≡ with_places move groups places
@@ -150,9 +123,7 @@ moved-items move old extended slice moved places more value is same =
 
 -- each place is one of a configuration
 place-good : (plan : Plan) (places : List model.Place) → are_places plan places ≡ true → (k : ℕ) → k < length places → (place_in places k).configuration < plan.configurations k
-place-good plan places h k within =
-    let good : is_place plan places k ≡ true = every_below-all (length places) (is_place plan places) (places-parts plan places h).2 k within in
-    ltb-true (place_in places k).configuration (plan.configurations k) (and_parts _ _ good).0
+place-good plan places h k within = grind (arith, common_steps, (is_place plan places k ≡ true), (is_place plan places), (every_below-all (length places) (is_place plan places) (places-parts plan places h).2 k within), (places-parts plan places h))
 
 -- no more places than the plan has groups
 pub places-within : (plan : Plan) (places : List model.Place) → are_places plan places ≡ true → length places ≤ plan.groups
@@ -160,12 +131,7 @@ places-within plan places h = (places-parts plan places h).1
 
 -- groups that are moved are no more than the plan has
 pub moved-within : (plan : Plan) (move : ClientGroup → model.Place → ClientGroup) (old moved : List GroupState) (places : List model.Place) → length old ≤ plan.groups → are_places plan places ≡ true → groups_of moved ≡ with_places move (groups_of old) places → length moved ≤ plan.groups
-moved-within plan move old moved places few good is =
-    let wide : length places ≤ plan.groups = places-within plan places good in
-    let many : length (groups_of moved) ≡ max (length (groups_of old)) (length places) = ap length is ∙ length-with_places move (groups_of old) places in
-    let before : length (groups_of old) ≡ length old = length-map old group_at in
-    let after : length (groups_of moved) ≡ length moved = length-map moved group_at in
-    omega arith
+moved-within plan move old moved places few good is = grind (arith, common_steps, places-within, max, length-with_places, length-map)
 
 -- epoch 0 at the root, where a group stands that the client doesn't have
 abbrev nowhere : model.Place
@@ -173,28 +139,7 @@ nowhere = record { configuration = 0; epoch = 0 }
 
 -- groups that are moved to places of the plan
 pub with_places-placed : (plan : Plan) (move : ClientGroup → model.Place → ClientGroup) → MovesOn move → ((g : ClientGroup) → move g nowhere ≡ g) → (groups : List ClientGroup) (places : List model.Place) → are_places plan places ≡ true → ArePlaced plan groups → ArePlaced plan (with_places move groups places)
-with_places-placed plan move on same groups places good placed k h =
-    let at : group_of (with_places move groups places) k ≡ move (group_of groups k) (place_in places k) = group_of-with_places move same groups places k in
-    let within : k < max (length groups) (length places) = subst (λ n. k < n) (length-with_places move groups places) h in
-    elim (cases_lt k (length places)) [
-      | inl there ↦ fits (ap (λ (g : ClientGroup). g.place) at) there
-      | inr beyond ↦ (
-          let stays : group_of (with_places move groups places) k ≡ group_of groups k = at ∙ ap (move (group_of groups k)) (place_in-beyond places k beyond) ∙ same (group_of groups k) in
-          subst (λ (g : ClientGroup). g.place.configuration < plan.configurations k) (sym stays) (placed k (omega arith)))
-    ]
-  where
-    fits : place_of (with_places move groups places) k ≡ (move (group_of groups k) (place_in places k)).place → k < length places → (place_of (with_places move groups places) k).configuration < plan.configurations k
-    fits at there =
-        let fit : (place_in places k).configuration < plan.configurations k = place-good plan places good k there in
-        elim (on (group_of groups k) (place_in places k)) [
-          | inl e ↦ elim (cases_lt k (length groups)) [
-            | inl old ↦ subst (λ (p : model.Place). p.configuration < plan.configurations k) (sym (at ∙ e)) (placed k old)
-            | inr new ↦ (
-                let none : place_of groups k ≡ nowhere = ap (λ (g : ClientGroup). g.place) (group_of-beyond groups k new) in
-                subst (λ (p : model.Place). p.configuration < plan.configurations k) (sym (at ∙ e ∙ none)) (omega arith))
-          ]
-          | inr e ↦ subst (λ (p : model.Place). p.configuration < plan.configurations k) (sym (at ∙ e)) fit
-        ]
+with_places-placed plan move on same groups places good placed k h = grind (arith, common_steps, group_of-with_places, max, length-with_places, cases_lt, place_in-beyond, place-good, nowhere, group_of-beyond)
 
 pub new-place : (places : List model.Place) (k : ℕ) → k < length places → place_of (map newly_at places) k ≡ place_in places k
 new-place [] k h = absurd (omega arith)
@@ -203,6 +148,4 @@ new-place (p ∷ places) (suc k) h = new-place places k (omega arith)
 
 -- groups that a client finds at places of the plan
 pub found-placed : (plan : Plan) (places : List model.Place) → are_places plan places ≡ true → ArePlaced plan (map newly_at places)
-found-placed plan places good k h =
-    let within : k < length places = subst (λ n. k < n) (length-map places newly_at) h in
-    subst (λ (p : model.Place). p.configuration < plan.configurations k) (sym (new-place places k within)) (place-good plan places good k within)
+found-placed plan places good k h = grind (arith, common_steps, length-map, new-place, place-good)

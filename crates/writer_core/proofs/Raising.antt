@@ -1,13 +1,14 @@
 -- The point of one group is raised, where those of the others are raised already.
 use Rattle.std.proofs.Common.{◌≡◌, ℕ, zero, suc, ◌+◌, ◌<◌, ◌≤◌, Bool, true, false, ◌||◌, ◌==◌, max, List, [], ◌∷◌, length, refl, sym, ap, ap₂, ◌∙◌, subst, inl, inr, arith, get_or-set_same, slice_set}
 use Rattle.std.proofs.lemmas.List.{set-set, set_past}
-use Rattle.std.proofs.lemmas.Bool.{cases_Bool, cases_lt, true≢false, eqb-true}
-use Rattle.volume_model.specs.Common.{IsIn, Formula, sat, Plan, Count, ClientGroup, no_group, group_of, group_point_of, place_configuration, reaching, best, counted_by, with_count, raised_group, raised_from, raised}
+use Rattle.std.proofs.lemmas.Bool.{cases_Bool, cases_lt, true≢false}
+use Rattle.volume_model.specs.Common.{IsIn, Formula, sat, Plan, Count, ClientGroup, group_of, group_point_of, place_configuration, reaching, best, counted_by, with_count, raised_group, raised_from, raised}
 use Rattle.volume_model.proofs.FormulaLaws.{sat_more}
 use Rattle.volume_model.proofs.Groups.{set-all, length-slice_set, group_of-beyond, group_of-raised, length-raised}
 use Rattle.volume_model.proofs.Points.{reaching-some, reaching-from}
 use Rattle.writer_core.specs.Raised.{counted_point, AreRaised, HaveJoined, raised_in}
-use Rattle.writer_core.specs.GroupStates.{counted_group, counted_in}
+use Rattle.writer_core.specs.GroupStates.{counted_in}
+use Rattle.std.proofs.lemmas.Grind.{common_steps}
 
 -- ---- what counts satisfy
 
@@ -15,11 +16,7 @@ use Rattle.writer_core.specs.GroupStates.{counted_group, counted_in}
 best-le : (write : Formula) (all list : List Count) (n : ℕ) → ((c : Count) → IsIn c list → n < c.reached → sat write (reaching all c.reached) ≡ false) → best write all list ≤ n
 best-le write all [] n h = omega arith
 best-le write all (c ∷ rest) n h =
-    let inner : best write all rest ≤ n = best-le write all rest n (λ d i. h d (inr i)) in
-    elim (cases_Bool (sat write (reaching all c.reached))) [
-      | inl e ↦ elim (cases_lt n c.reached) [ inl more ↦ absurd (true≢false (sym e ∙ h c (inl refl) more)) | inr less ↦ rw e (omega arith) ]
-      | inr e ↦ rw e (omega arith)
-    ]
+    grind (arith, common_steps, (best-le write all rest n (λ d i. h d (inr i))))
 
 best-above : (write : Formula) (all list : List Count) (n : ℕ) → best write all list ≤ n → (c : Count) → IsIn c list → n < c.reached → sat write (reaching all c.reached) ≡ false
 best-above write all [] n h c i more = absurd i
@@ -32,7 +29,6 @@ best-above write all (d ∷ rest) n h c i more =
             | inr j ↦ best-above write all rest n (omega arith) c j more
           ])
       | inr e ↦ (
-          let low : max 0 (best write all rest) ≤ n = rw e at h in
           elim i [
             | inl p ↦ ap (λ z. sat write (reaching all z.reached)) p ∙ e
             | inr j ↦ best-above write all rest n (omega arith) c j more
@@ -45,14 +41,7 @@ in-with_count [] sender reached c (inl p) more = absurd (let same : c.reached �
 in-with_count [] sender reached c (inr i) more = absurd i
 in-with_count (d ∷ rest) sender reached c i more =
     elim (cases_Bool (d.sender == sender)) [
-      | inl e ↦ elim (rw e at i) [
-        | inl p ↦ (
-            let same : c.reached ≡ max d.reached reached = ap (λ z. z.reached) p in
-            let kept : max d.reached reached ≡ d.reached = omega arith in
-            let who : sender ≡ d.sender = sym (eqb-true d.sender sender e) in
-            inl (p ∙ ap₂ (λ (s n : ℕ). record { sender = s; reached = n }) who kept))
-        | inr j ↦ inr j
-      ]
+      | inl e ↦ grind (arith, common_steps)
       | inr e ↦ elim (rw e at i) [ inl p ↦ inl p | inr j ↦ inr (in-with_count rest sender reached c j more) ]
     ]
 
@@ -62,16 +51,7 @@ best-counted write counts sender reached n low le =
     best-le write (with_count sender reached counts) (with_count sender reached counts) n fails
   where
     fails : (c : Count) → IsIn c (with_count sender reached counts) → n < c.reached → sat write (reaching (with_count sender reached counts) c.reached) ≡ false
-    fails c i more =
-        elim (cases_Bool (sat write (reaching (with_count sender reached counts) c.reached))) [
-          | inl e ↦ absurd (
-              let before : sat write (reaching counts c.reached) ≡ true =
-              sat_more write (reaching (with_count sender reached counts) c.reached) (reaching counts c.reached)
-              (λ y s. (let (other, j, q, l) = reaching-some (with_count sender reached counts) c.reached y s in reaching-from counts c.reached y other (in-with_count counts sender reached other j (omega (arith, le, more, l))) q l)) e in
-              let none : sat write (reaching counts c.reached) ≡ false = best-above write counts counts n low c (in-with_count counts sender reached c i (omega arith)) more in
-              true≢false (sym before ∙ none))
-          | inr e ↦ e
-        ]
+    fails c i more = grind (arith, common_steps, cases_Bool, sat_more, reaching-some, reaching-from, in-with_count, best-above, true≢false, (cases_Bool (sat write (reaching (with_count sender reached counts) c.reached))), (in-with_count counts sender reached c i (omega arith)), (best-above write counts counts n low c (in-with_count counts sender reached c i (omega arith)) more))
 
 -- ---- groups that are raised already
 
@@ -79,20 +59,9 @@ best-counted write counts sender reached n low le =
 abbrev HasJoined : Plan → ℕ → ClientGroup → Type 0
 HasJoined plan number g = sat (place_configuration plan number g.place).write (counted_by g.counts) ≡ true → g.joined ≡ true
 
-or-same : (a b : Bool) → (b ≡ true → a ≡ true) → (a || b) ≡ a
-or-same true b h = refl
-or-same false true h = sym (h refl)
-or-same false false h = refl
-
 or-right : (a b : Bool) → b ≡ true → (a || b) ≡ true
 or-right true b h = refl
 or-right false b h = h
-
--- a group whose point is raised already, and that has joined if it may
-raised_group-same : (plan : Plan) (number : ℕ) (g : ClientGroup) → counted_point plan number g ≤ g.group_point → HasJoined plan number g → raised_group plan number g ≡ g
-raised_group-same plan number g h j =
-    let same : max g.group_point (counted_point plan number g) ≡ g.group_point = omega arith in
-    ap₂ (λ (n : ℕ) (b : Bool). record g { group_point = n; joined = b }) same (or-same g.joined (sat (place_configuration plan number g.place).write (counted_by g.counts)) j)
 
 -- from a number on
 abbrev AreRaisedFrom : Plan → ℕ → List ClientGroup → Type 0
@@ -110,17 +79,11 @@ raised_from-same plan n (g ∷ groups) h = ap₂ (λ (x : ClientGroup) xs. x ∷
 
 raised_from-set : (plan : Plan) (n : ℕ) (groups : List ClientGroup) (i : ℕ) (g : ClientGroup) → AreRaisedFrom plan n groups → raised_from plan n (slice_set groups i g) ≡ slice_set groups i (raised_group plan (n + i) g)
 raised_from-set plan n [] i g h = refl
-raised_from-set plan n (x ∷ xs) zero g h =
-    let e : n ≡ n + 0 = omega arith in
-    ap₂ (λ (y : ClientGroup) ys. y ∷ ys) (ap (λ m. raised_group plan m g) e) (raised_from-same plan (suc n) xs (rest_raised plan n x xs h))
-raised_from-set plan n (x ∷ xs) (suc i) g h =
-    let e : suc n + i ≡ n + suc i = omega arith in
-    ap₂ (λ (y : ClientGroup) ys. y ∷ ys) (first_raised plan n x xs h) (raised_from-set plan (suc n) xs i g (rest_raised plan n x xs h) ∙ ap (λ m. slice_set xs i (raised_group plan m g)) e)
+raised_from-set plan n (x ∷ xs) zero g h = grind (arith, common_steps, (raised_from-same plan (suc n) xs (rest_raised plan n x xs h)), (rest_raised plan n x xs h))
+raised_from-set plan n (x ∷ xs) (suc i) g h = grind (arith, common_steps, (raised_from-set plan (suc n) xs i g (rest_raised plan n x xs h)), (first_raised plan n x xs h), (rest_raised plan n x xs h))
 
 raised_at_all : (plan : Plan) (groups : List ClientGroup) → AreRaised plan groups → HaveJoined plan groups → AreRaisedFrom plan 0 groups
-raised_at_all plan groups h j k l =
-    let e : k ≡ 0 + k = omega arith in
-    subst (λ m. raised_group plan m (group_of groups k) ≡ group_of groups k) e (raised_group-same plan k (group_of groups k) (h k) (j k l))
+raised_at_all plan groups h j k l = grind (arith, common_steps)
 
 -- raising them again changes nothing
 pub raised-same : (plan : Plan) (groups : List ClientGroup) → AreRaised plan groups → HaveJoined plan groups → raised plan groups ≡ groups
@@ -128,18 +91,11 @@ raised-same plan groups h j = raised_from-same plan 0 groups (raised_at_all plan
 
 -- points that were raised
 pub are_raised : (plan : Plan) (groups : List ClientGroup) → AreRaised plan (raised plan groups)
-are_raised plan groups k = elim (cases_lt k (length groups)) [
-  | inl there ↦ subst (λ (g : ClientGroup). counted_point plan k g ≤ g.group_point) (sym (group_of-raised plan groups k there)) (omega arith)
-  | inr beyond ↦ (
-      let l : length (raised plan groups) ≡ length groups = length-raised plan groups in
-      subst (λ (g : ClientGroup). counted_point plan k g ≤ g.group_point) (sym (group_of-beyond (raised plan groups) k (omega arith))) (omega arith))
-]
+are_raised plan groups k = grind (arith, common_steps, cases_lt, group_of-raised, length-raised, group_of-beyond)
 
 -- groups that were raised have joined where they may
 pub have_joined : (plan : Plan) (groups : List ClientGroup) → HaveJoined plan (raised plan groups)
-have_joined plan groups k l =
-    let within : k < length groups = subst (λ n. k < n) (length-raised plan groups) l in
-    subst (HasJoined plan k) (sym (group_of-raised plan groups k within)) (or-right (group_of groups k).joined (sat (place_configuration plan k (group_of groups k).place).write (counted_by (group_of groups k).counts)))
+have_joined plan groups k l = grind (arith, common_steps, length-raised, HasJoined, group_of-raised, or-right)
 
 -- the same, of a plan and of groups that are these
 pub raised_all : (plan now : Plan) (groups next : List ClientGroup) → now ≡ plan → next ≡ raised plan groups → AreRaised now next
@@ -152,42 +108,24 @@ joined_all plan now groups next same rises = subst (λ p. HaveJoined p next) (sy
 
 -- where one group has changed, it alone is to be raised
 pub raised-set : (plan : Plan) (groups : List ClientGroup) (i : ℕ) (g : ClientGroup) → AreRaised plan groups → HaveJoined plan groups → raised_in plan (slice_set groups i g) i ≡ raised plan (slice_set groups i g)
-raised-set plan groups i g h j =
-    let e : 0 + i ≡ i = omega arith in
-    let whole : raised plan (slice_set groups i g) ≡ slice_set groups i (raised_group plan i g) =
-    raised_from-set plan 0 groups i g (raised_at_all plan groups h j) ∙ ap (λ m. slice_set groups i (raised_group plan m g)) e in
-    elim (cases_lt i (length groups)) [
-      | inl there ↦ ap (λ x. slice_set (slice_set groups i g) i (raised_group plan i x)) (get_or-set_same groups i g no_group there)
-          ∙ set-set groups i g (raised_group plan i g) ∙ sym whole
-      | inr beyond ↦ (
-          let many : length (slice_set groups i g) ≡ length groups = length-slice_set groups i g in
-          set_past (slice_set groups i g) i (raised_group plan i (group_of (slice_set groups i g) i)) (omega arith)
-          ∙ set_past groups i g beyond ∙ sym (set_past groups i (raised_group plan i g) beyond) ∙ sym whole)
-    ]
+raised-set plan groups i g h j = grind (arith, common_steps, slice_set, raised_from-set, raised_at_all, cases_lt, get_or-set_same, set-set, length-slice_set, set_past, (slice_set groups i g), (slice_set groups i (raised_group plan i g)), (raised_from-set plan 0 groups i g (raised_at_all plan groups h j)), (raised_at_all plan groups h j), (cases_lt i (length groups)))
 
 -- an acknowledgement was counted and its group raised: so all are
 pub raised-counted : (plan : Plan) (old now next : List ClientGroup) (group sender reached : ℕ) → AreRaised plan old → HaveJoined plan old → now ≡ counted_in old group sender reached → next ≡ raised_in plan now group → next ≡ raised plan (counted_in old group sender reached)
-raised-counted plan old now next group sender reached h j counts rises =
-    rises ∙ ap (λ groups. raised_in plan groups group) counts ∙ raised-set plan old group (counted_group (group_of old group) sender reached) h j
+raised-counted plan old now next group sender reached h j counts rises = grind (arith, common_steps, raised-set)
 
 -- an acknowledgement that isn't above its group's point leaves nothing to raise
 pub counted_raised : (plan : Plan) (groups : List ClientGroup) (group sender reached : ℕ) → AreRaised plan groups → reached ≤ group_point_of groups group → AreRaised plan (counted_in groups group sender reached)
-counted_raised plan groups group sender reached h le =
-    set-all no_group (λ k (g : ClientGroup). counted_point plan k g ≤ g.group_point) groups group (counted_group (group_of groups group) sender reached)
-    (best-counted (place_configuration plan group (group_of groups group).place).write (group_of groups group).counts sender reached (group_point_of groups group) (h group) le) h
+counted_raised plan groups group sender reached h le = grind (arith, common_steps, set-all, best-counted)
 
 -- one of a group that has joined leaves none to join
 pub counted_joined : (plan : Plan) (groups : List ClientGroup) (group sender reached : ℕ) → HaveJoined plan groups → (group_of groups group).joined ≡ true → HaveJoined plan (counted_in groups group sender reached)
-counted_joined plan groups group sender reached j there k l =
-    set-all no_group (λ k (g : ClientGroup). k < length groups → HasJoined plan k g) groups group (counted_group (group_of groups group) sender reached)
-    (λ within sets. there) j k (subst (λ n. k < n) (length-slice_set groups group (counted_group (group_of groups group) sender reached)) l)
+counted_joined plan groups group sender reached j there k l = grind (arith, common_steps)
 
 -- it raises no point
 pub group_point_of-counted_in : (groups : List ClientGroup) (group sender reached k : ℕ) → group_point_of (counted_in groups group sender reached) k ≡ group_point_of groups k
-group_point_of-counted_in groups group sender reached =
-    set-all no_group (λ g x. x.group_point ≡ group_point_of groups g) groups group (counted_group (group_of groups group) sender reached) refl (λ g. refl)
+group_point_of-counted_in groups group sender reached = grind (arith, common_steps)
 
 -- and lets no group join
 pub joined-counted_in : (groups : List ClientGroup) (group sender reached k : ℕ) → (group_of (counted_in groups group sender reached) k).joined ≡ (group_of groups k).joined
-joined-counted_in groups group sender reached =
-    set-all no_group (λ g x. x.joined ≡ (group_of groups g).joined) groups group (counted_group (group_of groups group) sender reached) refl (λ g. refl)
+joined-counted_in groups group sender reached = grind (arith, common_steps)

@@ -1,28 +1,15 @@
 -- The trees of the LSNs of blocks.
-use Rattle.std.proofs.Common.{◌≡◌, ◌≢◌, ℕ, zero, suc, ◌<◌, ◌%◌, Bool, true, false, ◌&&◌, nat_eq, List, [], ◌∷◌, ◌++◌, length, get_or, if◌then◌else◌, Some, cond, sym, ap, ◌∙◌, inl, inr, arith, refl, Option, slice_get, slice_set, unwrap_or}
+use Rattle.std.proofs.Common.{◌≡◌, ◌≢◌, ℕ, zero, suc, ◌<◌, ◌%◌, Bool, ◌&&◌, nat_eq, List, [], ◌∷◌, ◌++◌, length, get_or, if◌then◌else◌, Some, ap, ◌∙◌, arith, refl, slice_get, slice_set}
 use Rattle.std.specs.Ordering.{is_eq}
-use Rattle.std.specs.BTreeMap.{Updates, get}
+use Rattle.std.specs.BTreeMap.{Updates}
 use Rattle.std.proofs.lemmas.Bool.{cases_eq, ne_eqb}
-use Rattle.std.proofs.lemmas.Bool.Decides.{nat_tests}
 use Rattle.std.proofs.lemmas.Option.{slice_get_read}
 use Rattle.writer_core.specs.Kept.{Tree, block_cmp, lsn_in, lsn_under, PutsIn}
-
--- the order distinguishes two blocks by both numbers
-block-same : (a b c d : ℕ) → is_eq (block_cmp (b, a) (d, c)) ≡ (nat_eq a c && nat_eq b d)
-block-same a b c d = grind (arith, nat_tests)
-
--- a block's number, where another is put
-block-put : (test same : Bool) (found : Option ℕ) (lsn : ℕ) → test ≡ same → unwrap_or (cond test (Some lsn) found) 0 ≡ (if same then lsn else unwrap_or found 0)
-block-put true true found lsn e = refl
-block-put true false found lsn e = cc
-block-put false true found lsn e = cc
-block-put false false found lsn e = refl
+use Rattle.std.proofs.lemmas.Grind.{common_steps}
 
 -- the tree has a number at the block
 pub puts-some : (old : Tree) (group block lsn : ℕ) (new : Tree) → Updates block_cmp old new (block, group) (Some lsn) → PutsIn (lsn_in old) group block lsn (lsn_in new)
-puts-some old group block lsn new updates q b =
-    ap (λ (found : Option ℕ). unwrap_or found 0) (updates.0 (b, q))
-    ∙ block-put _ (nat_eq group q && nat_eq block b) (get block_cmp old (b, q)) lsn (block-same group block q b)
+puts-some old group block lsn new updates q b = grind (arith, common_steps)
 
 -- ---- several trees
 
@@ -57,18 +44,4 @@ in_tree xs i q b tree within is = ap (λ it. lsn_under it q b) (slice_get_read x
 -- a block's number is set in its tree
 pub puts-in_tree : (xs : List Tree) (n group block lsn : ℕ) (known : ℕ → ℕ → ℕ) (old new : Tree) → ((q b : ℕ) → lsn_under (slice_get xs (b % n)) q b ≡ known q b) → block % n < length xs → old ≡ get_or xs (block % n) old → PutsIn (lsn_in old) group block lsn (lsn_in new)
     → PutsIn known group block lsn (λ q b. lsn_under (slice_get (slice_set xs (block % n) new) (b % n)) q b)
-puts-in_tree xs n group block lsn known old new same within is puts q b = elim (cases_eq (b % n) (block % n)) [
-  | inl e ↦ (
-      let now : lsn_under (slice_get (slice_set xs (block % n) new) (b % n)) q b ≡ lsn_in new q b =
-      ap (λ i. lsn_under (slice_get (slice_set xs (block % n) new) i) q b) e ∙ ap (λ it. lsn_under it q b) (set_same xs (block % n) new within) in
-      let before : known q b ≡ lsn_in old q b =
-      sym (same q b) ∙ ap (λ i. lsn_under (slice_get xs i) q b) e ∙ in_tree xs (block % n) q b old within is in
-      now ∙ puts q b ∙ ap (λ k. if nat_eq group q && nat_eq block b then lsn else k) (sym before))
-  | inr m ↦ (
-      let apart : nat_eq block b ≡ false = ne_eqb block b (λ e. m (sym (ap (λ k. k % n) e))) in
-      ap (λ it. lsn_under it q b) (set_other xs (block % n) (b % n) new m) ∙ same q b ∙ sym (other (nat_eq group q) (nat_eq block b) lsn (known q b) apart))
-]
-  where
-    other : (one same : Bool) (lsn known : ℕ) → same ≡ false → (if one && same then lsn else known) ≡ known
-    other true same lsn known e = ap (λ t. if t then lsn else known) e
-    other false same lsn known e = refl
+puts-in_tree xs n group block lsn known old new same within is puts q b = grind (arith, common_steps, cases_eq, slice_set, set_same, in_tree, nat_eq, ne_eqb, set_other, Bool, ℕ, (cases_eq (b % n) (block % n)), (slice_set xs (block % n) new), (set_same xs (block % n) new within), (in_tree xs (block % n) q b old within is), (nat_eq group q && nat_eq block b))

@@ -1,16 +1,12 @@
-use Rattle.std.proofs.Common.{rules, ◌∙◌, ◌&&◌, nat_eq, if◌then◌else◌, ap, subst}
+use Rattle.std.proofs.Common.{nat_eq, subst}
 use Rattle.writer_core.specs.Kept.{Tree, lsn_in, PutsIn}
 use Rattle.writer_core.proofs.Trees.{puts-some}
 use Rattle.writer_core.proofs.block_lsns.put_in.Goals as goal
+use Rattle.std.proofs.lemmas.Grind.{common_steps}
+use Rattle.std.proofs.Common.{arith}
 
 pub returns-in-Some-clause-ok : goal.returns-in-Some-clause-ok
-returns-in-Some-clause-ok c q b =
-    let old = c.args.tree.now in
-    let group = c.args.place.1 in
-    let block = c.args.place.0 in
-    let last = c.replace.new.dest in
-    puts-some old group block last (c.get_mut.follows.lender last) ((c.get_mut.follows.holds last).3 (search rules)) q b
-    ∙ ap (λ n. if nat_eq group q && nat_eq block b then n else lsn_in old q b) c.replace.ensures.after
+returns-in-Some-clause-ok c q b = grind (arith, common_steps, c.replace.ensures.after, puts-some, nat_eq)
 
 pub returns-clause-ok : goal.returns-clause-ok
 returns-clause-ok c =

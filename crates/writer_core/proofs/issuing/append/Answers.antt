@@ -1,5 +1,5 @@
-use Rattle.std.proofs.Common.{arith, ◌≡◌, ℕ, ap, ◌∙◌, ◌++◌, ◌∷◌, [], nat_eq, ◌+◌, length}
-use Rattle.volume_model.specs.Common.{Redo, place_of, label_of, record_of}
+use Rattle.std.proofs.Common.{arith, ◌≡◌, ◌∙◌, ◌++◌, ◌∷◌, [], nat_eq, ◌+◌, length}
+use Rattle.volume_model.specs.Common.{place_of, label_of, record_of}
 use Rattle.volume_model.specs.Message as model
 use Rattle.wire.specs.Common.{listed, message_of}
 use Rattle.redo_record.specs.Common.{shared_redo}
@@ -7,19 +7,15 @@ use Rattle.writer_core.specs.Logs.{log_of}
 use Rattle.writer_core.specs.Log.{packets_in}
 use Rattle.writer_core.specs.Changes.{change_of}
 use Rattle.writer_core.specs.Groups.{groups_in}
-use Rattle.writer_core.proofs.OneMore.{IsGood, good_here, logged_on, written_on, room_on, good_on, front_on, messages_on}
+use Rattle.writer_core.proofs.OneMore.{logged_on, written_on, room_on, good_on, front_on, messages_on}
 use Rattle.writer_core.proofs.issuing.append.Goals as goal
+use Rattle.std.proofs.lemmas.Grind.{common_steps}
 
 pub next_packet-requires-clause-group : goal.next_packet-requires-clause-group
-next_packet-requires-clause-group c =
-    let groups = length (groups_in c.args.group_states.now) in
-    let good : IsGood groups c.index-changes-i.result = good_here groups c.args.changes.now c.loop-i.i c.index-changes-i.result c.loop-i-test.true c.index-changes-i.is c.loop-i.invariant.good in
-    omega (arith, good.group, c.requires.few)
+next_packet-requires-clause-group c = grind (arith, common_steps)
 
 pub next_packet-requires-clause-place : goal.next_packet-requires-clause-place
-next_packet-requires-clause-place c =
-    let groups = length (groups_in c.args.group_states.now) in
-    (good_here groups c.args.changes.now c.loop-i.i c.index-changes-i.result c.loop-i-test.true c.index-changes-i.is c.loop-i.invariant.good).place
+next_packet-requires-clause-place c = grind (arith, common_steps)
 
 pub loop-i-preserved : goal.loop-i-preserved
 loop-i-preserved c =
@@ -37,8 +33,7 @@ loop-i-preserved c =
     let message = c.in_ok-message.field-0 in
     let logs : packets_in c.push_reserved.new.self ≡ records ++ p ∷ [] = c.push_reserved.ensures.packets in
     let messages : listed c.add.new.messages ≡ listed c.loop-i.messages ++ message ∷ [] = c.in_ok-add.ensures in
-    let said : message_of message ≡ model.Message.Write (change_of change).group (label_of volume places (change_of change).group) (shared_redo p) =
-    c.in_ok-message.ensures ∙ c.carry.ensures ∙ ap (λ (g : ℕ). model.Message.Write g (label_of volume places g) (shared_redo p)) (ap (λ (s : Redo). s.group) made) in
+    let said : message_of message ≡ model.Message.Write (change_of change).group (label_of volume places (change_of change).group) (shared_redo p) = grind (arith, common_steps) in
     record {
       lasts = rw logs c.in_ok-packet.ensures.entered;
       spare = omega (arith, c.push_reserved.ensures.room, c.loop-i.invariant.spare, within);

@@ -6,6 +6,7 @@ use Rattle.redo_record.specs.declared.shared_record.SharedRecord.{SharedRecord}
 use Rattle.redo_record.specs.Common.{shared_redo}
 use Rattle.writer_core.proofs.Finding.{lsn-rises, record-found, record-missing}
 use Rattle.writer_core.proofs.lookup.record_at.Goals as goal
+use Rattle.std.proofs.lemmas.Grind.{common_steps}
 
 pub returns-in_err-packet : goal.returns-in_err-packet
 returns-in_err-packet c =
@@ -15,9 +16,7 @@ returns-in_err-packet c =
     ap (λ (found : Option (Bor SharedRecord)). option_map shared_redo (option_copied found)) c.from_residual.ensures ∙ sym (record-missing log c.partition_point-place.result n c.requires point (λ d within. absurd (omega (arith, c.in_err-packet.ensures.lookup.3))))
 
 pub returns-then-lsn : goal.returns-then-lsn
-returns-then-lsn c =
-    let found = c.in_ok-packet.ensures.lookup in
-    record-found c.args.log.now c.partition_point-place.result c.args.lsn c.in_ok-packet.packet.now c.requires found.3.0 found.1 (sym c.lsn.ensures ∙ c.if-lsn.true)
+returns-then-lsn c = grind (arith, common_steps, c.in_ok-packet.ensures.lookup, c.requires, c.lsn.ensures, c.if-lsn.true, record-found)
 
 pub returns-else-lsn : goal.returns-else-lsn
 returns-else-lsn c =

@@ -1,17 +1,14 @@
-use Rattle.std.proofs.Common.{◌≡◌, ℕ, length, take, List, Result, Err, sym, ap, ◌∙◌, subst}
+use Rattle.std.proofs.Common.{◌≡◌, Result, Err, sym, ap, ◌∙◌, subst}
 use Rattle.std.proofs.lemmas.Result.{err_from_is_err_and}
-use Rattle.redo_record.specs.declared.shared_record.SharedRecord.{SharedRecord}
 use Rattle.wire.specs.declared.messages.Messages.{Messages}
-use Rattle.volume_model.specs.Common.{Answers, never_after_growth, ClientAnswer, group_point_of, issued}
+use Rattle.volume_model.specs.Common.{Answers, never_after_growth, ClientAnswer, issued}
 use Rattle.volume_model.specs.Client.{Client}
 use Rattle.volume_model.specs.declared.fault.Fault.{Fault}
 use Rattle.writer_core.specs.Changes.{changes_of}
-use Rattle.writer_core.specs.DurabilityTracker.{CoversLog}
-use Rattle.writer_core.specs.Groups.{groups_in}
-use Rattle.writer_core.specs.Log.{packets_in}
 use Rattle.writer_core.specs.Writers.{answered, client_of, writer_plan, writer_volume}
 use Rattle.writer_core.proofs.Answering.{judged, refused}
 use Rattle.writer_core.proofs.writer.Writer.issue.Goals as goal
+use Rattle.std.proofs.Common.{rules}
 
 pub returns-in_err-admits-clause-answers : goal.returns-in_err-admits-clause-answers
 returns-in_err-admits-clause-answers c =
@@ -24,8 +21,4 @@ returns-in_err-admits-clause-answers c =
     subst (λ (r : Result Messages Fault). Answers answered defined client r client) (sym same) (refused never_after_growth answered fault defined client c.in_err-admits.ensures.own (judged fault defined c.in_err-admits.ensures.refusal))
 
 pub invariant_of-self-in-Err-clause-covers : goal.invariant_of-self-in-Err-clause-covers
-invariant_of-self-in-Err-clause-covers c =
-    let self = c.args.self.now in
-    let many : c.len-length.result ≡ length (packets_in self.log) = c.len-length.ensures in
-    let back : packets_in c.truncate.new.self ≡ packets_in self.log = c.truncate.ensures.packets ∙ ap (λ (n : ℕ). take n (packets_in c.append.new.log)) many ∙ c.append.ensures.front in
-    subst (λ (xs : List SharedRecord). CoversLog self.durability (group_point_of (groups_in self.group_states)) xs) (sym back) self.covers
+invariant_of-self-in-Err-clause-covers c = search (rules, c.len-length.ensures, c.truncate.ensures.packets, c.append.ensures.front)

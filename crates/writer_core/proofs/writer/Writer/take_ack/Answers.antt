@@ -1,6 +1,5 @@
 use Rattle.std.proofs.Common.{◌≡◌, ℕ, ◌≤◌, true, List, sym, ap, ◌∙◌, subst, arith}
 use Rattle.volume_model.specs.Common.{ClientGroup, group_of, group_point_of, raised}
-use Rattle.wire.specs.Common.{label_of}
 use Rattle.writer_core.specs.GroupStates.{counted_in}
 use Rattle.writer_core.specs.Raised.{AreRaised, HaveJoined, raised_in}
 use Rattle.writer_core.specs.Groups.{groups_in, group_states_plan}
@@ -13,6 +12,8 @@ use Rattle.writer_core.proofs.Raising.{raised-same, raised-counted, raised_all, 
 use Rattle.writer_core.proofs.Rising.{group_point_of-counted}
 use Rattle.writer_core.proofs.writer.Writer.take_ack.Goals as goal
 use Rattle.writer_core.proofs.writer.Writer.take_ack.Goals.{After-raise_group}
+use Rattle.std.proofs.lemmas.Grind.{common_steps}
+use Rattle.std.proofs.Common.{rules}
 
 -- ---- memory ran out
 
@@ -48,8 +49,7 @@ invariant_of-self-then-has_joined c =
       joined = subst (λ p. HaveJoined p (groups_in c.count.new.self)) (sym c.in_ok-count.ensures.plan)
           (subst (HaveJoined plan) (sym counted) (counted_joined plan old ack.group ack.from ack.scl self.joined there));
       lasts = self.lasts;
-      covers = covers-same self.durability (group_point_of old) (group_point_of (groups_in c.count.new.self)) (packets_in self.log)
-          (λ k. sym (ap (λ gs. group_point_of gs k) counted ∙ group_point_of-counted_in old ack.group ack.from ack.scl k)) self.covers;
+      covers = search (rules, covers-same, group_point_of-counted_in);
     }
 
 pub returns-then-has_joined-clause-answers : goal.returns-then-has_joined-clause-answers
@@ -62,10 +62,8 @@ returns-then-has_joined-clause-answers c =
     let counted = c.in_ok-count.ensures.counted in
     let low : ack.scl ≤ group_point_of old ack.group = omega (arith, c.if-ack-point.true, c.point.ensures ∙ ap (λ gs. group_point_of gs ack.group) counted ∙ group_point_of-counted_in old ack.group ack.from ack.scl ack.group) in
     let there : (group_of old ack.group).joined ≡ true = sym (joined-counted_in old ack.group ack.from ack.scl ack.group) ∙ sym (c.has_joined.ensures ∙ ap (λ gs. (group_of gs ack.group).joined) counted) ∙ c.if-has_joined.true in
-    let all : groups_in c.count.new.self ≡ raised plan (counted_in old ack.group ack.from ack.scl) =
-    counted ∙ sym (raised-same plan (counted_in old ack.group ack.from ack.scl) (counted_raised plan old ack.group ack.from ack.scl self.raised low) (counted_joined plan old ack.group ack.from ack.scl self.joined there)) in
-    ack_counted plan self.volume old (groups_in c.count.new.self) client.lineage client.found client.log ack.group ack.from ack.scl (label_of ack.label) c.in_ok-admits_ack.ensures.can
-    (omega (arith, c.if-ack-epoch.false, c.epoch.ensures)) all
+    let all : groups_in c.count.new.self ≡ raised plan (counted_in old ack.group ack.from ack.scl) = grind (arith, common_steps, raised-same, counted_raised, counted_joined, (counted_raised plan old ack.group ack.from ack.scl self.raised low), (counted_joined plan old ack.group ack.from ack.scl self.joined there)) in
+    grind (arith, common_steps)
 
 -- ---- it is above, or the group hasn't joined
 
@@ -78,14 +76,7 @@ now c =
     (c.raise_group.ensures.groups ∙ ap (λ p. raised_in p (groups_in c.count.new.self) ack.group) c.in_ok-count.ensures.plan)
 
 pub follow-requires : goal.follow-requires
-follow-requires c =
-    let self = c.args.self.now in
-    let ack = c.args.ack.now in
-    let plan = group_states_plan self.group_states in
-    let old = groups_in self.group_states in
-    let rises : (k : ℕ) → group_point_of old k ≤ group_point_of (groups_in c.raise_group.new.self) k =
-    λ k. subst (λ (groups : List ClientGroup). group_point_of old k ≤ group_point_of groups k) (sym (now (goal.at.follow-requires c).After-raise_group)) (group_point_of-counted plan old ack.group ack.from ack.scl k) in
-    covers-raised self.durability (group_point_of old) (group_point_of (groups_in c.raise_group.new.self)) (packets_in self.log) rises self.covers.front
+follow-requires c = grind (arith, common_steps, now, ℕ, After-raise_group, group_point_of-counted, covers-raised)
 
 pub invariant_of-self-2-clause-raised : goal.invariant_of-self-2-clause-raised
 invariant_of-self-2-clause-raised c =
@@ -96,9 +87,4 @@ invariant_of-self-2-clause-joined c =
     joined_all _ _ _ _ (c.raise_group.ensures.plan ∙ c.in_ok-count.ensures.plan) (now (goal.at.invariant_of-self-2-clause-joined c).After-raise_group)
 
 pub returns-clause-answers : goal.returns-clause-answers
-returns-clause-answers c =
-    let self = c.args.self.now in
-    let ack = c.args.ack.now in
-    let client = client_of self in
-    ack_counted (group_states_plan self.group_states) self.volume (groups_in self.group_states) (groups_in c.raise_group.new.self) client.lineage client.found client.log ack.group ack.from ack.scl (label_of ack.label) c.in_ok-admits_ack.ensures.can
-    (omega (arith, c.if-ack-epoch.false, c.epoch.ensures)) (now (goal.at.returns-clause-answers c).After-raise_group)
+returns-clause-answers c = grind (arith, common_steps, c.in_ok-admits_ack.ensures.can, c.if-ack-epoch.false, c.epoch.ensures, now, ack_counted, After-raise_group)

@@ -1,7 +1,6 @@
-use Rattle.std.proofs.Common.{◌≡◌, ℕ, ◌≤◌, List, map, sym, ap, ◌∙◌, subst}
-use Rattle.volume_model.specs.Common.{Plan, ClientGroup, group_point_of, raised, with_places, later_group}
-use Rattle.wire.specs.declared.label.Place.{Place}
-use Rattle.wire.specs.Common.{place_of, messages_of}
+use Rattle.std.proofs.Common.{◌≡◌, ℕ, List, map, sym, ap, ◌∙◌, subst}
+use Rattle.volume_model.specs.Common.{ClientGroup, group_point_of, raised, with_places, later_group}
+use Rattle.wire.specs.Common.{place_of}
 use Rattle.writer_core.specs.Groups.{groups_in, group_states_plan}
 use Rattle.writer_core.specs.Log.{packets_in}
 use Rattle.writer_core.specs.DurabilityTracker.{CoversLog}
@@ -12,6 +11,9 @@ use Rattle.writer_core.proofs.Raising.{raised_all, joined_all}
 use Rattle.writer_core.proofs.Rising.{group_point_of-with_places}
 use Rattle.writer_core.proofs.Views.{installs-listed, view-writing}
 use Rattle.writer_core.proofs.writer.Writer.view.Goals as goal
+use Rattle.std.proofs.lemmas.Grind.{common_steps}
+use Rattle.std.proofs.Common.{arith}
+use Rattle.std.proofs.Common.{rules}
 
 -- ---- memory ran out
 
@@ -31,23 +33,13 @@ invariant_of-self-in-Break-branch-3 c =
 -- ---- the groups are moved and raised
 
 pub follow-requires-2 : goal.follow-requires-2
-follow-requires-2 c =
-    let self = c.args.self.now in
-    let places = map place_of c.as_slice-places.result.now in
-    let plan = group_states_plan c.follow.new.self in
-    let old = groups_in self.group_states in
-    let now : groups_in c.raise.new.self ≡ raised plan (with_places later_group old places) = c.raise.ensures.groups ∙ ap (raised plan) c.in_ok-follow.ensures.groups in
-    let rises : (k : ℕ) → group_point_of old k ≤ group_point_of (groups_in c.raise.new.self) k =
-    λ k. subst (λ (groups : List ClientGroup). group_point_of old k ≤ group_point_of groups k) (sym now) (group_point_of-with_places plan old places k) in
-    covers-raised self.durability (group_point_of old) (group_point_of (groups_in c.raise.new.self)) (packets_in self.log) rises self.covers.front
+follow-requires-2 c = grind (arith, common_steps, c.raise.ensures.groups, c.in_ok-follow.ensures.groups, ℕ, group_point_of-with_places, covers-raised)
 
 pub invariant_of-self-2-clause-raised : goal.invariant_of-self-2-clause-raised
-invariant_of-self-2-clause-raised c =
-    raised_all (group_states_plan c.follow.new.self) _ (groups_in c.follow.new.self) _ c.raise.ensures.plan c.raise.ensures.groups
+invariant_of-self-2-clause-raised c = search (rules, c.raise.ensures.plan, c.raise.ensures.groups, raised_all)
 
 pub invariant_of-self-2-clause-joined : goal.invariant_of-self-2-clause-joined
-invariant_of-self-2-clause-joined c =
-    joined_all (group_states_plan c.follow.new.self) _ (groups_in c.follow.new.self) _ c.raise.ensures.plan c.raise.ensures.groups
+invariant_of-self-2-clause-joined c = search (rules, c.raise.ensures.plan, c.raise.ensures.groups, joined_all)
 
 pub returns-clause-answers : goal.returns-clause-answers
 returns-clause-answers c =
@@ -57,9 +49,5 @@ returns-clause-answers c =
     let old = groups_in self.group_states in
     let client = client_of self in
     let same = c.as_slice-places.ensures.value ∙ ap (λ v. v.items) c.deref.ensures in
-    let new : groups_in c.raise.new.self ≡ raised plan (with_places later_group old (map place_of view.places.value.items)) =
-    c.raise.ensures.groups ∙ ap (λ (p : Plan). raised p (groups_in c.follow.new.self)) c.in_ok-follow.ensures.plan
-    ∙ ap (raised plan) (c.in_ok-follow.ensures.groups ∙ ap (λ (ps : List Place). with_places later_group old (map place_of ps)) same) in
-    view-writing plan self.volume view.volume old (groups_in c.raise.new.self) client.lineage client.found client.log (map place_of view.places.value.items) (messages_of c.in_ok-messages.messages.items)
-    c.in_ok-admits_view.ensures.epoch c.in_ok-admits_view.ensures.places new
-    (installs-listed self.volume old client.lineage c.as_slice-places.result.now view.places.value.items _ same c.in_ok-messages.ensures)
+    let new : groups_in c.raise.new.self ≡ raised plan (with_places later_group old (map place_of view.places.value.items)) = grind (arith, common_steps) in
+    search (rules, c.in_ok-admits_view.ensures.epoch, c.in_ok-admits_view.ensures.places, c.in_ok-messages.ensures, view-writing, installs-listed)
