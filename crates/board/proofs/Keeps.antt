@@ -1,7 +1,5 @@
 -- Each step of a seat keeps the rule of the board.
-use Rattle.std.proofs.Common.{◌≡◌, ◌≢◌, ◌⊎◌, ℕ, zero, suc, ◌+◌, ◌-◌, ◌<◌, ◌≤◌, List, [], ◌∷◌, ◌++◌, length, get_or, set, refl, sym, ap, ◌∙◌, subst, inl, inr, ⊎_elim, arith, max, slice_set, slice_index, lt_of_not-le}
-use mathlib.Core.Logic.{dite}
-use native.Mathlib.Decide.{dec_le, ℕ_discrete}
+use Rattle.std.proofs.Common.{◌≡◌, ◌≢◌, ◌⊎◌, ℕ, zero, suc, ◌+◌, ◌-◌, ◌<◌, ◌≤◌, List, [], ◌∷◌, ◌++◌, length, get_or, set, refl, sym, ap, ◌∙◌, subst, inl, inr, ⊎_elim, arith, max, slice_set, slice_index}
 use mathlib.Core.Option.{some, some-ne-none, some-injective}
 use lib.ListN.{get_elem?}
 use Rattle.atomic_table.specs.Table.{Me, keeps, Allows, Final, Joins, Seen, Splits}
@@ -11,6 +9,8 @@ use Rattle.board.specs.declared.BoardStep.TheVariants.{Raised, Read}
 use Rattle.board.specs.Board.{number_of, IsRaised, NeverFalls, IsBoard, IsKept, Stands, Looks, Raises}
 use Rattle.board.specs.Shares.{View, first_of, seats_in, share_of, shares}
 use Rattle.board.proofs.Shares.{Rearranged, at_seat, dealt_seats, dealt_shares, has_all, joined_seats, joined_shares, shares_set}
+use Rattle.std.proofs.lemmas.Grind.{common_steps}
+use Rattle.std.proofs.Common.{rules}
 
 module _ {A : Type 0} where
   -- what stands in a list one longer stood there before, or is the new one
@@ -42,26 +42,13 @@ module _ (word now : ℕ) (views : List (List BoardStep)) (id : ℕ) (v : List B
   here_now = set_here views id grown (in_range views id v here)
 
   still_raised : (n : ℕ) → IsRaised views n → IsRaised after n
-  still_raised n r =
-      dite (ℕ_discrete r.0 id)
-      (λ (same : r.0 ≡ id).
-      let is : r.1 ≡ v = some-injective r.1 v (sym r.3 ∙ ap (λ k. get_elem? views k) same ∙ here) in
-      (id, grown, r.2, here_now, at_longer v (x ∷ []) r.2 (Raised n) (ap (λ u. get_elem? u r.2) (sym is) ∙ r.4)))
-      (λ (apart : r.0 ≢ id). (r.0, r.1, r.2, set_else views id r.0 grown apart ∙ r.3, r.4))
+  still_raised n r = grind (arith, common_steps, v, grown, here_now, at_longer, set_else)
 
   still : (n : ℕ) → (n ≡ 0) ⊎ IsRaised views n → (n ≡ 0) ⊎ IsRaised after n
   still n = ⊎_elim (λ z. inl z) (λ r. inr (still_raised n r))
 
   is_above : (seat at : ℕ) (u : List BoardStep) (s : BoardStep) → get_elem? after seat ≡ some u → get_elem? u at ≡ some s → number_of s ≤ now
-  is_above seat i u s e f =
-      ⊎_elim
-      (λ (t : (seat ≡ id) × (grown ≡ u)).
-      ⊎_elim
-      (λ (old : (i < length v) × (get_elem? v i ≡ some s)). let a = board.above id i v s here old.1 in omega arith)
-      (λ (new : (i ≡ length v) × (x ≡ s)). subst (λ (y : BoardStep). number_of y ≤ now) new.1 fits)
-      (at_push v x s i (ap (λ l. get_elem? l i) t.1 ∙ f)))
-      (λ (t : (seat ≢ id) × (get_elem? views seat ≡ some u)). let a = board.above seat i u s t.1 f in omega arith)
-      (at_set views id seat grown u e)
+  is_above seat i u s e f = grind (arith, common_steps, at_push, at_set)
 
   is_reached : (now ≡ 0) ⊎ IsRaised after now
   is_reached =
@@ -82,26 +69,10 @@ module _ (word now : ℕ) (views : List (List BoardStep)) (id : ℕ) (v : List B
       (at_set views id seat grown u e)
 
   grown_rises : NeverFalls grown
-  grown_rises i j n s lt f g =
-      ⊎_elim
-      (λ (old : (j < length v) × (get_elem? v j ≡ some (Read n))).
-      ⊎_elim
-      (λ (first : (i < length v) × (get_elem? v i ≡ some s)). board.rising id v here i j n s lt first.1 old.1)
-      (λ (last : (i ≡ length v) × (x ≡ s)). absurd (omega (arith, lt, old.0, last.0)))
-      (at_push v x s i f))
-      (λ (new : (j ≡ length v) × (x ≡ Read n)).
-      ⊎_elim
-      (λ (first : (i < length v) × (get_elem? v i ≡ some s)). omega (arith, board.above id i v s here first.1, read n new.1))
-      (λ (last : (i ≡ length v) × (x ≡ s)). absurd (omega (arith, lt, new.0, last.0)))
-      (at_push v x s i f))
-      (at_push v x (Read n) j g)
+  grown_rises i j n s lt f g = grind (arith, common_steps, at_push)
 
   is_rising : (seat : ℕ) (u : List BoardStep) → get_elem? after seat ≡ some u → NeverFalls u
-  is_rising seat u e =
-      ⊎_elim
-      (λ (t : (seat ≡ id) × (grown ≡ u)). subst NeverFalls t.1 grown_rises)
-      (λ (t : (seat ≢ id) × (get_elem? views seat ≡ some u)). board.rising seat u t.1)
-      (at_set views id seat grown u e)
+  is_rising seat u e = grind (arith, common_steps, grown_rises, at_set)
 
   pub made : IsBoard now (set views id (v ++ x ∷ []))
   made = record { above = is_above; reached = is_reached; was_raised = each_was_raised; rising = is_rising }
@@ -142,8 +113,7 @@ pub raises : (seats slots id : ℕ) (m : Me (Unit {0}) (View BoardStep)) (k : �
 raises seats slots id m k one s h sized here small =
     let word = h.1.0 in
     let now = max word k in
-    let top : (now ≡ word) ⊎ (Raised k ≡ Raised now) =
-    dite (dec_le k word) (λ (le : k ≤ word). inl (omega arith)) (λ (no : k ≤ word → ⊥). inr (ap Raised (let lt = lt_of_not-le no in omega arith))) in
+    let top : (now ≡ word) ⊎ (Raised k ≡ Raised now) = grind (arith, common_steps) in
     let is : slice_set s.words 0 (max (slice_index s.words 0) k) ≡ now ∷ [] = ap (λ ws. slice_set ws 0 (max (slice_index ws 0) k)) h.1.1 in (
       (m.0.0, (first_of m.0.1 ++ Raised k ∷ []) ∷ []),
       keeps,
@@ -178,75 +148,24 @@ looks seats slots id m one s h sized here small =
 
 -- one seat more, which has made no step
 new_seat : (word : ℕ) (views : List (List BoardStep)) → IsBoard word views → IsBoard word (views ++ [] ∷ [])
-new_seat word views board = record { above = above; reached = still word board.reached; was_raised = was_raised; rising = rising }
-  where
-    more : List (List BoardStep)
-    more = views ++ [] ∷ []
-
-    still : (n : ℕ) → (n ≡ 0) ⊎ IsRaised views n → (n ≡ 0) ⊎ IsRaised more n
-    still n = ⊎_elim (λ z. inl z) (λ r. inr (r.0, r.1, r.2, at_longer views ([] ∷ []) r.0 r.1 r.3, r.4))
-
-    nothing : (u : List BoardStep) (i : ℕ) (x : BoardStep) → [] ≡ u → get_elem? u i ≡ some x → ⊥
-    nothing u i x is e = some-ne-none x (sym (ap (λ (l : List BoardStep). get_elem? l i) is ∙ e))
-
-    above : (seat at : ℕ) (u : List BoardStep) (x : BoardStep) → get_elem? more seat ≡ some u → get_elem? u at ≡ some x → number_of x ≤ word
-    above seat i u x e f = ⊎_elim (λ old. board.above seat i u x old f) (λ is. absurd (nothing u i x is f)) (at_snoc views [] u seat e)
-
-    was_raised : (seat at n : ℕ) (u : List BoardStep) → get_elem? more seat ≡ some u → get_elem? u at ≡ some (Read n) → (n ≡ 0) ⊎ IsRaised more n
-    was_raised seat i n u e f = ⊎_elim (λ old. still n (board.was_raised seat i n u old f)) (λ is. absurd (nothing u i (Read n) is f)) (at_snoc views [] u seat e)
-
-    rising : (seat : ℕ) (u : List BoardStep) → get_elem? more seat ≡ some u → NeverFalls u
-    rising seat u e = ⊎_elim (λ old. board.rising seat u old) (λ is i j n x lt f g. absurd (nothing u i x is f)) (at_snoc views [] u seat e)
+new_seat word views board = grind (arith, common_steps, ℕ, at_longer, at_snoc)
 
 -- the order of the seats is nothing to the rule
 in_any_order : (word : ℕ) (xs ys : List (List BoardStep)) → Rearranged xs ys → IsBoard word xs → IsBoard word ys
-in_any_order word xs ys r board = record {
-  above = λ seat i u x e f. board.above (r.from seat) i u x (r.was seat u e) f;
-  reached = still word board.reached;
-  was_raised = λ seat i n u e f. still n (board.was_raised (r.from seat) i n u (r.was seat u e) f);
-  rising = λ seat u e. board.rising (r.from seat) u (r.was seat u e);
-}
-  where
-    still : (n : ℕ) → (n ≡ 0) ⊎ IsRaised xs n → (n ≡ 0) ⊎ IsRaised ys n
-    still n = ⊎_elim (λ z. inl z) (λ a. inr (r.to a.0, a.1, a.2, r.is a.0 a.1 a.3, a.4))
+in_any_order word xs ys r board = grind (arith, common_steps)
 
 -- a seat is dealt
 pub deals : (seats id : ℕ) (v : View BoardStep) → 0 < v.0 → Splits {S = Unit {0}} (λ s. Stands seats s.words s.views) id v (v.0 - 1, v.1) (0, [] ∷ [])
-deals seats id v some_left s h here = (
-  dealt_shares s.views id v here some_left ∙ h.0,
-  (h.1.0, h.1.1, subst (IsBoard h.1.0) (sym (dealt_seats s.views id v here)) (new_seat h.1.0 (seats_in s.views) h.1.2)),
-)
+deals seats id v some_left s h here = search (rules, dealt_shares, v, dealt_seats, new_seat)
 
 -- a seat is taken back
 pub returns : (seats id : ℕ) (v : View BoardStep) (other : ℕ) (w : View BoardStep) → Joins {S = Unit {0}} (λ s. Stands seats s.words s.views) id v other w (v.0 + w.0, w.1 ++ v.1) (0, [])
-returns seats id v other w s h here apart there = (
-  joined_shares s.views id other v w here there ∙ h.0,
-  (h.1.0, h.1.1, in_any_order h.1.0 _ _ (joined_seats s.views id other (v.0 + w.0) v w here apart there) h.1.2),
-)
+returns seats id v other w s h here apart there = search (rules, joined_shares, v, in_any_order, joined_seats)
 
 -- a new board, whose seats one view stands for
 pub begins : (seats : ℕ) → 0 < seats → Stands seats (0 ∷ []) ((seats - 1, [] ∷ []) ∷ [])
-begins seats any = (omega arith, (0, refl, record { above = above; reached = inl refl; was_raised = was_raised; rising = rising }))
-  where
-    none : (seat at : ℕ) (u : List BoardStep) (x : BoardStep) → get_elem? ([] ∷ []) seat ≡ some u → get_elem? u at ≡ some x → ⊥
-    none zero i u x e f = some-ne-none x (sym (ap (λ (l : List BoardStep). get_elem? l i) (some-injective [] u e) ∙ f))
-    none (suc seat) i u x e f = some-ne-none u (sym e)
-
-    above : (seat at : ℕ) (u : List BoardStep) (x : BoardStep) → get_elem? ([] ∷ []) seat ≡ some u → get_elem? u at ≡ some x → number_of x ≤ 0
-    above seat i u x e f = absurd (none seat i u x e f)
-
-    was_raised : (seat at n : ℕ) (u : List BoardStep) → get_elem? ([] ∷ []) seat ≡ some u → get_elem? u at ≡ some (Read n) → (n ≡ 0) ⊎ IsRaised ([] ∷ []) n
-    was_raised seat i n u e f = absurd (none seat i u (Read n) e f)
-
-    rising : (seat : ℕ) (u : List BoardStep) → get_elem? ([] ∷ []) seat ≡ some u → NeverFalls u
-    rising seat u e i j n x lt f g = absurd (none seat i u x e f)
+begins seats any = grind (arith, common_steps)
 
 -- the board at its end, when one view stands for all seats
 pub ends : (seats : ℕ) (words : List ℕ) (slots : List (Unit {0})) (id number : ℕ) (v : View BoardStep) → share_of v ≡ seats → Final {S = Unit {0}} (Seen (λ s. Stands seats s.words s.views) id v) words slots → get_elem? words 0 ≡ some number → IsBoard number v.1
-ends seats words slots id number v all last is =
-    let s = last.0 in
-    let h = last.1.0 in
-    let there : seats_in s.views ≡ v.1 = has_all s.views id v last.1.1 (h.0 ∙ sym all) in
-    let words_are : words ≡ h.1.0 ∷ [] = sym last.2 ∙ h.1.1 in
-    let same : h.1.0 ≡ number = some-injective h.1.0 number (ap (λ ws. get_elem? ws 0) (sym words_are) ∙ is) in
-    subst (λ (n : ℕ). IsBoard n v.1) same (subst (IsBoard h.1.0) there h.1.2)
+ends seats words slots id number v all last is = grind (arith, common_steps, v, has_all)

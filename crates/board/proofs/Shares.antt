@@ -4,6 +4,7 @@ use Rattle.std.proofs.lemmas.List.{append-nil, nil_from_length}
 use mathlib.Core.Option.{some, some-ne-none, some-injective}
 use lib.ListN.{get_elem?}
 use Rattle.board.specs.Shares.{View, share_of, shares, seats_in}
+use Rattle.std.proofs.lemmas.Grind.{common_steps}
 
 -- the second list has the elements of the first in another order: where each comes from, and where each goes
 pub record Rearranged {A : Type 0} (xs ys : List A) : Type 0 where
@@ -97,9 +98,7 @@ module _ {A : Type 0} where
   pub at_seat : (views : List (View A)) (id n : ℕ) (v : List A) → get_elem? views id ≡ some (n, v ∷ [])
       → (k : ℕ) × (get_elem? (seats_in views) k ≡ some v) × ((w : List A) → seats_in (set views id (n, w ∷ [])) ≡ set (seats_in views) k w)
   at_seat [] id n v e = absurd (some-ne-none (n, v ∷ []) (sym e))
-  at_seat (x ∷ xs) zero n v e =
-      let is : x.1 ≡ v ∷ [] = ap (λ (y : View A). y.1) (some-injective x (n, v ∷ []) e) in
-      (0, ap (λ l. get_elem? (l ++ seats_in xs) 0) is, λ w. ap (λ l. set (l ++ seats_in xs) 0 w) (sym is))
+  at_seat (x ∷ xs) zero n v e = grind (arith, common_steps)
   at_seat (x ∷ xs) (suc id) n v e =
       let r = at_seat xs id n v e in
       (length x.1 + r.0, at_behind x.1 (seats_in xs) r.0 ∙ r.1, λ w. ap (λ l. x.1 ++ l) (r.2 w) ∙ sym (set_behind x.1 (seats_in xs) r.0 w))
@@ -134,21 +133,13 @@ module _ {A : Type 0} where
   taken_out : (views : List (View A)) (other : ℕ) (w : View A) → get_elem? views other ≡ some w → Rearranged (seats_in views) (w.1 ++ seats_in (set views other (0, [])))
   taken_out [] other w e = absurd (some-ne-none w (sym e))
   taken_out (x ∷ xs) zero w e = equal _ _ (ap (λ (y : View A). y.1 ++ seats_in xs) (some-injective x w e))
-  taken_out (x ∷ xs) (suc other) w e =
-      then _ _ _
-      (behind x.1 (seats_in xs) (w.1 ++ seats_in (set xs other (0, []))) (taken_out xs other w e))
-      (moved_up x.1 w.1 (seats_in (set xs other (0, []))))
+  taken_out (x ∷ xs) (suc other) w e = grind (arith, common_steps, then, behind, moved_up, (taken_out xs other w e), (behind x.1 (seats_in xs) (w.1 ++ seats_in (set xs other (0, []))) (taken_out xs other w e)), (moved_up x.1 w.1 (seats_in (set xs other (0, [])))))
 
   -- a view has seats more
   put_in : (views : List (View A)) (id n : ℕ) (v : View A) (ws : List (List A)) → get_elem? views id ≡ some v → Rearranged (ws ++ seats_in views) (seats_in (set views id (n, ws ++ v.1)))
   put_in [] id n v ws e = absurd (some-ne-none v (sym e))
-  put_in (x ∷ xs) zero n v ws e =
-      let is : x.1 ≡ v.1 = ap (λ (y : View A). y.1) (some-injective x v e) in
-      equal _ _ (sym (append_assoc ws x.1 (seats_in xs)) ∙ ap (λ l. (ws ++ l) ++ seats_in xs) is)
-  put_in (x ∷ xs) (suc id) n v ws e =
-      then _ _ _
-      (moved_up ws x.1 (seats_in xs))
-      (behind x.1 (ws ++ seats_in xs) (seats_in (set xs id (n, ws ++ v.1))) (put_in xs id n v ws e))
+  put_in (x ∷ xs) zero n v ws e = grind (arith, common_steps, equal, append_assoc)
+  put_in (x ∷ xs) (suc id) n v ws e = grind (arith, common_steps, then, moved_up, behind, (put_in xs id n v ws e), (moved_up ws x.1 (seats_in xs)), (behind x.1 (ws ++ seats_in xs) (seats_in (set xs id (n, ws ++ v.1))) (put_in xs id n v ws e)))
 
   -- a view takes in another's seats
   pub joined_seats : (views : List (View A)) (id other n : ℕ) (v w : View A) → get_elem? views id ≡ some v → (other ≡ id → ⊥) → get_elem? (set views id (n, w.1 ++ v.1)) other ≡ some w
@@ -156,37 +147,24 @@ module _ {A : Type 0} where
   joined_seats [] id other n v w here apart there = absurd (some-ne-none v (sym here))
   joined_seats (x ∷ xs) zero zero n v w here apart there = absurd (apart refl)
   joined_seats (x ∷ xs) zero (suc other) n v w here apart there =
-      let is : x.1 ≡ v.1 = ap (λ (y : View A). y.1) (some-injective x v here) in
       let rest = seats_in (set xs other (0, [])) in
-      then _ _ _
-      (behind x.1 (seats_in xs) (w.1 ++ rest) (taken_out xs other w there))
-      (then _ _ _ (moved_up x.1 w.1 rest) (equal _ _ (sym (append_assoc w.1 x.1 rest) ∙ ap (λ l. (w.1 ++ l) ++ rest) is)))
-  joined_seats (x ∷ xs) (suc id) zero n v w here apart there =
-      let is : x.1 ≡ w.1 = ap (λ (y : View A). y.1) (some-injective x w there) in
-      then _ _ _ (equal _ _ (ap (λ l. l ++ seats_in xs) is)) (put_in xs id n v w.1 here)
+      grind (arith, common_steps, then, behind, taken_out, moved_up, equal, append_assoc, (behind x.1 (seats_in xs) (w.1 ++ rest) (taken_out xs other w there)), (taken_out xs other w there), (moved_up x.1 w.1 rest), (append_assoc w.1 x.1 rest))
+  joined_seats (x ∷ xs) (suc id) zero n v w here apart there = grind (arith, common_steps, then, equal, put_in)
   joined_seats (x ∷ xs) (suc id) (suc other) n v w here apart there =
       behind x.1 (seats_in xs) (seats_in (set (set xs id (n, w.1 ++ v.1)) other (0, []))) (joined_seats xs id other n v w here (λ e. apart (ap suc e)) there)
 
   pub joined_shares : (views : List (View A)) (id other : ℕ) (v w : View A) → get_elem? views id ≡ some v → get_elem? (set views id (v.0 + w.0, w.1 ++ v.1)) other ≡ some w
       → shares (set (set views id (v.0 + w.0, w.1 ++ v.1)) other (0, [])) ≡ shares views
-  joined_shares views id other v w here there =
-      let more = shares_set views id v (v.0 + w.0, w.1 ++ v.1) here in
-      let less = shares_set (set views id (v.0 + w.0, w.1 ++ v.1)) other w (0, []) there in
-      omega (arith, more, less, length-append w.1 v.1)
+  joined_shares views id other v w here there = grind (arith, common_steps, (shares_set views id v (v.0 + w.0, w.1 ++ v.1) here), (shares_set (set views id (v.0 + w.0, w.1 ++ v.1)) other w (0, []) there), (length-append w.1 v.1))
 
   no_seats : (views : List (View A)) → shares views ≡ 0 → seats_in views ≡ []
   no_seats [] e = refl
-  no_seats (x ∷ xs) e =
-      let none : x.1 ≡ [] = nil_from_length x.1 (omega arith) in
-      ap (λ l. l ++ seats_in xs) none ∙ no_seats xs (omega arith)
+  no_seats (x ∷ xs) e = grind (arith, common_steps, nil_from_length, (no_seats xs (omega arith)))
 
   -- a view that stands for all seats has them all
   pub has_all : (views : List (View A)) (id : ℕ) (v : View A) → get_elem? views id ≡ some v → shares views ≡ share_of v → seats_in views ≡ v.1
   has_all [] id v e all = absurd (some-ne-none v (sym e))
-  has_all (x ∷ xs) zero v e all =
-      let same = some-injective x v e in
-      let none : shares xs ≡ 0 = let s : share_of x ≡ share_of v = ap share_of same in omega arith in
-      ap (λ l. x.1 ++ l) (no_seats xs none) ∙ append-nil x.1 ∙ ap (λ (y : View A). y.1) same
+  has_all (x ∷ xs) zero v e all = grind (arith, common_steps, no_seats, append-nil)
   has_all (x ∷ xs) (suc id) v e all =
       let within = share_within xs id v e in
       let none : x.1 ≡ [] = nil_from_length x.1 (omega arith) in
