@@ -1,5 +1,5 @@
 -- The step of an event is that of its actor's action.
-use Rattle.std.proofs.Common.{◌≡◌, ℕ, Bool, Result, refl, sym, subst}
+use Rattle.std.proofs.Common.{◌≡◌, ℕ, Bool, Result, refl}
 use Rattle.volume_model.specs.declared.fault.Fault.{Fault}
 use Rattle.volume_model.specs.Common.{never_after_growth, Plan, Event, Step, World, groups_joined, if_there, of_authority, of_client, of_node, step}
 use Rattle.segment_core.specs.declared.action.NodeAction.{NodeAction}
@@ -11,14 +11,13 @@ use Rattle.world.specs.declared.actions.ClientAction.{ClientAction}
 use Rattle.world.specs.declared.actions.ClientAction.TheVariants as client
 use Rattle.world.specs.Actions.{authority_acted, authority_event, client_after_growth, client_does, client_event, node_event}
 use Rattle.world.specs.Actors.{event_after_growth, Steps}
+use Rattle.std.proofs.lemmas.Grind.{common_steps}
+use Rattle.std.proofs.Common.{arith}
 
 -- what is said of a step where its event is this
 pub steps_of_event : (plan : Plan) (w after : World) (asked event : Event) (late : Fault → Bool) (answer : Result Step Fault) (result : Result ℕ Fault)
     → event ≡ asked → event_after_growth asked ≡ late → step plan w asked ≡ answer → Steps late answer w result after → Steps (event_after_growth event) (step plan w event) w result after
-steps_of_event plan w after asked event late answer result is same does steps =
-    subst (λ (e : Event). Steps (event_after_growth e) (step plan w e) w result after) (sym is)
-    (subst (λ (l : Fault → Bool). Steps l (step plan w asked) w result after) (sym same)
-    (subst (λ (r : Result Step Fault). Steps late r w result after) (sym does) steps))
+steps_of_event plan w after asked event late answer result is same does steps = grind (arith, common_steps)
 
 -- the authority's
 pub authority_step : (plan : Plan) (w : World) (action : AuthorityAction) → step plan w (authority_event action) ≡ of_authority w (authority_acted plan w.authority action)

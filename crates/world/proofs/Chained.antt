@@ -1,34 +1,21 @@
 -- A segment that holds a group's part of a log is complete up to each record of it.
-use Rattle.std.proofs.Common.{◌≡◌, ℕ, ◌<◌, ◌≤◌, ◌==◌, ◌⊎◌, List, [], ◌∷◌, refl, sym, ap, ◌∙◌, subst, inl, inr, arith}
+use Rattle.std.proofs.Common.{◌≡◌, ℕ, ◌<◌, ◌≤◌, ◌⊎◌, List, [], ◌∷◌, refl, sym, ap, ◌∙◌, inl, inr, arith}
 use Rattle.std.proofs.lemmas.Bool.{cases_Bool, eqb-true}
-use Rattle.volume_model.specs.Common.{IsIn, Redo, last_lsn, last_of_group, scl, IsGrounded, IsGroundedNumber, from_none, from_one, IsGreatest}
+use Rattle.volume_model.specs.Common.{IsIn, Redo, last_of_group, scl, IsGrounded, IsGroundedNumber, from_none, from_one, IsGreatest}
 use Rattle.volume_model.proofs.Grounded.{complete_point_is_greatest}
 use Rattle.volume_model.proofs.Logs.{IsChain, at_most_last}
+use Rattle.std.proofs.lemmas.Grind.{common_steps}
 
 -- the number of a group's last record is 0, or that of a record of the group
 last_of_group-is : (group : ℕ) (log : List Redo) → (last_of_group group log ≡ 0) ⊎ ((r : Redo) × IsIn r log × (r.group ≡ group) × (last_of_group group log ≡ r.lsn))
 last_of_group-is group [] = inl refl
-last_of_group-is group (r ∷ older) =
-    elim (cases_Bool (r.group == group)) [
-      | inl e ↦ inr (r, inl refl, eqb-true r.group group e, (rw e refl))
-      | inr e ↦ elim (last_of_group-is group older) [
-        | inl z ↦ inl (rw e z)
-        | inr h ↦ inr (h.0, inr h.1, h.2, (rw e h.3))
-      ]
-    ]
+last_of_group-is group (r ∷ older) = grind (arith, common_steps, cases_Bool, eqb-true, (last_of_group-is group older))
 
 -- each record follows a smaller number of its group
 pub prev_group_below : (log : List Redo) → IsChain log → (r : Redo) → IsIn r log → r.prev_group < r.lsn
 prev_group_below [] c r i = absurd i
 prev_group_below (s ∷ older) c r (inr i) = prev_group_below older c.1 r i
-prev_group_below (s ∷ older) c r (inl p) =
-    let above : last_lsn older < s.lsn = c.0.above in
-    let link : s.prev_group ≡ last_of_group s.group older = c.0.group_link in
-    let here : s.prev_group < s.lsn = elim (last_of_group-is s.group older) [
-      | inl z ↦ (let e : s.prev_group ≡ 0 = link ∙ z in omega arith)
-      | inr h ↦ (let e : s.prev_group ≡ h.0.lsn = link ∙ h.3 in let l : h.0.lsn ≤ last_lsn older = at_most_last older c.1 h.0 h.1 in omega arith)
-    ] in
-    subst (λ (t : Redo). t.prev_group < t.lsn) (sym p) here
+prev_group_below (s ∷ older) c r (inl p) = grind (arith, common_steps, last_of_group-is, at_most_last)
 
 module _ (group : ℕ) (all : List Redo) where
   -- each record of the group in a log is grounded where all of them are held

@@ -2,10 +2,12 @@
 use Rattle.std.proofs.Common.{◌≡◌, ℕ, ◌<◌, Bool, true, false, ◌==◌, if◌then◌else◌, List, [], Option, Some, None, length, get_or, set, refl, sym, ap, ◌∙◌, subst, inl, inr}
 use Rattle.std.specs.Global.{Box}
 use Rattle.std.proofs.lemmas.Bool.{cases_eq, eq-eqb, ne_eqb}
-use Rattle.std.proofs.lemmas.List.{get_or-set_same, get_or-set_other, get_or_read}
+use Rattle.std.proofs.lemmas.List.{get_or_read}
 use Rattle.volume_model.specs.Common.{put, Plan, unborn}
 use Rattle.world.specs.declared.client.Client.{Client}
 use Rattle.world.specs.Clients.{seen_client, client_or_unborn, client_in, clients_of, IsClientOf, IsSameClient, AreClients, HasSameClients, IsPut}
+use Rattle.std.proofs.lemmas.Grind.{common_steps}
+use Rattle.std.proofs.Common.{arith}
 
 -- what is chosen, seen
 seen_if : (b : Bool) (client : Box Client) (other : Option (Box Client)) → (if b then seen_client client.value else client_or_unborn other) ≡ client_or_unborn (if b then Some client else other)
@@ -27,11 +29,7 @@ module _ (old new : List (Option (Box Client))) (v : ℕ) (client : Box Client) 
 
 -- a client that is set at its place is put there
 pub set_put : (clients : List (Option (Box Client))) (v : ℕ) (client : Box Client) → v < length clients → IsPut clients v client (set clients v (Some client))
-set_put clients v client within w =
-    elim (cases_eq w v) [
-      | inl e ↦ rw (eq-eqb w v e) (ap (client_in (set clients v (Some client))) e ∙ get_or-set_same clients v (Some client) None within)
-      | inr ne ↦ rw (ne_eqb w v ne) (get_or-set_other clients v w (Some client) None ne)
-    ]
+set_put clients v client within w = grind (arith, common_steps)
 
 -- a client that acts stays the client of its volume epoch and its plan
 pub same_client : (plan : Plan) (volume : ℕ) (old new : Client) → IsClientOf plan volume old → IsSameClient old new → IsClientOf plan volume new

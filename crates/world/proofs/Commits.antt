@@ -23,6 +23,7 @@ use Rattle.world.proofs.Readable.{IsIn-kept, Reaches, delivered, every_below_tru
 use Rattle.world.proofs.Chained.{complete_up_to}
 use Rattle.world.proofs.Counts.{reaching-keeps, reaching-lower, reaching-new}
 use Rattle.world.proofs.Installing.{IsCounted, IsInstalled, IsReady, IsRecovering, at, epoch_at, is_member, place_at}
+use Rattle.std.proofs.lemmas.Grind.{common_steps}
 
 -- the change of one byte, in block 0 of the first group
 abbrev pub first_change : Change
@@ -40,8 +41,7 @@ raised_are plan certified groups within there g n l h =
     let small : g < length groups = subst (λ k. g < k) (length-raised plan groups) l in
     let e : group_of (raised plan groups) g ≡ raised_group plan g (group_of groups g) = group_of-raised plan groups g small in
     let is : IsRaised plan g (group_of groups g) = group_point_is_greatest.of_plans plan certified g (group_of groups g) (omega arith) (there g small) in
-    let h' : sat (place_configuration plan g (place_of groups g)).write (reaching (counts_of groups g) n) ≡ true =
-    subst (λ (k : ClientGroup). sat (place_configuration plan g k.place).write (reaching k.counts n) ≡ true) e h in
+    let h' : sat (place_configuration plan g (place_of groups g)).write (reaching (counts_of groups g) n) ≡ true = grind (arith, common_steps) in
     let most : n ≤ is.number_written = is.greatest.at_least_each n h' in
     let p : (raised_group plan g (group_of groups g)).group_point ≡ max (group_of groups g).group_point is.number_written = is.point in
     subst (λ (k : ClientGroup). n ≤ k.group_point) (sym e) (subst (λ k. n ≤ k) (sym p) (omega arith))
@@ -64,16 +64,7 @@ last_within n log c = go (up_to n log) (at_most_of_up_to n log c)
 -- what a recovery finds lies within its start
 pub found_within : (plan : Plan) → IsCertified plan → (world : World) → IsKeptWorld plan world → (v : ℕ) → HasCut world v
     → last_lsn (found_of world v) ≤ last_start (lineage_of world v)
-found_within plan certified world known v cut =
-    elim ((is_sound plan certified world known.kept).logged v cut).origin [
-      | inl first ↦ subst (λ z. last_lsn z ≤ last_start (lineage_of world v)) (sym first.found) (omega arith)
-      | inr h ↦ (
-          let chain : IsChain (log_of world h.parent) = (facts plan certified world known.kept h.parent h.parent_cut).chain in
-          let l : last_lsn (up_to h.cut (log_of world h.parent)) ≤ h.cut = last_within h.cut (log_of world h.parent) chain in
-          let k : h.cut ≤ h.start = h.start_above in
-          subst (λ z. last_lsn z ≤ last_start (lineage_of world v)) (sym h.found)
-          (subst (λ (z : Lineage). last_lsn (up_to h.cut (log_of world h.parent)) ≤ last_start z) (sym h.lineage) (omega arith)))
-    ]
+found_within plan certified world known v cut = grind (arith, common_steps, is_sound, lineage_of, IsChain, log_of, facts, last_within, (is_sound plan certified world known.kept), (lineage_of world v))
 
 module _ (plan : Plan) (claims : KeepsClaims plan) (certified : IsCertified plan) (writes : HasWriteSets plan) (v : ℕ) (now : List ℕ) (line : Lineage) (records : List Redo) where
   -- a set that has a configuration's members satisfies its write expression

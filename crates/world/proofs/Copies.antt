@@ -1,11 +1,12 @@
 -- The copies that a node keeps, after one more piece came.
-use Rattle.std.proofs.Common.{◌≡◌, ℕ, suc, ◌<◌, ◌≤◌, true, false, ◌==◌, nat_lt, nat_le, ◌⊎◌, List, [], ◌∷◌, ◌++◌, Option, Some, None, length, refl, sym, ap, ◌∙◌, subst, inl, inr, arith}
-use Rattle.std.proofs.lemmas.Bool.{cases_Bool, and_from, eqb-true, eqb-false, eq-eqb, ne_eqb, le-leb, lt-ltb, ltb-true, or_cases, true≢false}
-use Rattle.volume_model.specs.Common.{IsIn, Redo, spelling, numbers_before, Contents, Piece, KeptPiece, Pieces, Copy, most_in_piece, most_pieces, pieces_of, piece_of, piece_records, is_piece, has_piece, is_complete, first_piece, with_piece, is_bad_piece, contents_in, with_series, pieces_from, with_copy, copied_by, ComeInOrder, most_records}
-use Rattle.volume_model.proofs.Basics.{IsIn-append, IsIn-append_left, IsIn-append_right, IsIn-map, any_from, any_passes, every_below-all, map-has}
+use Rattle.std.proofs.Common.{◌≡◌, ℕ, suc, ◌<◌, ◌≤◌, true, false, ◌==◌, nat_lt, ◌⊎◌, List, [], ◌∷◌, ◌++◌, Option, Some, None, length, refl, sym, ap, ◌∙◌, subst, inl, inr, arith}
+use Rattle.std.proofs.lemmas.Bool.{cases_Bool, and_from, eqb-true, eq-eqb, ne_eqb, le-leb, lt-ltb, ltb-true, or_cases, true≢false}
+use Rattle.volume_model.specs.Common.{IsIn, Redo, spelling, numbers_before, Contents, Piece, KeptPiece, Pieces, Copy, most_pieces, pieces_of, piece_of, is_piece, has_piece, is_complete, first_piece, with_piece, is_bad_piece, contents_in, with_series, pieces_from, with_copy, copied_by, ComeInOrder, most_records}
+use Rattle.volume_model.proofs.Basics.{IsIn-append, IsIn-map, every_below-all, map-has}
 use Rattle.volume_model.proofs.Ordered.{before-trans}
 use Rattle.volume_model.proofs.PieceLaws.{pieces_make_up}
 use Rattle.world.proofs.Readable.{every_below_true}
+use Rattle.std.proofs.lemmas.Grind.{common_steps}
 
 -- ---- sets of records
 
@@ -57,40 +58,12 @@ some_piece n = (pieces_make_up.number n).one
 -- each piece of contents that a node may hold is valid
 pub valid_piece : (q : Contents) (k : ℕ) → length q.records ≤ most_records → k < pieces_of (length q.records)
     → is_piece (record { number = k; of = pieces_of (length q.records) }) (piece_of q k) ≡ true
-valid_piece q k few below =
-    and_from (nat_lt k (pieces_of (length q.records))) _ (lt-ltb k (pieces_of (length q.records)) below)
-    (and_from (nat_le (pieces_of (length q.records)) most_pieces) _ (le-leb (pieces_of (length q.records)) most_pieces (few_pieces (length q.records) few))
-    (le-leb (length (piece_records q.records k)) most_in_piece (pieces_make_up.small q.records k)))
+valid_piece q k few below = grind (arith, common_steps, and_from, lt-ltb, le-leb, few_pieces, pieces_make_up)
 
 module _ (pieces : Pieces) (piece : Piece) (c : Contents) where
   -- the new piece
   abbrev new : KeptPiece
   new = record { number = piece.number; contents = c }
-
-  -- the series and the number of pieces stay
-  with_piece-series : (with_piece pieces piece c).series ≡ pieces.series
-  with_piece-series = elim (cases_Bool (has_piece pieces piece.number)) [ inl e ↦ rw e refl | inr e ↦ rw e refl ]
-
-  with_piece-of : (with_piece pieces piece c).of ≡ pieces.of
-  with_piece-of = elim (cases_Bool (has_piece pieces piece.number)) [ inl e ↦ rw e refl | inr e ↦ rw e refl ]
-
-  -- each piece stays
-  with_piece-keeps : (j : ℕ) → has_piece pieces j ≡ true → has_piece (with_piece pieces piece c) j ≡ true
-  with_piece-keeps j h =
-      elim (cases_Bool (has_piece pieces piece.number)) [
-        | inl e ↦ rw e h
-        | inr e ↦ rw e (
-            let (kept, i, test) = any_passes (λ (kept : KeptPiece). kept.number == j) pieces.kept h in
-            any_from (λ (kept : KeptPiece). kept.number == j) (pieces.kept ++ new ∷ []) kept (IsIn-append_left pieces.kept (new ∷ []) kept i) test)
-      ]
-
-  -- and the new one is there
-  with_piece-has : has_piece (with_piece pieces piece c) piece.number ≡ true
-  with_piece-has =
-      elim (cases_Bool (has_piece pieces piece.number)) [
-        | inl e ↦ rw e e
-        | inr e ↦ rw e (any_from (λ (kept : KeptPiece). kept.number == piece.number) (pieces.kept ++ new ∷ []) new (IsIn-append_right pieces.kept (new ∷ []) new (inl refl)) (eq-eqb piece.number piece.number refl))
-      ]
 
   -- a kept piece was kept, or is the new one
   with_piece-from : (d : Contents) → IsIn d (contents_in (with_piece pieces piece c)) → (d ≡ c) ⊎ IsIn d (contents_in pieces)
@@ -113,10 +86,7 @@ with_series-from pieces series piece c d i =
       | inl e ↦ inr (rw e at i)
       | inr e ↦ elim (cases_Bool (pieces.series == series)) [
         | inl f ↦ with_piece-from pieces piece c d (rw (e, f) at i)
-        | inr f ↦ elim (cases_Bool (nat_lt series pieces.series)) [
-          | inl g ↦ inr (rw (e, f, g) at i)
-          | inr g ↦ (let j : (d ≡ c) ⊎ ⊥ = rw (e, f, g) at i in elim j [ inl p ↦ inl p | inr z ↦ absurd z ])
-        ]
+        | inr f ↦ grind (arith, common_steps)
       ]
     ]
 
@@ -137,23 +107,12 @@ next_kept pieces series of k c h below =
         of_is = h.of_is;
         has = λ j l. every_below-all pieces.of (has_piece pieces) e j (let s : pieces.of ≡ of = h.of_is in omega arith);
       })
-      | inr e ↦ rw (e, eq-eqb pieces.series series h.series_is) (record {
-        series_is = with_piece-series pieces piece c ∙ h.series_is;
-        of_is = with_piece-of pieces piece c ∙ h.of_is;
-        has = λ j l. elim (cases_Bool (j == k)) [
-          | inl same ↦ (let s : k ≡ j = sym (eqb-true j k same) in subst (λ z. has_piece (with_piece pieces piece c) z ≡ true) s (with_piece-has pieces piece c))
-          | inr other ↦ (let s : j ≡ k → ⊥ = eqb-false j k other in with_piece-keeps pieces piece c j (h.has j (omega arith)))
-        ];
-      })
+      | inr e ↦ grind (arith, common_steps)
     ]
 
 -- the first piece of a series
 pub first_kept : (series of : ℕ) (c : Contents) → HasPieces series of 1 (first_piece series (record { number = 0; of = of }) c)
-first_kept series of c = record {
-  series_is = refl;
-  of_is = refl;
-  has = λ j l. (let s : 0 ≡ j = omega arith in subst (λ z. has_piece (first_piece series (record { number = 0; of = of }) c) z ≡ true) s refl);
-}
+first_kept series of c = grind (arith, common_steps)
 
 -- all pieces
 pub all_kept : (pieces : Pieces) (series of : ℕ) → HasPieces series of of pieces → is_complete pieces ≡ true
@@ -234,10 +193,7 @@ pub complete_counts : (copies : List Copy) (x : ℕ) (pieces : Pieces) → piece
 complete_counts [] x pieces h complete = cc
 complete_counts (copy ∷ rest) x pieces h complete =
     elim (cases_Bool (copy.sender == x)) [
-      | inl e ↦ (
-          let k : ◌≡◌ {A = Option Pieces} (Some copy.pieces) (Some pieces) = rw e at h in
-          let same : pieces ≡ copy.pieces = cc in
-          rw (e, subst (λ p. is_complete p ≡ true) same complete) refl)
+      | inl e ↦ grind (arith, common_steps)
       | inr e ↦ rw e (complete_counts rest x pieces (rw e at h) complete)
     ]
 

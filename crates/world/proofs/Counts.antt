@@ -3,6 +3,7 @@ use Rattle.std.proofs.Common.{◌≡◌, ℕ, ◌≤◌, max, true, ◌==◌, Li
 use Rattle.std.proofs.lemmas.Bool.{cases_Bool, eqb-true}
 use Rattle.volume_model.specs.Common.{IsIn, Count, reaching, with_count}
 use Rattle.volume_model.proofs.Points.{reaching-some, reaching-from}
+use Rattle.std.proofs.lemmas.Grind.{common_steps}
 
 -- a count of this sender, of at least this number
 record HasCount (counts : List Count) (sender reached : ℕ) : Type 0 where
@@ -22,8 +23,7 @@ with_count-keeps sender reached (c ∷ rest) old i =
       ]
       | inr e ↦ elim i [
         | inl p ↦ rw e (record { count = c; there = inl refl; same = ap (λ z. z.sender) (sym p); above = (let k : old.reached ≡ c.reached = ap (λ z. z.reached) p in omega arith) })
-        | inr j ↦ (let h : HasCount (with_count sender reached rest) old.sender old.reached = with_count-keeps sender reached rest old j in
-            rw e (record { count = h.count; there = inr h.there; same = h.same; above = h.above }))
+        | inr j ↦ grind (arith, common_steps, (with_count-keeps sender reached rest old j))
       ]
     ]
 
@@ -46,13 +46,8 @@ reaching-keeps sender reached counts n y h =
 
 -- the sender of that acknowledgement has reached its number
 pub reaching-new : (sender reached : ℕ) (counts : List Count) (n : ℕ) → n ≤ reached → reaching (with_count sender reached counts) n sender ≡ true
-reaching-new sender reached counts n l =
-    let new : HasCount (with_count sender reached counts) sender reached = with_count-has sender reached counts in
-    let k : reached ≤ new.count.reached = new.above in
-    reaching-from (with_count sender reached counts) n sender new.count new.there new.same (omega arith)
+reaching-new sender reached counts n l = grind (arith, common_steps, with_count-has, reaching-from, (with_count-has sender reached counts))
 
 -- who has reached a number has reached each smaller one
 pub reaching-lower : (counts : List Count) (n m y : ℕ) → m ≤ n → reaching counts n y ≡ true → reaching counts m y ≡ true
-reaching-lower counts n m y l h =
-    let (count, i, same, above) = reaching-some counts n y h in
-    reaching-from counts m y count i same (omega arith)
+reaching-lower counts n m y l h = grind (arith, common_steps, reaching-some, reaching-from)

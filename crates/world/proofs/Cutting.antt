@@ -1,30 +1,24 @@
 -- The cut of a recovery makes all pieces of its install.
-use Rattle.std.proofs.Common.{◌≡◌, ℕ, suc, ◌^◌, ◌<◌, ◌≤◌, true, false, not, nat_lt, List, [], ◌∷◌, Some, Ok, length, refl, sym, ap, ◌∙◌, subst, inl, inr, arith, true≢false, ltb-false}
-use Rattle.volume_model.specs.Common.{IsIn, added, each_below, joined, put, Redo, cut_of, log_found, Lineage, extended, extension, last_epoch, last_start, newest, Pieces, in_pieces, Plan, IsCertified, Label, Message, Place, Install, CopyAsk, ClientAnswer, ClientStep, has_cut, is_born, label_of, place_of, cut_client, cut_step, has_read, installs, reported, to_install, World, after, after_step, of_client, Cut}
-use Rattle.volume_model.specs.Lineage.{found_in}
+use Rattle.std.proofs.Common.{◌≡◌, ℕ, suc, ◌^◌, ◌<◌, ◌≤◌, true, false, List, [], ◌∷◌, Some, Ok, length, sym, ap, ◌∙◌, subst, inl, inr, arith, true≢false}
+use Rattle.volume_model.specs.Common.{IsIn, added, each_below, joined, put, Redo, Lineage, last_epoch, last_start, Pieces, in_pieces, Plan, IsCertified, Label, Message, Place, Install, CopyAsk, ClientAnswer, ClientStep, has_cut, label_of, place_of, cut_client, cut_step, installs, to_install, World, after, after_step, of_client, Cut}
 use Rattle.volume_model.specs.Node.{Node}
 use Rattle.volume_model.specs.Client.{Client}
 use Rattle.volume_model.proofs.Basics.{IsIn-append_left, IsIn-append_right}
 use Rattle.volume_model.proofs.ClientSteps.{put-same}
 use Rattle.volume_model.proofs.Invariant.{HasCut, IsMade, epoch_now, label}
-use Rattle.volume_model.proofs.NodeSteps.{extension-ok, refuse_if-ok, then-ok}
 use Rattle.volume_model.proofs.Renewed.{IsKeptWorld}
 use Rattle.volume_model.proofs.Run.{event_kept}
-use Rattle.volume_model.specs.declared.fault.Fault.TheVariants.{AlreadyDone, LsnSpent, NoActor, NotReady}
 use Rattle.world.proofs.Installing.{IsInstalling, IsRecovering}
 use Rattle.world.proofs.Readable.{HasPlace, HasStep, IsIn-kept, IsIn-new, IsReading, each_has}
 use Rattle.world.proofs.Started.{HasStarted, kept_from_cut}
 use Rattle.world.proofs.Volumes.{VolumesKnown}
+use Rattle.std.proofs.lemmas.Grind.{common_steps}
 
 -- what a list of lists has
 joined-has : {A : Type 0} (xss : List (List A)) (xs : List A) (x : A) → IsIn xs xss → IsIn x xs → IsIn x (joined xss)
 joined-has [] xs x i j = absurd i
 joined-has (ys ∷ rest) xs x (inl e) j = IsIn-append_left ys (joined rest) x (subst (λ (z : List _). IsIn x z) e j)
 joined-has (ys ∷ rest) xs x (inr i) j = IsIn-append_right ys (joined rest) x (joined-has rest xs x i j)
-
--- the same answers are the same steps
-Ok-client : (a b : ClientStep) → ◌≡◌ {A = ClientAnswer} (Ok a) (Ok b) → a ≡ b
-Ok-client a b h = cc
 
 -- the installs of all groups have the pieces of each
 installs-has : (groups volume : ℕ) (places : ℕ → Place) (lineage : Lineage) (found : List Redo) (g : ℕ) → g < groups → (m : Message) → IsIn m (in_pieces (to_install lineage found g) (Install g (label_of volume places g)))
@@ -44,22 +38,7 @@ record HasCutWith (plan : Plan) (v : ℕ) (client : Client) (step : ClientStep) 
 
 -- a cut that isn't refused is the step with these
 cut_with : (plan : Plan) (v : ℕ) (client : Client) (step : ClientStep) → ◌≡◌ {A = ClientAnswer} (cut_client plan v client) (Ok step) → HasCutWith plan v client step
-cut_with plan v client step h =
-    let parent : Lineage = newest (reported client) in
-    let records : List Redo = found_in parent (reported client) in
-    let own : Lineage = extended parent v (cut_of records) plan.lal in
-    let (z, h0) = refuse_if-ok (not (is_born client.stage)) NoActor _ step h in
-    let (a, h1) = refuse_if-ok (has_cut client.stage) AlreadyDone _ step h0 in
-    let (b, h2) = refuse_if-ok (not (has_read plan client)) NotReady _ step h1 in
-    let (line, got, h3) = then-ok (extension parent v (cut_of records) plan.lal) (λ lineage. Ok (cut_step v client (log_found records) lineage)) step h2 in
-    let (free, same) = refuse_if-ok (nat_lt (2 ^ 62) (last_start own)) LsnSpent _ line got in
-    record {
-      line = own;
-      found = log_found records;
-      is = Ok-client _ step (extension-ok parent v (cut_of records) plan.lal (λ lineage. Ok (cut_step v client (log_found records) lineage)) step h2);
-      head = refl;
-      start = ltb-false (2 ^ 62) (last_start own) free;
-    }
+cut_with plan v client step h = grind (arith, common_steps)
 
 module _ (plan : Plan) (certified : IsCertified plan) (world : World) (known : IsKeptWorld plan world) (volumes : VolumesKnown world)
     (placed : (g x : ℕ) → HasPlace g x (world.nodes g x)) (steps : (g : ℕ) → HasStep plan world g) (left : world.authority.last_volume < 4294967295) where

@@ -1,7 +1,7 @@
 -- While a recovery installs its log, a member that isn't whole becomes whole from the copies of a read set that has the log.
-use Rattle.std.proofs.Common.{◌≡◌, ℕ, zero, suc, ◌+◌, ◌-◌, ◌<◌, ◌≤◌, true, false, ◌&&◌, ◌==◌, nat_lt, ◌⊎◌, if◌then◌else◌, List, [], ◌∷◌, Some, None, Option, Result, Ok, length, refl, sym, ap, ◌∙◌, subst, inl, inr, arith, slice_index_or}
+use Rattle.std.proofs.Common.{◌≡◌, ℕ, zero, suc, ◌+◌, ◌-◌, ◌<◌, ◌≤◌, true, false, ◌&&◌, ◌==◌, nat_lt, ◌⊎◌, if◌then◌else◌, List, [], ◌∷◌, Some, None, Option, Ok, length, refl, sym, ap, ◌∙◌, subst, inl, inr, arith, slice_index_or}
 use Rattle.std.proofs.lemmas.Bool.{cases_Bool, cases_lt, and_from, both_ways, true≢false, eqb-true, eq-eqb, ne_eqb, lt-ltb, le-ltb, lt-leb}
-use Rattle.volume_model.specs.Common.{IsIn, added, put_at, ◌>>=◌, Members, sat, Redo, of_group, Contents, Lineage, last_epoch, newest, Piece, KeptPiece, Pieces, Copy, brought, contents_in, copied_by, in_pieces, is_bad_piece, is_complete, is_piece, piece_of, pieces_from, pieces_of, with_copy, with_series, first_piece, Plan, IsCertified, epoch_of, has_member, is_named, Place, Message, StepTo, CopyAsk, CopyReport, NodeStep, NodeAnswer, Hydrated, finished, gathered, has_configuration, hydrated, in_group, lineage_epoch, most_copies, most_records, or_not_enough, reaction, restarted, whole_from, whole_node, World, Event, after, after_step, configuration_of, groups_joined, if_there, of_node, Deliver, Hydrate, Restart}
+use Rattle.volume_model.specs.Common.{IsIn, added, put_at, Members, sat, Redo, of_group, Contents, Lineage, last_epoch, newest, Piece, KeptPiece, Pieces, Copy, brought, contents_in, copied_by, in_pieces, is_bad_piece, is_complete, is_piece, piece_of, pieces_from, pieces_of, with_copy, with_series, first_piece, Plan, IsCertified, epoch_of, has_member, is_named, Place, Message, StepTo, CopyAsk, CopyReport, NodeStep, NodeAnswer, gathered, has_configuration, hydrated, in_group, lineage_epoch, most_copies, most_records, reaction, restarted, whole_node, World, Event, after, after_step, configuration_of, groups_joined, if_there, of_node, Deliver, Hydrate, Restart}
 use Rattle.volume_model.specs.Lineage.{found_in}
 use Rattle.volume_model.specs.Node.{Node}
 use Rattle.volume_model.proofs.Above.{ancestor}
@@ -14,12 +14,11 @@ use Rattle.volume_model.proofs.NodeSteps.{all_of, put_at-same}
 use Rattle.volume_model.proofs.Ordered.{found_in-ordered, in_order, of_group-ordered}
 use Rattle.volume_model.proofs.Pieces.{brought-from, brought-has, complete_some, copied_by-has, part_of_piece}
 use Rattle.volume_model.proofs.Records.{found_in-from, newest-of, of_group-from, of_group-has}
-use Rattle.volume_model.specs.declared.fault.Fault.{Fault}
-use Rattle.volume_model.specs.declared.fault.Fault.TheVariants.{NotEnough}
-use Rattle.world.proofs.Readable.{HasPlace, IsIn-kept, IsIn-new, Reaches, delivered, each_has, every_true, has_number, passes, reach_none, reach_then, some_below_true}
+use Rattle.world.proofs.Readable.{HasPlace, IsIn-kept, IsIn-new, Reaches, delivered, each_has, every_true, has_number, reach_none, reach_then, some_below_true}
 use Rattle.world.proofs.Installing.{IsInstalled, IsInstalling, IsReady, IsRecovering, IsUnstarted, KeepsReady, at, epoch_at, is_member, node_on, place_at}
 use Rattle.world.proofs.Asked.{HasWholeRoots}
 use Rattle.world.proofs.Copies.{HasPieces, all_kept, complete_counts, copy_first, copy_from, copy_next, copy_other, first_kept, fits_none, fits_some, included_shorter, next_kept, some_piece, valid_piece}
+use Rattle.std.proofs.lemmas.Grind.{common_steps}
 
 -- the world after a step of one node
 abbrev pub changed : World → ℕ → ℕ → NodeStep → World
@@ -67,9 +66,7 @@ nothing_kept v pieces h e = cc
 -- an event of a named member that isn't refused
 pub answered : (plan : Plan) (u : World) (g x : ℕ) (answer : NodeAnswer) (step : NodeStep) → g < groups_joined u.authority → is_named plan g x ≡ true → answer ≡ Ok step
     → after_step u (of_node u g x (if_there plan (groups_joined u.authority) g x answer)) ≡ changed u g x step
-answered plan u g x answer step joined named is =
-    let there : ◌≡◌ {A = NodeAnswer} (if_there plan (groups_joined u.authority) g x answer) (Ok step) = rw (lt-ltb g (groups_joined u.authority) joined, named) is in
-    ap (λ a. after_step u (of_node u g x a)) there
+answered plan u g x answer step joined named is = grind (arith, common_steps)
 
 -- a node whose copies satisfy the read expression of its place, and whose found records fit, becomes whole
 pub hydrated_is : (plan : Plan) (g x : ℕ) (node : Node) → node.whole ≡ false → has_configuration plan g x node ≡ true
@@ -77,13 +74,7 @@ pub hydrated_is : (plan : Plan) (g x : ℕ) (node : Node) → node.whole ≡ fal
     → length (found_in (newest (brought node.copies)) (brought node.copies)) ≤ most_records
     → ◌≡◌ {A = NodeAnswer} (hydrated plan g x node) (Ok (record { made = []; node = whole_node node (all_of node.copies) }))
 unfolding gathered
-hydrated_is plan g x node un has reads few =
-    let read : ◌≡◌ {A = Option Hydrated} (finished (plan.configuration g node.place.configuration).read node.copies) (Some (all_of node.copies)) = rw reads refl in
-    let all : ◌≡◌ {A = Result Hydrated Fault} (gathered plan g x node) (Ok (all_of node.copies)) =
-    passes (has_configuration plan g x node) NotEnough (or_not_enough (finished (plan.configuration g node.place.configuration).read node.copies)) has ∙ ap or_not_enough read in
-    let fits : ◌≡◌ {A = NodeAnswer} (whole_from node (all_of node.copies)) (Ok (record { made = []; node = whole_node node (all_of node.copies) })) =
-    rw (le-ltb most_records (length (found_in (newest (brought node.copies)) (brought node.copies))) few) refl in
-    rw un (ap (λ (a : Result Hydrated Fault). a >>= whole_from node) all ∙ fits)
+hydrated_is plan g x node un has reads few = grind (arith, common_steps)
 
 module _ (plan : Plan) (certified : IsCertified plan) (v : ℕ) (now : List ℕ) (line : Lineage) (records : List Redo) where
   -- what holds while the recovery installs, what a later world keeps of it, and who is ready or installed

@@ -1,17 +1,14 @@
 -- A plan names no member whose number isn't below 64.
-use Rattle.std.proofs.Common.{◌≡◌, ℕ, zero, suc, ◌≤◌, Bool, true, false, ◌&&◌, ◌||◌, nat_eq, nat_lt, if◌then◌else◌, List, [], ◌∷◌, ◌++◌, refl, ap, ap₂, arith}
-use Rattle.std.specs.FinSet.{contains}
+use Rattle.std.proofs.Common.{◌≡◌, ℕ, zero, suc, ◌≤◌, Bool, true, false, ◌&&◌, ◌||◌, nat_eq, if◌then◌else◌, List, [], ◌∷◌, ◌++◌, refl, ap, ap₂, arith}
 use Rattle.std.proofs.lemmas.Bool.Decides.{nat_tests}
-use Rattle.volume_model.specs.Common.{any, some_below, each_below, is_named, has_member}
-use Rattle.plan.specs.Common.{PlanData, model_of, configuration_at, group_at}
+use Rattle.volume_model.specs.Common.{any, some_below, each_below, is_named}
+use Rattle.plan.specs.Common.{PlanData, model_of}
+use Rattle.std.proofs.lemmas.Grind.{common_steps}
+use Rattle.std.proofs.Common.{rules}
 
 any-append : (test : ℕ → Bool) (xs ys : List ℕ) → any test xs ≡ false → any test ys ≡ false → any test (xs ++ ys) ≡ false
 any-append test [] ys a b = b
-any-append test (x ∷ xs) ys a b = both (test x) (any test xs) (any test (xs ++ ys)) a (λ h. any-append test xs ys h b)
-  where
-    both : (p q r : Bool) → (p || q) ≡ false → (q ≡ false → r ≡ false) → (p || r) ≡ false
-    both true q r h f = absurd cc
-    both false q r h f = f h
+any-append test (x ∷ xs) ys a b = grind (arith, common_steps)
 
 any-one : (test : ℕ → Bool) (b : Bool) (n : ℕ) → test n ≡ false → any test (if b then n ∷ [] else []) ≡ false
 any-one test true n h = ap (λ (t : Bool). t || false) h
@@ -19,9 +16,7 @@ any-one test false n h = refl
 
 none_listed : (n x : ℕ) (among : ℕ → Bool) → n ≤ x → any (λ y. nat_eq y x) (each_below n among (λ y. y)) ≡ false
 none_listed zero x among h = refl
-none_listed (suc n) x among h =
-    let other : nat_eq n x ≡ false = grind (arith, nat_tests) in
-    any-append (λ y. nat_eq y x) (each_below n among (λ y. y)) (if among n then n ∷ [] else []) (none_listed n x among (omega arith)) (any-one (λ y. nat_eq y x) (among n) n other)
+none_listed (suc n) x among h = grind (arith, common_steps, nat_eq, nat_tests, any-append, any-one, (none_listed n x among (omega arith)))
 
 none_below : (n : ℕ) (test : ℕ → Bool) → ((k : ℕ) → test k ≡ false) → some_below n test ≡ false
 none_below zero test h = refl
@@ -32,5 +27,4 @@ never true c h = h
 never false c h = refl
 
 pub is_low : (plan : PlanData) (group member : ℕ) → 64 ≤ member → is_named (model_of plan) group member ≡ false
-is_low plan group member h =
-    never (nat_lt group (model_of plan).groups) _ (none_below ((model_of plan).configurations group) (λ c. has_member ((model_of plan).configuration group c) member) (λ c. none_listed 64 member (contains (configuration_at (group_at plan group) c).members) h))
+is_low plan group member h = search (rules, never, none_below, none_listed)

@@ -8,6 +8,7 @@ use Rattle.volume_model.proofs.ListFacts.{length-added}
 use Rattle.wire.specs.declared.message.Message.{Message}
 use Rattle.wire.specs.Common.{message_of, messages_of}
 use Rattle.volume_model.specs.Common.{added, numbered}
+use Rattle.std.proofs.lemmas.Grind.{common_steps}
 
 -- a message that was kept before is found by its number still
 numbered-kept : {A : Type 0} (xs kept : List A) (n : ℕ) → n ≤ length kept → numbered (added xs kept) n ≡ numbered kept n
@@ -50,20 +51,16 @@ slice_get-map f (x ∷ xs) (suc k) = slice_get-map f xs k
 
 -- the message with a number that isn't 0
 pub numbered-at : (messages : List Message) (number : ℕ) → 0 < number → numbered (added (messages_of messages) []) number ≡ option_map message_of (slice_get messages (number - 1))
-numbered-at messages number h =
-    let e : number ≡ suc (number - 1) = omega arith in
-    ap (numbered (added (messages_of messages) [])) e ∙ numbered-made (messages_of messages) (number - 1) ∙ slice_get-map message_of messages (number - 1)
+numbered-at messages number h = grind (arith, common_steps, (numbered-made (messages_of messages) (number - 1)), (slice_get-map message_of messages (number - 1)))
 
 -- it is there where the number isn't above all
 pub numbered-read : (messages : List Message) (number : ℕ) (m : Message) → 0 < number → number ≤ length messages → m ≡ get_or messages (number - 1) m → Some (message_of m) ≡ numbered (added (messages_of messages) []) number
-numbered-read messages number m low high e =
-    sym (numbered-at messages number low ∙ ap (option_map message_of) (slice_get_read messages (length messages) (number - 1) m refl (omega arith) e))
+numbered-read messages number m low high e = grind (arith, common_steps, numbered-at, option_map, slice_get_read)
 
 -- and else it isn't
 pub numbered-none : (messages : List Message) (number : ℕ) → (number ≡ 0) ⊎ (length messages < number) → None ≡ numbered (added (messages_of messages) []) number
 numbered-none messages number (inl e) = sym (ap (numbered (added (messages_of messages) [])) e ∙ numbered-zero (added (messages_of messages) []))
-numbered-none messages number (inr h) =
-    sym (numbered-past (added (messages_of messages) []) number (omega (arith, length-added (messages_of messages) [], length-map messages message_of)))
+numbered-none messages number (inr h) = grind (arith, common_steps, numbered-past, length-added, length-map)
 
 -- these messages after those
 pub added-messages : (messages more : List Message) → added (messages_of (messages ++ more)) [] ≡ added (messages_of more) (added (messages_of messages) [])

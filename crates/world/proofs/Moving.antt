@@ -1,5 +1,5 @@
 -- Answers of actors, carried along.
-use Rattle.std.proofs.Common.{◌≡◌, ℕ, Bool, false, true≢false, List, [], ◌++◌, length, Result, Ok, Err, refl, sym, ap, subst, ◌∙◌, is_err, OnOk}
+use Rattle.std.proofs.Common.{◌≡◌, ℕ, Bool, false, true≢false, List, [], ◌++◌, length, Result, Ok, Err, refl, sym, ap, ◌∙◌, is_err, OnOk}
 use Rattle.std.proofs.lemmas.List.{length-map}
 use Rattle.volume_model.specs.declared.fault.Fault.{Fault}
 use Rattle.volume_model.specs.declared.fault.Fault.TheVariants.{NoMemory}
@@ -12,6 +12,8 @@ use Rattle.volume_model.specs.Node.{Node}
 use Rattle.recovery.specs.Recoveries.{admitted}
 use Rattle.world.specs.Moves.{result_of_step, ClientMoves, Moves, NodeMoves}
 use Rattle.world.proofs.Messages.{added-messages}
+use Rattle.std.proofs.lemmas.Grind.{common_steps}
+use Rattle.std.proofs.Common.{arith}
 
 -- what is defined, seen otherwise
 abbrev pub map_ok : {A B : Type 0} → (A → B) → Result A Fault → Result B Fault
@@ -65,5 +67,4 @@ refused_moves made actor late step defined old new kept fault h = (ap (result_of
 -- a step that a node was made ready for is the one that is defined
 pub ready_moves : (late : Fault → Bool) (defined : NodeAnswer) (step : Node → NodeStep) (old ready new : Node) (kept now : List model.Message) (result : Result ℕ Fault)
     → defined ≡ Ok (step old) → ready ≡ old → NodeMoves late (Ok (step ready)) ready kept result new now → NodeMoves late defined old kept result new now
-ready_moves late defined step old ready new kept now result is same moves =
-    subst (λ (d : NodeAnswer). NodeMoves late d old kept result new now) (sym is) (subst (λ (n : Node). NodeMoves late (Ok (step n)) n kept result new now) same moves)
+ready_moves late defined step old ready new kept now result is same moves = grind (arith, common_steps)

@@ -1,10 +1,10 @@
 -- The numbers of messages that are named by the events that made them.
-use Rattle.std.proofs.Common.{◌≡◌, ℕ, zero, suc, ◌+◌, ◌<◌, ◌≤◌, ◌&&◌, nat_le, if◌then◌else◌, List, [], ◌∷◌, ◌++◌, Some, Result, Ok, Err, length, get_or, refl, sym, ap, ◌∙◌, arith, Bool, true, false, ◌⊎◌, inl, inr}
-use Rattle.std.proofs.lemmas.Bool.Decides.{nat_tests}
+use Rattle.std.proofs.Common.{◌≡◌, ℕ, zero, suc, ◌+◌, ◌<◌, ◌≤◌, ◌&&◌, nat_le, if◌then◌else◌, List, [], ◌∷◌, ◌++◌, Some, Result, Ok, Err, length, get_or, refl, ap, arith, ◌⊎◌}
 use Rattle.volume_model.specs.declared.fault.Fault.{Fault}
 use Rattle.volume_model.specs.Common.{Plan, Message, makes, World, Event, Step, step, after, after_step, event_result}
 use Rattle.volume_model.proofs.Growing.{Leaves, messages_grow}
 use Rattle.world.specs.Events.{made_by, total_made, firsts_of, number_from}
+use Rattle.std.proofs.lemmas.Grind.{common_steps}
 
 pub number_at : (first : ℕ) (results : List (Result ℕ Fault)) (i place : ℕ) (d : Result ℕ Fault) → i < length results → number_from first results i place ≡ (if nat_le 1 place && nat_le place (made_by (get_or results i d)) then get_or (firsts_of first results) i 0 + place else 0)
 number_at first [] i place d h = absurd (omega arith)
@@ -22,9 +22,7 @@ length-firsts_of first (r ∷ later) = ap suc (length-firsts_of (first + made_by
 
 pub firsts_of-push : (first : ℕ) (results : List (Result ℕ Fault)) (r : Result ℕ Fault) → firsts_of first (results ++ r ∷ []) ≡ firsts_of first results ++ (first + total_made results) ∷ []
 firsts_of-push first [] r = let e : first ≡ first + 0 = omega arith in ap (λ (n : ℕ). n ∷ []) e
-firsts_of-push first (s ∷ later) r =
-    let e : first + made_by s + total_made later ≡ first + (made_by s + total_made later) = omega arith in
-    ap (λ ns. first ∷ ns) (firsts_of-push (first + made_by s) later r ∙ ap (λ (n : ℕ). firsts_of (first + made_by s) later ++ n ∷ []) e)
+firsts_of-push first (s ∷ later) r = grind (arith, common_steps, (firsts_of-push (first + made_by s) later r))
 
 pub total_made-push : (results : List (Result ℕ Fault)) (r : Result ℕ Fault) → total_made (results ++ r ∷ []) ≡ total_made results + made_by r
 total_made-push [] r = omega arith
@@ -40,15 +38,7 @@ grows plan w event = step_grows w (step plan w event) (messages_grow plan w even
 
 -- the number, from what the program read
 pub number_is : (results : List (Result ℕ Fault)) (firsts : List ℕ) (i place made : ℕ) (d : Result ℕ Fault) → firsts ≡ firsts_of 0 results → i < length results → made ≡ made_by (get_or results i d) → (place ≡ 0 → ⊥) → place ≤ made → get_or firsts i 0 + place ≡ number_from 0 results i place
-number_is results firsts i place made d is within reads some most =
-    let high : place ≤ made_by (get_or results i d) = omega arith in
-    let test : (nat_le 1 place && nat_le place (made_by (get_or results i d))) ≡ true = grind (arith, nat_tests) in
-    ap (λ (ns : List ℕ). get_or ns i 0 + place) is ∙ sym (number_at 0 results i place d within ∙ ap (λ (b : Bool). if b then get_or (firsts_of 0 results) i 0 + place else 0) test)
+number_is results firsts i place made d is within reads some most = grind (arith, common_steps, (number_at 0 results i place d within))
 
 pub number_none : (results : List (Result ℕ Fault)) (i place made : ℕ) (d : Result ℕ Fault) → i < length results → made ≡ made_by (get_or results i d) → (place ≡ 0) ⊎ (made < place) → 0 ≡ number_from 0 results i place
-number_none results i place made d within reads why =
-    sym (number_at 0 results i place d within ∙ ap (λ (b : Bool). if b then get_or (firsts_of 0 results) i 0 + place else 0) (test why))
-  where
-    test : (place ≡ 0) ⊎ (made < place) → (nat_le 1 place && nat_le place (made_by (get_or results i d))) ≡ false
-    test (inl e) = grind (arith, nat_tests)
-    test (inr h) = let low : made_by (get_or results i d) < place = omega arith in grind (arith, nat_tests)
+number_none results i place made d within reads why = grind (arith, common_steps, (number_at 0 results i place d within))

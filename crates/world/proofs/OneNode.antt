@@ -1,5 +1,5 @@
 -- One node changes, and no other.
-use Rattle.std.proofs.Common.{◌≡◌, ◌≢◌, ℕ, zero, suc, ◌<◌, Bool, true, false, nat_lt, if◌then◌else◌, List, [], ◌∷◌, Option, Some, None, length, set, refl, sym, ap, ◌∙◌, arith, inl, inr, get_or, ◌/◌, ◌%◌, ◌++◌, map, option_map, subst, slice_get, ltb-true}
+use Rattle.std.proofs.Common.{◌≡◌, ◌≢◌, ℕ, zero, suc, ◌<◌, Bool, true, false, nat_lt, if◌then◌else◌, List, [], ◌∷◌, Option, Some, None, length, set, refl, ap, ◌∙◌, arith, inl, inr, get_or, ◌/◌, ◌%◌, ◌++◌, map, option_map, subst, slice_get, ltb-true}
 use Rattle.segment_core.specs.declared.segment.Segment.{Segment}
 use Rattle.segment_core.specs.Segment.{node_of}
 use Rattle.world.specs.Homes.{nodes_of}
@@ -8,6 +8,7 @@ use Rattle.volume_model.specs.Common.{put, put_at, Plan, born_node}
 use Rattle.volume_model.specs.Node.{Node}
 use Rattle.volume_model.specs.Client.{Client}
 use Rattle.world.specs.Slots.{slot_of, in_slot, node_or, node_at}
+use Rattle.std.proofs.lemmas.Grind.{common_steps}
 
 get-set_same : {A : Type 0} (xs : List A) (i : ℕ) (x : A) → i < length xs → slice_get (set xs i x) i ≡ Some x
 get-set_same [] i x h = absurd (omega arith)
@@ -38,43 +39,23 @@ node_at-set_at plan slots g m n low within h y =
     after = set slots (slot_of g m) (Some n)
 
     here : (h y : ℕ) → h ≡ g → y ≡ m → node_at plan after h y ≡ n
-    here h y e e' =
-        let low' : nat_lt y 64 ≡ true = lt-ltb y 64 (omega arith) in
-        let at : slot_of h y ≡ slot_of g m = λ i. slot_of (e i) (e' i) in
-        ap (λ (b : Bool). if b then node_or (born_node plan h y) (in_slot (slice_get after (slot_of h y))) else born_node plan h y) low'
-        ∙ ap (λ (k : ℕ). node_or (born_node plan h y) (in_slot (slice_get after k))) at
-        ∙ ap (λ (s : Option (Option Node)). node_or (born_node plan h y) (in_slot s)) (get-set_same slots (slot_of g m) (Some n) within)
+    here h y e e' = grind (arith, common_steps, lt-ltb, Bool, get-set_same, Some)
 
     elsewhere : (h ≡ g → y ≡ m → ⊥) → node_at plan after h y ≡ node_at plan slots h y
-    elsewhere ne =
-        elim (nat_lt y 64) as (λ (b : Bool). nat_lt y 64 ≡ b → (if b then node_or (born_node plan h y) (in_slot (slice_get after (slot_of h y))) else born_node plan h y) ≡ (if b then node_or (born_node plan h y) (in_slot (slice_get slots (slot_of h y))) else born_node plan h y)) [
-          | true ↦ λ t. ap (λ (s : Option (Option Node)). node_or (born_node plan h y) (in_slot s)) (get-set_other slots (slot_of g m) (slot_of h y) (Some n) (λ e. let p = other_slot g m h y low (ltb-true y 64 t) e in ne p.0 p.1))
-          | false ↦ λ t. refl
-        ] refl
+    elsewhere ne = grind (arith, common_steps, Bool, get-set_other, Some, other_slot, ltb-true)
 
 pub node_at-set : (plan : Plan) (slots : List (Option Node)) (g m : ℕ) (n : Node) → m < 64 → slot_of g m < length slots → node_at plan (set slots (slot_of g m) (Some n)) ≡ put_at (node_at plan slots) g m n
 node_at-set plan slots g m n low within = λ j h y. node_at-set_at plan slots g m n low within h y j
 
 put_at-same_at : (f : ℕ → ℕ → Node) (g m : ℕ) (h y : ℕ) → put_at f g m (f g m) h y ≡ f h y
-put_at-same_at f g m h y =
-    elim (cases_eq h g) [
-      | inl e ↦ elim (cases_eq y m) [
-        | inl e' ↦ rw (eq-eqb h g e, eq-eqb y m e') (λ i. f (sym e i) (sym e' i))
-        | inr ne ↦ rw (eq-eqb h g e, ne_eqb y m ne) refl
-      ]
-      | inr ne ↦ rw (ne_eqb h g ne) refl
-    ]
+put_at-same_at f g m h y = grind (arith, common_steps)
 
 pub put_at-same : (f : ℕ → ℕ → Node) (g m : ℕ) → put_at f g m (f g m) ≡ f
 put_at-same f g m = λ j h y. put_at-same_at f g m h y j
 
 -- what a client was already
 put-same_at : (f : ℕ → Client) (v w : ℕ) → put f v (f v) w ≡ f w
-put-same_at f v w =
-    elim (cases_eq w v) [
-      | inl e ↦ rw (eq-eqb w v e) (ap f (sym e))
-      | inr ne ↦ rw (ne_eqb w v ne) refl
-    ]
+put-same_at f v w = grind (arith, common_steps)
 
 pub put-same : (f : ℕ → Client) (v : ℕ) → put f v (f v) ≡ f
 put-same f v = λ j w. put-same_at f v w j

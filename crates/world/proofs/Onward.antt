@@ -1,6 +1,6 @@
 -- A volume whose groups can be read goes on.
 use Rattle.std.proofs.Common.{◌≡◌, ℕ, suc, ◌+◌, ◌*◌, ◌<◌, ◌≤◌, ◌^◌, true, false, max, ◌&&◌, ◌==◌, nat_lt, List, Ok, length, refl, sym, ap, ◌∙◌, subst, inl, inr, arith}
-use Rattle.std.proofs.lemmas.Bool.{cases_Bool, and_parts, eqb-false, eqb-true, le-ltb, ltb-true}
+use Rattle.std.proofs.lemmas.Bool.{cases_Bool, and_parts, eqb-true, le-ltb, ltb-true}
 use Rattle.volume_model.specs.Common.{KeepsClaims, Members, sat, Redo, cut_of, last_lsn, of_group, up_to, Contents, Lineage, extended, is_live, last_epoch, last_start, newest, Plan, IsCertified, has_member, IsIn, added, put, Place, Report, From, most_copies, most_records, senders, ClientAnswer, ClientStep, has_cut, place_configuration, place_of, reports_of, Reading, cut_client, cut_step, has_read, live_reported, log_reported, reported, World, after, after_step, configuration_of, groups_joined, of_client, opening, run, Cut, Acknowledges}
 use Rattle.volume_model.specs.Node.{Node}
 use Rattle.volume_model.specs.Client.{Client}
@@ -31,6 +31,8 @@ use Rattle.world.proofs.Installs.{installed_one}
 use Rattle.world.proofs.Members.{HydratesOne, everyone_ready}
 use Rattle.world.proofs.Started.{HasStarted, run_started, starts_known}
 use Rattle.world.proofs.Commits.{ready_commits}
+use Rattle.std.proofs.lemmas.Grind.{common_steps}
+use Rattle.std.proofs.Common.{rules}
 
 -- A member that isn't whole becomes whole, and one copy of each node is used up.
 hydrates_one : (plan : Plan) → IsCertified plan → (v : ℕ) (now : List ℕ) (line : Lineage) (records : List Redo) → last_epoch line ≡ v → HydratesOne plan v now line records
@@ -42,10 +44,7 @@ hydrates_one plan certified v now line records head u i roots g x l own small fr
       keeps,
       (λ h y. elim (cases_Bool (h == g)) [
         | inl same ↦ subst (λ k. (later.nodes k y).copied + n ≤ most_copies) (sym (eqb-true h g same)) (here y)
-        | inr other ↦ (
-            let e : (later.nodes h y).copied ≡ (u.nodes h y).copied = elsewhere h y (eqb-false h g other) in
-            let s : (u.nodes h y).copied + suc n ≤ most_copies = left h y in
-            omega arith)
+        | inr other ↦ grind (arith, common_steps)
       ]),
       is.whole,
     )
@@ -83,18 +82,7 @@ heir_of plan certified u known v stage some first there =
     let (group, own, before) = all_known c j in
     let most : last_epoch c.lineage ≤ p = subst (λ z. last_epoch c.lineage ≤ last_epoch z) is (newest-most reports c j) in
     (facts plan certified u known.kept p copy.cut).stands (last_epoch c.lineage) most own.cut r (own.records r k).0 (subst (λ z. is_live z r.volume r.lsn ≡ true) lineage live)) in
-    record {
-      parent = p;
-      cut = copy.cut;
-      other = λ same. omega (arith, same, older);
-      lineage = lineage;
-      within = within;
-      below = elim (cut_reached log chain (live_reported client) within) [
-        | inl z ↦ omega arith
-        | inr t ↦ (let e : t.0.lsn ≡ cut_of (live_reported client) = t.2 in let l : t.0.lsn ≤ last_lsn log = at_most_last log chain t.0 t.1 in omega arith)
-      ];
-      found = log_found-is log chain (live_reported client) within;
-    }
+    search (rules, cut_reached, at_most_last, log_found-is)
 
 module _ (plan : Plan) (claims : KeepsClaims plan) (certified : IsCertified plan) (writes : HasWriteSets plan) (world : World) (known : IsKeptWorld plan world) (volumes : VolumesKnown world)
     (placed : (g x : ℕ) → HasPlace g x (world.nodes g x)) (steps : (g : ℕ) → HasStep plan world g) (left : world.authority.last_volume < 4294967295) where

@@ -5,19 +5,16 @@ use Rattle.volume_model.specs.Common.{IsIn, Redo, holds_record, record_at, Conte
 use Rattle.volume_model.specs.Node.{Node}
 use Rattle.volume_model.proofs.Basics.{IsIn-append_right, any_passes}
 use Rattle.volume_model.proofs.NodeSteps.{page_answer-ok, refuse_if-ok}
-use Rattle.volume_model.specs.declared.fault.Fault.TheVariants.{AheadMember, AlreadyWhole, BadPiece, Full, NotAddressed, NotInPlan, NotInstalled, NotWhole, SeriesSpent, StaleMember, StaleVolume}
+use Rattle.volume_model.specs.declared.fault.Fault.TheVariants.{AheadMember, AlreadyWhole, BadPiece, Full, NotAddressed, NotInPlan, NotInstalled, NotWhole, SeriesSpent, StaleMember}
+use Rattle.std.proofs.lemmas.Grind.{common_steps}
+use Rattle.std.proofs.Common.{arith}
 
 pub Ok-node : (a b : NodeStep) → ◌≡◌ {A = NodeAnswer} (Ok a) (Ok b) → a ≡ b
 Ok-node a b h = cc
 
 -- a label that passes its tests leaves the rest
 passed : (node : Node) (l : Label) (rest : NodeAnswer) (step : NodeStep) → label_checks node l rest ≡ Ok step → rest ≡ Ok step
-passed node l rest step h =
-    let (a, h1) = refuse_if-ok (nat_lt l.member node.place.epoch) StaleMember _ step h in
-    let (b, h2) = refuse_if-ok (nat_lt node.place.epoch l.member) AheadMember _ step h1 in
-    let (c, h3) = refuse_if-ok (not node.whole) NotWhole _ step h2 in
-    let (d, h4) = refuse_if-ok (nat_lt l.volume node.volume) StaleVolume _ step h3 in
-    h4
+passed node l rest step h = grind (arith, common_steps)
 
 -- a piece is kept
 abbrev pub HasPiece : Pieces → Type 0

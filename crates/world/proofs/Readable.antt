@@ -1,11 +1,11 @@
 -- If each group can be read, a recovery can be led to its cut.
 use Rattle.std.proofs.Common.{◌≡◌, ℕ, zero, suc, ◌<◌, ◌≤◌, Bool, true, false, not, ◌&&◌, ◌||◌, ◌==◌, nat_lt, nat_le, if◌then◌else◌, ◌⊎◌, List, [], ◌∷◌, ◌^◌, ◌++◌, Some, None, Result, Ok, Err, length, map, replicate, refl, sym, ap, ◌∙◌, subst, inl, inr, arith, slice_index_or, slice_set}
 use Rattle.std.proofs.lemmas.Bool.{cases_Bool, cases_lt, and_parts, and_from, both_ways, true≢false, eqb-true, eqb-false, eq-eqb, ltb-true, lt-ltb, le-ltb, le-leb, lt-leb}
-use Rattle.volume_model.specs.Common.{IsIn, added, every, every_below, each_below, some_below, numbered, put, put_at, KeepsClaim, KeepsClaims, Members, sat, Redo, cut_of, log_found, Contents, Lineage, extended, last_epoch, last_start, newest, Plan, IsCertified, epoch_of, has_member, is_configuration, is_named, parent_of, Place, Message, place_in, View, StepTo, Fence, Report, CopyAsk, refuse_if, From, NodeStep, NodeAnswer, born_node, hydrated, in_group, reaction, senders, ClientAnswer, ClientGroup, ClientStep, Stage, group_of, has_cut, if_born, is_born, label_of, newly_at, no_group, place_configuration, place_of, reports_of, stays, Unborn, Reading, Installing, Writing, ◌>>=◌, born_client, cut_client, cut_step, has_read, report_taken, reported, are_places, is_for, taken, AuthorityStep, World, Event, advance_step, advanced, after, after_step, assigned, configuration_of, deliver, groups_joined, grown, if_there, of_authority, of_client, of_node, opening, place_now, places_now, refreshed, run, take, Assign, Advance, Refresh, Grow, Issue, Take, Cut, Open, Resend, Read, Deliver, Hydrate, Restart, Offer}
+use Rattle.volume_model.specs.Common.{IsIn, added, every, every_below, each_below, some_below, numbered, put, put_at, KeepsClaims, Members, sat, Redo, cut_of, log_found, Contents, Lineage, extended, last_epoch, last_start, newest, Plan, IsCertified, epoch_of, has_member, is_configuration, is_named, parent_of, Place, Message, place_in, View, StepTo, Fence, Report, CopyAsk, refuse_if, From, NodeStep, NodeAnswer, born_node, hydrated, in_group, reaction, senders, ClientAnswer, ClientGroup, ClientStep, Stage, group_of, has_cut, if_born, is_born, label_of, newly_at, no_group, place_configuration, place_of, reports_of, stays, Unborn, Reading, Installing, Writing, ◌>>=◌, born_client, cut_client, cut_step, has_read, report_taken, reported, are_places, is_for, taken, AuthorityStep, World, Event, advance_step, advanced, after, after_step, assigned, configuration_of, deliver, groups_joined, grown, if_there, of_authority, of_client, of_node, opening, place_now, places_now, refreshed, run, take, Assign, Advance, Refresh, Grow, Issue, Take, Cut, Open, Resend, Read, Deliver, Hydrate, Restart, Offer}
 use Rattle.volume_model.specs.Lineage.{found_in}
 use Rattle.volume_model.specs.Node.{Node, with_first}
 use Rattle.volume_model.specs.Client.{Client}
-use Rattle.volume_model.proofs.Basics.{IsIn-append_left, IsIn-append_right, any_from, any_passes, put-all, put_at-all}
+use Rattle.volume_model.proofs.Basics.{IsIn-append_left, IsIn-append_right, put-all, put_at-all}
 use Rattle.volume_model.proofs.Groups.{group_of-new, index-zero_more, length-slice_set, set-all}
 use Rattle.volume_model.proofs.Growing.{keeps_after}
 use Rattle.volume_model.proofs.ClientSteps.{put-same}
@@ -23,6 +23,7 @@ use Rattle.world.specs.Waiting.{CanBeRead, whole_in}
 use Rattle.world.specs.Readable.{CanCut, ReadableVolumesRecover}
 use Rattle.world.proofs.Lost.{Ok-is, nodes_on}
 use Rattle.world.proofs.Volumes.{VolumesKnown, volumes_known}
+use Rattle.std.proofs.lemmas.Grind.{common_steps}
 
 -- who satisfies a read expression satisfies it without the members that the configuration doesn't have, and without
 -- numbers that no message may have as its sender
@@ -213,20 +214,10 @@ each_has (suc n) f k l =
     ]
 
 pub senders_first : (new : From) (reports : List From) (y : ℕ) → senders reports y ≡ true → senders (with_first new reports) y ≡ true
-senders_first new reports y h =
-    elim (cases_Bool (senders reports new.sender)) [
-      | inl has ↦ rw has h
-      | inr lacks ↦ rw lacks (
-          let (from, i, test) = any_passes (λ report. report.sender == y) reports h in
-          any_from (λ report. report.sender == y) (reports ++ new ∷ []) from (IsIn-append_left reports (new ∷ []) from i) test)
-    ]
+senders_first new reports y h = grind (arith, common_steps)
 
 pub sender_first : (new : From) (reports : List From) → senders (with_first new reports) new.sender ≡ true
-sender_first new reports =
-    elim (cases_Bool (senders reports new.sender)) [
-      | inl has ↦ rw has has
-      | inr lacks ↦ rw lacks (any_from (λ report. report.sender == new.sender) (reports ++ new ∷ []) new (IsIn-append_right reports (new ∷ []) new (inl refl)) (eq-eqb new.sender new.sender refl))
-    ]
+sender_first new reports = grind (arith, common_steps)
 
 pub unborn_from : (stage : Stage) → (is_born stage ≡ true → ⊥) → stage ≡ Unborn
 unborn_from Unborn h = refl
@@ -603,15 +594,7 @@ module _ (plan : Plan) (certified : IsCertified plan) (world : World) (known : I
 
 -- the claims of a plan say that no other members count
 pub reads_members : (plan : Plan) → KeepsClaims plan → ReadsMembers plan
-reads_members plan claims group c readers there below h =
-    let claim : KeepsClaim (plan.configuration group c) = claims.quorums group c there below in
-    sym (sat-own (plan.configuration group c).read (has_member (plan.configuration group c)) readers
-    (λ x. readers x && (has_member (plan.configuration group c) x && nat_lt x 64)) claim.read_own
-    (λ x own. rw (own, lt-ltb x 64 (claim.members_below x own)) (sym (and-true (readers x))))) ∙ h
-  where
-    and-true : (b : Bool) → (b && true) ≡ b
-    and-true true = refl
-    and-true false = refl
+reads_members plan claims group c readers there below h = grind (arith, common_steps, sat-own, lt-ltb, Bool)
 
 pub readable_volumes_recover : ReadableVolumesRecover
 readable_volumes_recover plan claims events readable left =

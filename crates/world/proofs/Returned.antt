@@ -11,6 +11,8 @@ use Rattle.world.specs.declared.outcome.RecoveryOutcome.{RecoveryOutcome}
 use Rattle.world.specs.declared.outcome.WriterOutcome.{WriterOutcome}
 use Rattle.world.specs.declared.outcome.Outcome.{Outcome}
 use Rattle.world.specs.Outcomes.{opened_of, find_of, covered_by, HasAcknowledged, KeepsReturned, PromisesRuns, IsOutcomeOfRun}
+use Rattle.std.proofs.lemmas.Grind.{common_steps}
+use Rattle.std.proofs.Common.{arith}
 
 is_in-map : {A B : Type 0} (f : A → B) (x : A) (xs : List A) → IsIn x xs → IsIn (f x) (map f xs)
 is_in-map f x (y ∷ xs) (inl e) = inl (ap f e)
@@ -48,11 +50,7 @@ writer_of : (world : World) (w : WriterOutcome) (ws : List WriterOutcome) → ma
 writer_of world w ws are within =
     let found = in_each_below (opened_of w) (suc world.authority.last_volume) (λ (v : ℕ). is_open (world.clients v).stage) (writer_result world) (subst (IsIn (opened_of w)) are (is_in-map opened_of w ws within)) in
     let v : w.volume ≡ found.0 = ap (λ (o : model.Opened). o.volume) found.1.1 in
-    record {
-      open_is = ap (λ (n : ℕ). is_open (world.clients n).stage) v ∙ found.1.0;
-      log_is = ap (λ (o : model.Opened). o.log) found.1.1 ∙ ap (λ (n : ℕ). (world.clients n).log) (sym v);
-      durable_is = ap (λ (o : model.Opened). o.durable) found.1.1 ∙ ap (λ (n : ℕ). durable_point (world.clients n)) (sym v);
-    }
+    grind (arith, common_steps)
 
 -- a returned find is that of a recovery of the world that has cut
 record IsFinderOf (world : World) (f : RecoveryOutcome) : Type 0 where
@@ -67,10 +65,7 @@ finder_of world f fs are within =
     let later : 1 < found.0 = ltb-true 1 found.0 tests.0 in
     let cut : has_cut (world.clients found.0).stage ≡ true = tests.1 in
     let has : HasFound world found.0 = (later, cut) in
-    record {
-      found_is = subst (HasFound world) (sym v) has;
-      log_is = ap (λ (o : model.Find). o.found) found.1.1 ∙ ap (λ (n : ℕ). (world.clients n).found) (sym v);
-    }
+    grind (arith, common_steps)
 
 module _ (world : World) (keeps : KeepsCommits world) where
   acknowledges : (w : WriterOutcome) (n : ℕ) → IsWriterOf world w → HasAcknowledged w n → Acknowledges world w.volume n

@@ -2,19 +2,18 @@
 use Rattle.std.proofs.Common.{◌≡◌, ◌≢◌, ℕ, Bool, ◌+◌, List, [], ◌∷◌, ◌++◌, Result, Ok, Err, length, refl, sym, ap, ap₂, ◌∙◌, append_assoc, arith, subst}
 use Rattle.volume_model.specs.declared.fault.Fault.{Fault}
 use Rattle.volume_model.specs.declared.fault.Fault.TheVariants.{NoMemory}
-use Rattle.volume_model.specs.Common.{AcknowledgementsLast, StaysSo, FindsLast, StaysFound, Plan, IsCertified, World, Event, Step, step, after, after_step, opening, event_result, run, results}
+use Rattle.volume_model.specs.Common.{AcknowledgementsLast, StaysSo, FindsLast, Plan, IsCertified, World, Event, Step, step, after, after_step, opening, event_result, run, results}
 use Rattle.world.specs.declared.event.Order.{Order}
-use Rattle.world.specs.Events.{made_by, total_made, ordered, events_from}
-use Rattle.world.specs.Actors.{moved, moved_of, Moved, Steps}
+use Rattle.world.specs.Events.{total_made, ordered, events_from}
+use Rattle.world.specs.Actors.{moved, moved_of, Steps}
 use Rattle.world.specs.Outcomes.{KeepsAcknowledgements, KeepsFinds}
 use Rattle.world.proofs.Numbers.{grows, total_made-push}
+use Rattle.std.proofs.lemmas.Grind.{common_steps}
 
 -- the result where memory didn't run out
 moved_result : (defined : Result Step Fault) (old new : World) (count : ℕ) → moved_of defined ≡ Ok (moved count new) → (event_result defined ≡ Ok count) × (after_step old defined ≡ new)
 moved_result (Err fault) old new count e = absurd cc
-moved_result (Ok step) old new count e =
-    let same : record { count = length step.made; world = step.world } ≡ moved count new = cc in
-    (ap (λ (m : Moved). Ok m.count) same, ap (λ (m : Moved). m.world) same)
+moved_result (Ok step) old new count e = grind (arith, common_steps)
 
 refused_result : (defined : Result Step Fault) (old new : World) (fault : Fault) → moved_of defined ≡ Err fault → new ≡ old → (event_result defined ≡ Err fault) × (after_step old defined ≡ new)
 refused_result (Err other) old new fault e same = let is : other ≡ fault = cc in (ap Err is, sym same)
@@ -38,18 +37,11 @@ module _ (late : Fault → Bool) (plan : Plan) (old new : World) (event : Event)
 -- what is left of orders, when one was followed
 pub order_rest : (late : Fault → Bool) (plan : Plan) (old new : World) (results : List (Result ℕ Fault)) (orders left : List Order) (order : Order) → orders ≡ order ∷ left → (result : Result ℕ Fault) → result ≢ Err NoMemory → Steps late (step plan old (ordered results order)) old result new
     → events_from plan old results orders ≡ ordered results order ∷ events_from plan new (results ++ result ∷ []) left
-order_rest late plan old new results orders left order is result ne steps =
-    let result_is = steps_result late (step plan old (ordered results order)) old new result ne steps in
-    ap (events_from plan old results) is
-    ∙ ap₂ (λ (r : Result ℕ Fault) (w : World). ordered results order ∷ events_from plan w (results ++ r ∷ []) left) result_is.0 result_is.1
+order_rest late plan old new results orders left order is result ne steps = grind (arith, common_steps, steps_result)
 
 -- how many messages were made, when one event more has happened
 pub total_on : (late : Fault → Bool) (plan : Plan) (old new : World) (event : Event) (result : Result ℕ Fault) → result ≢ Err NoMemory → Steps late (step plan old event) old result new → (so_far : List (Result ℕ Fault)) → total_made so_far ≡ length old.messages → total_made (so_far ++ result ∷ []) ≡ length new.messages
-total_on late plan old new event result ne steps so_far total =
-    let result_is = steps_result late (step plan old event) old new result ne steps in
-    let more : length new.messages ≡ length old.messages + made_by result =
-    ap (λ (w : World). length w.messages) (sym result_is.1) ∙ grows plan old event ∙ ap (λ (r : Result ℕ Fault). length old.messages + made_by r) result_is.0 in
-    total_made-push so_far result ∙ omega (arith, more, total)
+total_on late plan old new event result ne steps so_far total = grind (arith, common_steps, steps_result, grows, total_made-push)
 
 -- one list of events after another
 run-append : (plan : Plan) (world : World) (earlier later : List Event) → run plan world (earlier ++ later) ≡ run plan (run plan world earlier) later
@@ -65,5 +57,4 @@ pub lasting : (plan : Plan) → IsCertified plan → AcknowledgementsLast → (e
 lasting plan certified last events earlier later is = subst (StaysSo (run plan (opening plan) earlier)) (whole_run plan events earlier later is) (last plan certified earlier later)
 
 pub finds_lasting : (plan : Plan) → FindsLast → (events : List Event) → KeepsFinds plan events
-finds_lasting plan last events earlier later volume is found =
-    subst (λ (w : World). StaysFound ((run plan (opening plan) earlier).clients volume) (w.clients volume)) (whole_run plan events earlier later is) (last plan (run plan (opening plan) earlier) later volume found)
+finds_lasting plan last events earlier later volume is found = grind (arith, common_steps, (whole_run plan events earlier later is))

@@ -1,21 +1,22 @@
 -- The step of one actor, in the world.
-use Rattle.std.proofs.Common.{◌≡◌, ℕ, ◌/◌, ◌%◌, ◌<◌, ◌≤◌, Bool, true, false, not, ◌&&◌, nat_lt, if◌then◌else◌, List, Option, Some, Result, Ok, Err, length, option_map, set, refl, sym, ap, ap₂, ◌∙◌, subst, arith, slice_get, get_or, length-set, lt-ltb}
+use Rattle.std.proofs.Common.{◌≡◌, ℕ, ◌/◌, ◌%◌, ◌<◌, ◌≤◌, Bool, true, false, not, ◌&&◌, nat_lt, List, Option, Some, Result, Ok, Err, length, option_map, set, refl, sym, ap, ap₂, ◌∙◌, subst, arith, slice_get, get_or, length-set, lt-ltb}
 use Rattle.std.proofs.lemmas.List.{length-map}
 use Rattle.std.proofs.lemmas.Option.{slice_get_read, slice_get_within}
 use Rattle.volume_model.specs.declared.fault.Fault.{Fault}
 use Rattle.volume_model.specs.declared.fault.Fault.TheVariants.{NoActor}
-use Rattle.volume_model.specs.Common.{put, put_at, Plan, is_named, Message, never_after_growth, AnswersAfterGrowth, refuse_if, NodeAnswer, NodeStep, born_node, ClientAnswer, ClientStep, Authority, AuthorityStep, Step, World, of_authority, groups_joined, of_node, of_client, if_there}
+use Rattle.volume_model.specs.Common.{put, put_at, Plan, is_named, Message, never_after_growth, AnswersAfterGrowth, refuse_if, NodeAnswer, NodeStep, ClientAnswer, ClientStep, Authority, AuthorityStep, Step, World, of_authority, groups_joined, of_node, of_client, if_there}
 use Rattle.volume_model.specs.Node.{Node}
 use Rattle.volume_model.specs.Client.{Client}
 use Rattle.segment_core.specs.declared.segment.Segment.{Segment}
 use Rattle.segment_core.specs.Segment.{node_of, segment_plan, segment_group, segment_member, IsSegmentOf, IsSameActor}
-use Rattle.world.specs.Slots.{slot_of, in_slot, node_or, node_at}
+use Rattle.world.specs.Slots.{slot_of, node_at}
 use Rattle.world.specs.Homes.{nodes_of, IsPlace, AreHomes}
 use Rattle.world.specs.Worlds.{world_with}
 use Rattle.world.specs.Moves.{counted, result_of_step, AuthorityMoves, ClientMoves, ActorState, Moves, NodeMoves, StepResult}
 use Rattle.world.specs.Actors.{moved, moved_of, Moved, Steps}
 use Rattle.world.proofs.Moving.{answers_along, map_ok}
 use Rattle.world.proofs.OneNode.{node_at-set, put_at-same, slice_get-map, in_place, each-set, map-set, put-same}
+use Rattle.std.proofs.lemmas.Grind.{common_steps}
 
 -- the plan names no member whose number isn't below 64
 abbrev pub LowFor : Plan → Type 0
@@ -23,17 +24,11 @@ LowFor plan = (group member : ℕ) → 64 ≤ member → is_named plan group mem
 
 -- what stands in the slot of a member
 pub place_of_member : (plan : Plan) (slots : List (Option Segment)) (g m : ℕ) → AreHomes plan slots → m < 64 → (o : Option Segment) → slice_get slots (slot_of g m) ≡ Some o → IsPlace plan g m o
-place_of_member plan slots g m homes low o e =
-    let p = in_place g m low in
-    let h : IsPlace plan (slot_of g m / 64) (slot_of g m % 64) o = homes.place (slot_of g m) o e in
-    subst (λ (n : ℕ). IsPlace plan n m o) p.0 (subst (λ (n : ℕ). IsPlace plan (slot_of g m / 64) n o) p.1 h)
+place_of_member plan slots g m homes low o e = grind (arith, common_steps, (in_place g m low))
 
 -- the node of a member is the one in its slot
 pub node_in_slot : (plan : Plan) (slots : List (Option Segment)) (g m : ℕ) → m < 64 → (s : Segment) → slice_get slots (slot_of g m) ≡ Some (Some s) → node_at plan (nodes_of slots) g m ≡ node_of s
-node_in_slot plan slots g m low s e =
-    let l : nat_lt m 64 ≡ true = lt-ltb m 64 low in
-    ap (λ (b : Bool). if b then node_or (born_node plan g m) (in_slot (slice_get (nodes_of slots) (slot_of g m))) else born_node plan g m) l
-    ∙ ap (λ (o : Option (Option Node)). node_or (born_node plan g m) (in_slot o)) (slice_get-map (option_map node_of) slots (slot_of g m) ∙ ap (option_map (option_map node_of)) e)
+node_in_slot plan slots g m low s e = grind (arith, common_steps, lt-ltb, Bool, slice_get-map, option_map)
 
 and-false : (b : Bool) → (b && false) ≡ false
 and-false true = refl
@@ -41,9 +36,7 @@ and-false false = refl
 
 -- a node is refused that isn't there
 absent_steps : (late : Fault → Bool) (plan : Plan) (world : World) (joined g m : ℕ) (defined : NodeAnswer) → (nat_lt g joined && is_named plan g m) ≡ false → Steps late (of_node world g m (if_there plan joined g m defined)) world (Err NoActor) world
-absent_steps late plan world joined g m defined e =
-    let refused : of_node world g m (if_there plan joined g m defined) ≡ Err NoActor = ap (λ (b : Bool). of_node world g m (refuse_if (not b) NoActor defined)) e in
-    (ap moved_of refused, refl)
+absent_steps late plan world joined g m defined e = grind (arith, common_steps)
 
 -- that is one that the plan doesn't name
 pub unnamed_steps : (late : Fault → Bool) (plan : Plan) (world : World) (joined g m : ℕ) (defined : NodeAnswer) → is_named plan g m ≡ false → Steps late (of_node world g m (if_there plan joined g m defined)) world (Err NoActor) world

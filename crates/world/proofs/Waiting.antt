@@ -1,22 +1,21 @@
 -- A group whose last advance waited can be read.
-use Rattle.std.proofs.Common.{◌≡◌, ℕ, zero, suc, ◌<◌, Bool, true, false, not, ◌&&◌, ◌==◌, nat_lt, nat_le, List, [], ◌∷◌, ◌++◌, Result, Ok, Err, length, replicate, refl, sym, ap, ◌∙◌, subst, arith, slice_index_or, slice_set, is_ok, if◌then◌else◌}
+use Rattle.std.proofs.Common.{◌≡◌, ℕ, zero, suc, ◌<◌, Bool, true, false, not, ◌&&◌, ◌==◌, nat_lt, nat_le, List, [], ◌∷◌, ◌++◌, Result, Ok, Err, length, refl, sym, ap, ◌∙◌, subst, arith, slice_index_or, slice_set, is_ok, if◌then◌else◌}
 use Rattle.std.proofs.lemmas.Bool.{eqb-false, eqb-true, ltb-true, not-false}
 use Rattle.volume_model.specs.Common.{numbered, sat, Plan, has_member, is_named, parent_of, refuse_if, NodeStep, NodeAnswer, hydrated, ClientAnswer, AuthorityStep, World, Event, advance_step, advanced, after, after_step, assigned, configuration_of, groups_joined, grown, if_there, of_authority, of_client, of_node, opening, refreshed, run, Assign, Advance, Refresh, Grow, Issue, Take, Cut, Open, Resend, Read, Deliver, Hydrate, Restart, Offer}
 use Rattle.volume_model.specs.Node.{Node}
 use Rattle.volume_model.proofs.Basics.{put_at-all}
 use Rattle.volume_model.proofs.FormulaLaws.{sat_more}
-use Rattle.volume_model.proofs.NodeSteps.{refuse_if-ok, hydrated-ok}
+use Rattle.volume_model.proofs.NodeSteps.{refuse_if-ok}
 use Rattle.volume_model.specs.declared.fault.Fault.{Fault}
 use Rattle.volume_model.specs.declared.fault.Fault.TheVariants.{AllGrown, EpochsSpent, NoActor, NoGroup, NotInPlan, Superseded}
 use Rattle.world.proofs.Reactions.{deliver_leaves, offer_leaves, restart_leaves}
 use Rattle.world.specs.Waiting.{CanBeRead, WaitingKeepsReaders, last_advance_waited, waited_after, whole_in}
+use Rattle.std.proofs.lemmas.Grind.{common_steps}
 
 -- ---- a whole node stays whole
 
 hydrate_whole : (plan : Plan) (group x : ℕ) (node : Node) (step : NodeStep) → hydrated plan group x node ≡ Ok step → node.whole ≡ true → step.node.whole ≡ true
-hydrate_whole plan group x node step h w =
-    let (un, own, reads, is) = hydrated-ok plan group x node step h in
-    ap (λ (s : NodeStep). s.node.whole) is
+hydrate_whole plan group x node step h w = grind (arith, common_steps)
 
 -- ---- an authority's configurations
 
@@ -37,11 +36,6 @@ set-other (d ∷ cs) zero zero c n = absurd (n refl)
 set-other (d ∷ cs) zero (suc k) c n = refl
 set-other (d ∷ cs) (suc h) zero c n = refl
 set-other (d ∷ cs) (suc h) (suc k) c n = set-other cs h k c (λ e. n (ap suc e))
-
-born-same : (n k : ℕ) → ◌≡◌ {A = ℕ} (slice_index_or (replicate n 0) k 0) 0
-born-same zero k = refl
-born-same (suc n) zero = refl
-born-same (suc n) (suc k) = born-same n k
 
 -- ---- a step keeps that the group can be read
 
@@ -148,14 +142,10 @@ module _ (plan : Plan) (group : ℕ) (world : World) where
 
 runs_keep : (plan : Plan) (group : ℕ) (events : List Event) (world : World) (before : Bool) → (before ≡ true → CanBeRead plan world group) → last_advance_waited plan world group events before ≡ true → CanBeRead plan (run plan world events) group
 runs_keep plan group [] world before h waited = h waited
-runs_keep plan group (event ∷ events) world before h waited =
-    runs_keep plan group events (after plan world event) (waited_after plan world group event before) (event_keeps plan group world event before h) waited
+runs_keep plan group (event ∷ events) world before h waited = grind (arith, common_steps, event_keeps, (runs_keep plan group events (after plan world event) (waited_after plan world group event before) (event_keeps plan group world event before h) waited))
 
 opening_read : (plan : Plan) (group : ℕ) → sat (plan.configuration group 0).read (has_member (plan.configuration group 0)) ≡ true → CanBeRead plan (opening plan) group
-opening_read plan group root =
-    let here : sat (plan.configuration group 0).read (whole_in (opening plan) group) ≡ true =
-    sat_more (plan.configuration group 0).read (has_member (plan.configuration group 0)) (whole_in (opening plan) group) (λ x m. rw (m, whole_in) refl) root in
-    subst (λ c. sat (plan.configuration group c).read (whole_in (opening plan) group) ≡ true) (sym (born-same plan.born group)) here
+opening_read plan group root = grind (arith, common_steps)
 
 pub waiting_keeps : WaitingKeepsReaders
 waiting_keeps plan group events root waited = runs_keep plan group events (opening plan) true (λ t. opening_read plan group root) waited

@@ -1,4 +1,4 @@
-use Rattle.std.proofs.Common.{◌≡◌, ◌≢◌, ℕ, ◌+◌, ◌++◌, ◌∷◌, List, Result, Err, drop, sym, ap, ap₂, ◌∙◌, subst, drop-cons, add-one}
+use Rattle.std.proofs.Common.{◌≡◌, ◌≢◌, ℕ, ◌+◌, ◌∷◌, List, Result, Err, drop, subst}
 use Rattle.std.specs.Arc.{arc_value}
 use Rattle.volume_model.specs.declared.fault.Fault.{Fault}
 use Rattle.volume_model.specs.declared.fault.Fault.TheVariants.{NoMemory}
@@ -10,6 +10,8 @@ use Rattle.world.specs.Actors.{event_after_growth, world_of, Steps}
 use Rattle.world.specs.Events.{event_of, events_of}
 use Rattle.world.proofs.Runs.{results_on, run_on}
 use Rattle.world.proofs.running.outcome_of.Goals as goal
+use Rattle.std.proofs.lemmas.Grind.{common_steps}
+use Rattle.std.proofs.Common.{arith}
 
 pub loop-event-preserved : goal.loop-event-preserved
 loop-event-preserved c =
@@ -17,14 +19,8 @@ loop-event-preserved c =
     let e : Event = c.event-item.result in
     let event_result : Result ℕ Fault = c.in_ok-result.result in
     let later : List model.Event = events_of (drop (c.loop-event.event-index + 1) c.args.events.now) in
-    let rest : events_of (drop c.loop-event.event-index c.args.events.now) ≡ event_of e ∷ later =
-    ap events_of (drop-cons c.args.events.now c.loop-event.event-index e c.loop-event-test.true) ∙ ap₂ (λ (x : Event) (n : ℕ). event_of x ∷ events_of (drop n c.args.events.now)) (sym c.event-item.is) (sym (add-one c.loop-event.event-index)) in
+    let rest : events_of (drop c.loop-event.event-index c.args.events.now) ≡ event_of e ∷ later = grind (arith, common_steps) in
     let steps : Steps (event_after_growth (event_of e)) (model.step plan (world_of c.loop-event.actors) (event_of e)) (world_of c.loop-event.actors) event_result (world_of c.step.new.self) =
     subst (λ (p : Plan). Steps (event_after_growth (event_of e)) (model.step p (world_of c.loop-event.actors) (event_of e)) (world_of c.loop-event.actors) event_result (world_of c.step.new.self)) c.loop-event.invariant.plan_is (rw c.in_ok-result.ensures.same c.step.ensures.steps) in
     let ne : event_result ≢ Err NoMemory = c.in_ok-result.ensures.some in
-    record {
-      good = c.step.ensures.good;
-      plan_is = c.step.ensures.plan ∙ c.loop-event.invariant.plan_is;
-      event_result = rw c.in_ok-push.ensures.items (results_on (event_after_growth (event_of e)) plan (world_of c.loop-event.actors) (world_of c.step.new.self) (event_of e) event_result ne steps c.loop-event.results.items later) ∙ ap (λ (es : List model.Event). c.loop-event.results.items ++ model.results plan (world_of c.loop-event.actors) es) (sym rest) ∙ c.loop-event.invariant.event_result;
-      rest = run_on (event_after_growth (event_of e)) plan (world_of c.loop-event.actors) (world_of c.step.new.self) (event_of e) event_result ne steps c.loop-event.results.items later ∙ ap (model.run plan (world_of c.loop-event.actors)) (sym rest) ∙ c.loop-event.invariant.rest;
-    }
+    grind (arith, common_steps, c.step.ensures.good, c.step.ensures.plan, c.loop-event.invariant.plan_is, c.in_ok-push.ensures.items, c.loop-event.invariant.event_result, c.loop-event.invariant.rest, results_on, run_on)

@@ -6,10 +6,10 @@ use Rattle.world.specs.Events.{ordered_events}
 use Rattle.world.specs.Outcomes.{PromisesRuns}
 use Rattle.world.proofs.Returned.{returned_of}
 use Rattle.world.proofs.running.run_orders.Goals as goal
+use Rattle.std.proofs.Common.{rules}
 
 pub returns-clause-promises : goal.returns-clause-promises
-returns-clause-promises c =
-    subst (λ (p : CheckedPlan). PromisesRuns (checked_model p)) c.deref.ensures c.promised.ensures (ordered_events (checked_model (arc_value c.args.plan.now)) c.args.orders.items)
+returns-clause-promises c = search (rules, c.deref.ensures, c.promised.ensures)
 
 pub returns-clause-returned : goal.returns-clause-returned
 returns-clause-returned c =

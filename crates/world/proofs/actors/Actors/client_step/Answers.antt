@@ -18,6 +18,8 @@ use Rattle.world.proofs.ClientTable.{client_put, clients_on, found_in, same_clie
 use Rattle.world.proofs.OneNode.{set-read}
 use Rattle.world.proofs.Steps.{client_steps}
 use Rattle.world.proofs.actors.Actors.client_step.Goals as goal
+use Rattle.std.proofs.lemmas.Grind.{common_steps}
+use Rattle.std.proofs.Common.{arith}
 
 pub returns-in-Some : goal.returns-in-Some
 returns-in-Some c =
@@ -31,8 +33,7 @@ returns-in-Some c =
     let there : client_in kept c.args.volume ≡ Some home = found_in kept c.args.volume c.index_mut.result.now (Some home) within c.index_mut.ensures.value c.in-Some.is in
     let own : IsClientOf (plan_of self) c.args.volume old = subst (IsClientOf (plan_of self) c.args.volume) (sym c.deref_mut.ensures.value) (c.requires.clients c.args.volume home there) in
     let at : clients_of kept c.args.volume ≡ seen_client old = ap client_or_unborn there ∙ ap seen_client (sym c.deref_mut.ensures.value) in
-    let asked : client_does (messages_in self) c.args.action (client_plan old) (client_volume old) (seen_client old) ≡ client_does (messages_in self) c.args.action (plan_of self) c.args.volume (clients_of kept c.args.volume) =
-    λ i. client_does (messages_in self) c.args.action (own.plan_is i) (own.volume_is i) (sym at i) in
+    let asked : client_does (messages_in self) c.args.action (client_plan old) (client_volume old) (seen_client old) ≡ client_does (messages_in self) c.args.action (plan_of self) c.args.volume (clients_of kept c.args.volume) = grind (arith, common_steps) in
     record {
       good = record {
         plan = c.requires.plan;

@@ -12,12 +12,7 @@ returns-in-Some-index_mut c =
     let within : c.in-Some.slot < length self.nodes.items = search rules in
     let joined = lt-ltb c.args.group (groups_joined (authority_of self.authority)) (omega (arith, c.if-group-joined.false, c.joined.ensures)) in
     record {
-      good = record {
-        plan = c.requires.plan;
-        homes = homes_after self c.requires c.args.group c.args.member c.in-Some.slot found.0 within found.2 c.index_mut.result.now c.index_mut.ensures.value c.in-Some-index_mut.segment c.act.new.segment c.in-Some-index_mut.is c.act.ensures.actor joined;
-        low = c.requires.low;
-        clients = c.requires.clients;
-      };
+      good = search (rules, c.requires.plan, c.requires, c.index_mut.ensures.value, c.in-Some-index_mut.is, c.act.ensures.actor, c.requires.low, c.requires.clients, homes_after);
       steps = steps_after self c.requires c.args.group c.args.member c.in-Some.slot found.0 within found.2 c.index_mut.result.now c.index_mut.ensures.value c.in-Some-index_mut.segment c.act.new.segment c.in-Some-index_mut.is c.act.ensures.actor joined (action_after_growth c.args.action) (acted c.args.action) c.act.result _ c.act.ensures.moves;
       plan = search rules;
     }

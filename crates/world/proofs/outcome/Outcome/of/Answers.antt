@@ -5,6 +5,8 @@ use Rattle.world.specs.Clients.{client_or_unborn, clients_of}
 use Rattle.world.specs.Outcomes.{opened_of, find_of, is_reading, opened_by, found_by, read_by}
 use Rattle.world.proofs.EachBelow.{each-next, each-last}
 use Rattle.world.proofs.outcome.Outcome.of.Goals as goal
+use Rattle.std.proofs.lemmas.Grind.{common_steps}
+use Rattle.std.proofs.Common.{rules}
 
 pub loop-volume-preserved : goal.loop-volume-preserved
 loop-volume-preserved c =
@@ -26,9 +28,7 @@ loop-volume-preserved c =
 
 -- the client of the last volume epoch
 last_client : (c : goal.After-drop-clients-2) → client_or_unborn c.take-2.result ≡ clients_of c.args.actors.clients.items c.args.actors.authority.last_volume
-last_client c =
-    ap client_or_unborn (c.take-2.ensures.client ∙ c.loop-volume.invariant.left c.last_volume-last.result (omega (arith, c.loop-volume-test.false)))
-    ∙ ap (clients_of c.args.actors.clients.items) c.last_volume-last.ensures
+last_client c = grind (arith, common_steps)
 
 -- the loop ends at the last volume epoch
 ends : (c : goal.After-drop-clients-2) → c.loop-volume.volume ≡ c.args.actors.authority.last_volume
@@ -41,13 +41,7 @@ returns-clause-writers c =
     (ends c) c.loop-volume.invariant.writers c.in_ok-add-2.ensures.writers (ap₂ opened_by c.last_volume-last.ensures (last_client c))
 
 pub returns-clause-finds : goal.returns-clause-finds
-returns-clause-finds c =
-    let clients = clients_of c.args.actors.clients.items in
-    each-last (λ n. nat_lt 1 n && has_cut (clients n).stage) (λ n. found_client n (clients n)) c.loop-volume.volume c.args.actors.authority.last_volume (map find_of c.loop-volume.outcome.finds.items) _ _
-    (ends c) c.loop-volume.invariant.finds c.in_ok-add-2.ensures.finds (ap₂ found_by c.last_volume-last.ensures (last_client c))
+returns-clause-finds c = search (rules, c.loop-volume.invariant.finds, c.in_ok-add-2.ensures.finds, c.last_volume-last.ensures, each-last)
 
 pub returns-clause-readers : goal.returns-clause-readers
-returns-clause-readers c =
-    let clients = clients_of c.args.actors.clients.items in
-    each-last (λ n. is_reading (clients n).stage) (λ n. n) c.loop-volume.volume c.args.actors.authority.last_volume c.loop-volume.outcome.readers.items _ _
-    (ends c) c.loop-volume.invariant.readers c.in_ok-add-2.ensures.readers (ap₂ read_by c.last_volume-last.ensures (last_client c))
+returns-clause-readers c = search (rules, c.loop-volume.invariant.readers, c.in_ok-add-2.ensures.readers, c.last_volume-last.ensures, each-last)
